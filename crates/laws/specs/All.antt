@@ -1,0 +1,34 @@
+-- A test of each of the n indexes from at on.
+use Prim.Native.Nat.{ℕ, zero, suc, _+_, _-_, _<_, _≤_}
+use mathlib.Core.Path.{_≡_, refl, sym, ap, _∙_}
+use mathlib.Core.Bool.{Bool, true, false, not}
+use native.Mathlib.Omega.{arith}
+use borrow.Author.Tests.{not-false}
+use Rattle.laws.specs.Loop.{scan, turns, scan-miss, scan-here, scan-next, scan-end, cases}
+
+unfoldable pub all : (ℕ → Bool) → ℕ → ℕ → Bool
+all p n at = scan (λ k. not (p k)) (λ k. false) true n at
+
+module _ (p : ℕ → Bool) where
+  pub all-at : (n at : ℕ) → all p n at ≡ true → (k : ℕ) → at ≤ k → k < at + n → p k ≡ true
+  unfolding all
+  all-at n at e k l h =
+      not-false (p k) (scan-miss (λ k. not (p k)) (λ k. false) true (λ k q. (let z : _≡_ {A = ℕ} 0 1 = cc in omega arith)) n at e k l h)
+
+  -- the loop: a failure, one more, the end
+  pub all-fails : (n i : ℕ) → i < n → p i ≡ false → all p (n - i) i ≡ false
+  unfolding all
+  all-fails n i h e = scan-here _ _ _ n i h (rw e)
+
+  pub all-next : (n i : ℕ) → i < n → p i ≡ true → all p (n - i) i ≡ all p (n - (i + 1)) (i + 1)
+  unfolding all
+  all-next n i h e = scan-next _ _ _ n i h (rw e)
+
+  pub all-end : (n i : ℕ) → n ≤ i → all p (n - i) i ≡ true
+  unfolding all
+  all-end n i h = scan-end _ _ _ n i h
+
+  pub all-true : (n at : ℕ) → ((k : ℕ) → at ≤ k → k < at + n → p k ≡ true) → all p n at ≡ true
+  unfolding all scan turns
+  all-true zero at h = refl
+  all-true (suc n) at h = rw (h at (omega arith) (omega arith)) (all-true n (suc at) (λ k l g. h k (omega arith) (omega arith)))

@@ -1,0 +1,13 @@
+pub mod Loop
+pub mod All
+pub mod Says
+pub mod Update
+pub mod Sum
+pub mod Lists
+pub mod Find
+pub mod Count
+pub mod Tab
+pub mod Fold
+pub mod Run
+pub mod Put
+pub mod Own

@@ -1,0 +1,69 @@
+-- Sums f 1 + .. + f n, and how many of 1 .. n pass a test.
+use Prim.Native.Nat.{ℕ, zero, suc, _+_, _-_, _<_, _≤_}
+use mathlib.Core.Path.{_≡_, refl, sym, ap, _∙_}
+use mathlib.Core.Bool.{Bool, true, false}
+use native.Mathlib.Omega.{arith}
+use Rattle.laws.specs.Loop.{cases}
+use Rattle.laws.specs.Update.{same-or}
+
+unfoldable pub sum : ℕ → (ℕ → ℕ) → ℕ
+sum zero f = 0
+sum (suc n) f = f (suc n) + sum n f
+
+abbrev pub one : Bool → ℕ
+one true = 1
+one false = 0
+
+-- how many of 1 .. n pass
+abbrev pub tally : ℕ → (ℕ → Bool) → ℕ
+tally n p = sum n (λ k. one (p k))
+
+pub sum-le : (n : ℕ) (f g : ℕ → ℕ) → ((j : ℕ) → 1 ≤ j → j ≤ n → f j ≤ g j) → sum n f ≤ sum n g
+unfolding sum
+sum-le zero f g h = omega arith
+sum-le (suc n) f g h = omega (arith, h (suc n) (omega arith) (omega arith), sum-le n f g (λ j a b. h j a (omega arith)))
+
+pub sum-same : (n : ℕ) (f g : ℕ → ℕ) → ((j : ℕ) → 1 ≤ j → j ≤ n → g j ≡ f j) → sum n g ≡ sum n f
+unfolding sum
+sum-same zero f g h = refl
+sum-same (suc n) f g h = rw (h (suc n) (omega arith) (omega arith), sum-same n f g (λ j a b. h j a (omega arith)))
+
+pub sum-zero : (n : ℕ) → sum n (λ j. 0) ≡ 0
+unfolding sum
+sum-zero zero = refl
+sum-zero (suc n) = omega (arith, sum-zero n)
+
+-- one term is within the sum
+pub sum-at : (n : ℕ) (f : ℕ → ℕ) (u : ℕ) → 1 ≤ u → u ≤ n → f u ≤ sum n f
+unfolding sum
+sum-at zero f u a b = absurd (omega arith)
+sum-at (suc n) f u a b =
+    same-or u (suc n) (λ e. omega (arith, ap f e)) (λ e. omega (arith, sum-at n f u a (below u n b e)))
+  where
+    below : (u n : ℕ) → u ≤ suc n → (u ≡ suc n → ⊥) → u ≤ n
+    below u n b e = omega arith
+
+-- one term rises by one, and no other changes
+pub sum-one : (n : ℕ) (f g : ℕ → ℕ) (a : ℕ) → 1 ≤ a → a ≤ n → g a ≡ suc (f a) → ((j : ℕ) → (j ≡ a → ⊥) → g j ≡ f j) → sum n g ≡ suc (sum n f)
+unfolding sum
+sum-one zero f g a h l e o = absurd (omega arith)
+sum-one (suc n) f g a h l e o =
+    same-or (suc n) a
+    (λ p. let e2 : g (suc n) ≡ suc (f (suc n)) = rw p e in omega (arith, sum-same n f g (λ j x y. o j (λ r. (omega arith)))))
+    (λ p. omega (arith, o (suc n) p, sum-one n f g a h (below a n l p) e o))
+  where
+    below : (a n : ℕ) → a ≤ suc n → (suc n ≡ a → ⊥) → a ≤ n
+    below a n b e = omega arith
+
+-- all the numbers above a pass
+pub tally-above : (n a : ℕ) (p : ℕ → Bool) → ((k : ℕ) → a < k → k ≤ n → p k ≡ true) → n - a ≤ tally n p
+unfolding sum
+tally-above zero a p h = omega arith
+tally-above (suc n) a p h =
+    let ih = tally-above n a p (λ k l m. h k l (omega arith)) in
+    cases (p (suc n))
+    (λ e. rw e (omega arith))
+    (λ e. rw e (low ih e))
+  where
+    low : n - a ≤ tally n p → p (suc n) ≡ false → suc n - a ≤ 0 + tally n p
+    low ih e = same-or (suc n - a) 0 (λ z. omega arith) (λ z. absurd (let q = h (suc n) (omega arith) (omega arith) in let w : true ≡ false = sym q ∙ e in let c : _≡_ {A = ℕ} 0 1 = cc in omega arith))

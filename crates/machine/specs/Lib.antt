@@ -1,0 +1,9 @@
+pub mod Table
+pub mod Answer
+pub mod Steps
+pub mod Rules
+pub mod Session
+pub mod Paper
+pub mod History
+pub mod Demand3
+pub mod Proofs

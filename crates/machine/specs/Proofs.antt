@@ -1,0 +1,2 @@
+-- The proofs; the definitions and statements are in the files above.
+pub mod Kept
