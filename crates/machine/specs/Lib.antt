@@ -3,6 +3,7 @@ pub mod Answer
 pub mod Steps
 pub mod Rules
 pub mod Session
+pub mod Example
 pub mod Paper
 pub mod History
 pub mod Demand3
