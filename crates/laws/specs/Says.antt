@@ -1,7 +1,7 @@
 -- What a test says, both ways: the laws follow the test's form.
 use Prim.Native.Nat.{ℕ, zero, suc, _+_, _-_, _<_, _≤_}
 use mathlib.Core.Path.{_≡_, refl, sym, ap, _∙_}
-use mathlib.Core.Bool.{Bool, true, false, not}
+use mathlib.Core.Bool.{Bool, true, false, not, _&&_}
 use native.Mathlib.Omega.{arith}
 use borrow.Author.Tests.{leb-true, eqb-true, le-leb, eq-eqb, not-true, not-false, leb-false}
 use lib.Dec.{eqb, leb}
@@ -31,6 +31,10 @@ apart b p q = clash (sym q ∙ p)
 pub says-and : {P Q : Type 0} (a b : Bool) → Says a P → Says b Q → Says (and a b) (P × Q)
 says-and true b p q = record { to = λ e. (p .to refl, q .to e); from = λ h. q .from (h .1) }
 says-and false b p q = record { to = λ e. clash e; from = λ h. p .from (h .0) }
+
+pub says-both : {P Q : Type 0} (a b : Bool) → Says a P → Says b Q → Says (a && b) (P × Q)
+says-both true b p q = says-and true b p q
+says-both false b p q = says-and false b p q
 
 pub says-if : {P Q R : Type 0} (a b c : Bool) → Says a P → Says b Q → Says c R → Says (pick a b c) ((P → Q) × ((P → ⊥) → R))
 says-if true b c p q r = record { to = λ e. (λ h. q .to e, λ n. absurd (n (p .to refl))); from = λ h. q .from (h .0 (p .to refl)) }

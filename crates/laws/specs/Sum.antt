@@ -55,6 +55,15 @@ sum-one (suc n) f g a h l e o =
     below : (a n : ℕ) → a ≤ suc n → (suc n ≡ a → ⊥) → a ≤ n
     below a n b e = omega arith
 
+-- one term rises by at most one, and no other does
+pub sum-one-le : (n : ℕ) (f g : ℕ → ℕ) (a : ℕ) → g a ≤ suc (f a) → ((j : ℕ) → (j ≡ a → ⊥) → g j ≤ f j) → sum n g ≤ suc (sum n f)
+unfolding sum
+sum-one-le zero f g a e o = omega arith
+sum-one-le (suc n) f g a e o =
+    same-or (suc n) a
+    (λ p. let e2 : g (suc n) ≤ suc (f (suc n)) = rw p e in omega (arith, sum-le n g f (λ j x y. o j (λ r. (omega arith)))))
+    (λ p. omega (arith, o (suc n) p, sum-one-le n f g a e o))
+
 -- all the numbers above a pass
 pub tally-above : (n a : ℕ) (p : ℕ → Bool) → ((k : ℕ) → a < k → k ≤ n → p k ≡ true) → n - a ≤ tally n p
 unfolding sum

@@ -3,6 +3,7 @@ use Prim.Native.Nat.{ℕ, zero, suc, _+_, _-_, _<_, _≤_}
 use mathlib.Core.Path.{_≡_, refl, sym, ap, _∙_, fun-ext}
 use mathlib.Core.List.{List, [], _∷_}
 use mathlib.Core.Bool.{Bool, true, false}
+use mathlib.Core.Option.{Option, some}
 use native.Mathlib.Omega.{arith}
 use borrow.Author.Tests.{eqb-true, eqb-false, eq-eqb, ne-eqb}
 use lib.Dec.{eqb}
@@ -51,6 +52,10 @@ module _ {A : Type 0} (f : ℕ → ℕ → A) (i x : ℕ) (a : A) where
   unfolding upd2
   upd2-row j h = upd-other f i (upd (f i) x a) j h
 
+  pub upd2-here : upd2 f i x a i ≡ upd (f i) x a
+  unfolding upd2
+  upd2-here = upd-same f i (upd (f i) x a)
+
   pub upd2-other : (j y : ℕ) → (j ≡ i → y ≡ x → ⊥) → upd2 f i x a j y ≡ f j y
   unfolding upd2
   upd2-other j y h =
@@ -68,6 +73,14 @@ module _ {A : Type 0} (f : ℕ → ℕ → A) (i x : ℕ) (a : A) where
   pub upd2-is : (g : ℕ → ℕ → A) → g i x ≡ a → ((j y : ℕ) → (j ≡ i → y ≡ x → ⊥) → g j y ≡ f j y) → g ≡ upd2 f i x a
   upd2-is g same other =
       fun-ext (λ j. fun-ext (λ y. upd2-all (λ j y b. g j y ≡ b) j y (λ p q. rw (p, q) same) (λ n. other j y n)))
+
+-- what holds of the new value, if there is one, and of the old ones elsewhere
+pub upd2-some : {A : Type 0} (P : ℕ → ℕ → A → Type 0) (f : ℕ → ℕ → Option A) (i x : ℕ) (o : Option A) → ((a : A) → o ≡ some a → P i x a)
+    → ((j y : ℕ) (a : A) → (j ≡ i → y ≡ x → ⊥) → f j y ≡ some a → P j y a) → (j y : ℕ) (a : A) → upd2 f i x o j y ≡ some a → P j y a
+upd2-some {A} P f i x o new old j y a e =
+    same-pair-or j y i x
+    (λ p q. rw (p, q) (new a (sym (upd2-same f i x o) ∙ rw (p, q) at e)))
+    (λ n. old j y a n (sym (upd2-other f i x o j y n) ∙ e))
 
 -- stores into lists --
 

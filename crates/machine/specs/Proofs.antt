@@ -1,2 +1,6 @@
 -- The proofs; the definitions and statements are in the files above.
+pub mod Ready
+pub mod Grown
+pub mod Apply
+pub mod Cascade
 pub mod Kept

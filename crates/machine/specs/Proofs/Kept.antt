@@ -1,97 +1,128 @@
--- Every step keeps the rules.
-use mathlib.Core.Path.{_≡_, refl}
-use mathlib.Core.Logic.{_≢_, _⊎_, inl, inr, _↔_}
-use mathlib.Core.Bool.{Bool, true, false}
+-- Every step keeps the rules; what the other proofs need of it stands here under one roof.
+use mathlib.Core.Path.{_≡_, refl, sym}
+use mathlib.Core.Logic.{_⊎_, inl, inr, _↔_}
+use mathlib.Core.Bool.{Bool, true, false, not, _&&_}
 use mathlib.Core.List.{List, [], _∷_}
 use mathlib.Core.Option.{Option, none, some}
-use Prim.Native.Nat.{ℕ, zero, suc, _+_, _-_, _≤_, _<_}
+use Prim.Native.Nat.{ℕ, _≤_, _<_}
+use native.Mathlib.Omega.{arith}
+use borrow.Author.Tests.{ltb-true, leb-true, eqb-true}
+use lib.Dec.{eqb, leb, ltb}
 use lib.ListN.{length}
-use Rattle.laws.specs.Sum.{sum}
-use Rattle.machine.specs.Table.{most-desks, most-cells, most-open, most-writes, most-status, Vec, Name, away, held, done, Open, State, fresh, written, place}
-use Rattle.machine.specs.Answer.{Answer, applies}
-use Rattle.machine.specs.Steps.{Step, step, ready, read, apply, hold, write, openCount, firstDue, settle, reads}
-use Rattle.machine.specs.Rules.{In, Flat, Below, Ranges, Counts, Clocks, SetCell, Lacks, ToBeOpen, OpenWrite, Quiet, Frame, Rules}
+use Rattle.laws.specs.Says.{says-both, apart}
+use Rattle.laws.specs.Update.{same-or}
+use Rattle.laws.specs.Lists.{every}
+use Rattle.machine.specs.Table.{most-open, most-trip, most-writes, most-status, Name, away, held, done, Open, State, written, place}
+use Rattle.machine.specs.Answer.{Refusal, Answer, began, shows, wrote, holds, applies, judged, refused}
+use Rattle.machine.specs.Steps.{Out, need, within, failing, openCount, deliverBy, deliverOpen, reads, Step, Read, Write, Deliver, Trip, step}
+use Rattle.machine.specs.Rules.{In, Frame, Rules}
+use Rattle.machine.specs.Proofs.Ready.{says-within}
+pub use Rattle.machine.specs.Proofs.Grown.{fresh-rules, read-rules, hold-rules}
+pub use Rattle.machine.specs.Proofs.Apply.{Midway, ReadyAt, Next, ready-next, apply-midway, write-rules}
+unfoldable pub use Rattle.machine.specs.Proofs.Cascade.{left}
+pub use Rattle.machine.specs.Proofs.Cascade.{apply-left, left-few, Found, first-due, none-due, settle-rules, settle-names}
 
--- in the middle of a cascade at i: every rule, but that a write held at i may be ready
-pub record Midway (s : State) (i : ℕ) : Type 0 where
-  pub frame : Frame s
-  pub quiet : (j : ℕ) → j ≢ i → Quiet s j
+pub reads-rules : {s : State} → Rules s → (i : ℕ) (xs : List ℕ) → Rules (reads s i xs .state)
+unfolding reads
+reads-rules r i [] = r
+reads-rules r i (x ∷ xs) = reads-rules (read-rules r i x) i xs
 
--- the writes that desk i has yet to apply
-unfoldable pub left : State → ℕ → ℕ
-left s i = sum (s .desks) (λ u. written s u - s .applied i u)
+-- the writes that an answer says were applied
+abbrev named : Answer → List Name
+named began = []
+named (shows v) = []
+named (wrote w) = []
+named (holds t) = []
+named (applies l) = l
+named (judged v) = []
+named (refused n) = []
 
--- an open write that is ready at i
-pub record ReadyAt (s : State) (i u k : ℕ) (w : Open) : Type 0 where
-  pub desk : In (s .desks) i
-  pub is : s .opens u k ≡ some w
-  pub ready : ready (s .desks) (s .applied i) u (w .vector) ≡ true
+-- what a step keeps
+record Kept (o : Out) : Type 0 where
+  pub rules : Rules (o .state)
+  pub few : length (named (o .answer)) ≤ most-open
 
-pub fresh-rules : (n m : ℕ) → In most-desks n → In most-cells m → Rules (fresh n m)
-fresh-rules n m hn hm = ?
+need-kept : {s : State} {o : Out} (b : Bool) (n : Refusal) → Rules s → (b ≡ true → Kept o) → Kept (need b n s o)
+need-kept true n r h = h refl
+need-kept false n r h = record { rules = r; few = omega arith }
 
-pub read-rules : {s : State} → Rules s → (i x : ℕ) → Rules (read s i x)
-read-rules {s} r i x = ?
+module _ {s : State} (r : Rules s) (i u k : ℕ) (hi : In (s .desks) i) where
+  deliver-by : (w : Open) → s .opens u k ≡ some w → w .marks i ≡ away → (t : Option ℕ) → failing (s .desks) (s .applied i) u (w .vector) ≡ t
+      → Kept (deliverBy s i u k w t)
+  deliver-by w is m (some t) e = record { rules = hold-rules r i u k w hi is m (rw e); few = omega arith }
+  deliver-by w is m none e =
+      let at : ReadyAt s i u k w = record { desk = hi; is = is; ready = rw e } in
+      let mid = apply-midway (record { frame = r .frame; quiet = λ j ne. r .quiet j }) at in
+      let a = apply-left (r .frame) at in
+      let b = left-few (r .frame) i hi in
+      record {
+        rules = settle-rules most-open mid hi (omega (arith, r .frame .ranges .few));
+        few = omega (arith, settle-names most-open mid hi, r .frame .ranges .few);
+      }
 
-pub write-rules : {s : State} → Rules s → (i x v : ℕ) → In (s .desks) i → In (s .cells) x → v ≤ most-status
-    → written s i < most-writes → openCount s < most-open → Rules (write s i x v)
-write-rules {s} r i x v hi hx hv hw ho = ?
+  deliver-open : (o : Option Open) → s .opens u k ≡ o → Kept (deliverOpen s i u k o)
+  deliver-open none e = record { rules = r; few = omega arith }
+  deliver-open (some w) e = need-kept _ _ r (λ m. deliver-by w e (eqb-true _ _ m) (failing (s .desks) (s .applied i) u (w .vector)) refl)
 
-pub hold-rules : {s : State} → Rules s → (i u k : ℕ) (w : Open) → In (s .desks) i → s .opens u k ≡ some w → w .marks i ≡ away
-    → ready (s .desks) (s .applied i) u (w .vector) ≡ false → Rules (hold s i u k w)
-hold-rules {s} r i u k w hi e ma nr = ?
-
--- what is ready is the writer's next, of another desk, and its vector is covered
-pub record Next (s : State) (i u k : ℕ) (w : Open) : Type 0 where
-  pub writer : In (s .desks) u
-  pub other : u ≢ i
-  pub next : suc (s .applied i u) ≡ k
-  pub known : k ≤ written s u
-  pub rest : (t : ℕ) → t ≢ u → w .vector t ≤ s .applied i t
-
-pub ready-next : {s : State} {i u k : ℕ} {w : Open} → Frame s → ReadyAt s i u k w → Next s i u k w
-ready-next {s} {i} {u} {k} {w} f r = ?
-
-pub apply-midway : {s : State} {i u k : ℕ} {w : Open} → Midway s i → ReadyAt s i u k w → Midway (apply s i u k w) i
-apply-midway {s} {i} {u} {k} {w} m r = ?
-
-pub apply-left : {s : State} {i u k : ℕ} {w : Open} → Frame s → ReadyAt s i u k w → suc (left (apply s i u k w) i) ≡ left s i
-apply-left {s} {i} {u} {k} {w} f r = ?
-
-pub left-few : {s : State} → Frame s → (i : ℕ) → In (s .desks) i → left s i ≤ openCount s
-left-few {s} f i hi = ?
-
--- what the cascade's search finds
-pub record Found (s : State) (i u : ℕ) : Type 0 where
-  pub entry : Open
-  pub is-held : entry .marks i ≡ held
-  pub at : ReadyAt s i u (suc (s .applied i u)) entry
-
-pub first-due : {s : State} {i u : ℕ} → In (s .desks) i → firstDue s i ≡ some u → In (s .desks) u × Found s i u
-first-due {s} {i} {u} hi e = ?
-
-pub none-due : {s : State} {i : ℕ} → Frame s → In (s .desks) i → firstDue s i ≡ none → Quiet s i
-none-due {s} {i} f hi e = ?
-
-pub settle-rules : (f : ℕ) {s : State} {i : ℕ} → Midway s i → In (s .desks) i → left s i ≤ f → Rules (settle f s i .state)
-settle-rules f {s} {i} m hi l = ?
-
-pub settle-names : (f : ℕ) {s : State} {i : ℕ} → Midway s i → In (s .desks) i → length (settle f s i .names) ≤ left s i
-settle-names f {s} {i} m hi = ?
+step-kept : {s : State} → Rules s → (a : Step) → Kept (step s a)
+unfolding step
+step-kept {s} r (Read i x) =
+    need-kept (within (s .desks) i) _ r (λ hi.
+    need-kept (within (s .cells) x) _ r (λ hx.
+    record { rules = read-rules r i x; few = omega arith }))
+step-kept {s} r (Write i x v) =
+    need-kept (within (s .desks) i) _ r (λ hi.
+    need-kept (within (s .cells) x) _ r (λ hx.
+    need-kept (leb v most-status) _ r (λ hv.
+    need-kept (ltb (written s i) most-writes) _ r (λ hw.
+    need-kept (ltb (openCount s) most-open) _ r (λ ho.
+    record {
+      rules =
+          write-rules r i x v (says-within (s .desks) i .to hi) (says-within (s .cells) x .to hx) (leb-true v most-status hv)
+          (ltb-true (written s i) most-writes hw) (ltb-true (openCount s) most-open ho);
+      few = omega arith;
+    })))))
+step-kept {s} r (Deliver i u k) =
+    need-kept (within (s .desks) i && within (s .desks) u) _ r (λ hd.
+    need-kept (not (eqb i u)) _ r (λ ho.
+    need-kept (within (written s u) k) _ r (λ hk.
+    let h = says-both (within (s .desks) i) (within (s .desks) u) (says-within (s .desks) i) (says-within (s .desks) u) .to hd in
+    deliver-open r i u k (h .0) (s .opens u k) refl)))
+step-kept {s} r (Trip i xs) =
+    need-kept (within (s .desks) i) _ r (λ hi.
+    need-kept (within most-trip (length xs)) _ r (λ h9.
+    need-kept (every (within (s .cells)) xs) _ r (λ hx.
+    record { rules = reads-rules r i xs; few = omega arith })))
 
 -- the theorems --
 
 pub step-keeps-rules : {s : State} → Rules s → (a : Step) → Rules (step s a .state)
-step-keeps-rules {s} r a = ?
+step-keeps-rules r a = step-kept r a .rules
 
 pub at-most-64-applied : {s : State} → Rules s → (a : Step) (l : List Name) → step s a .answer ≡ applies l → length l ≤ most-open
-at-most-64-applied {s} r a l e = ?
+at-most-64-applied {s} r a l e = let h : length (named (step s a .answer)) ≤ most-open = step-kept r a .few in rw e at h
+
+pub done-counted : {s : State} → Frame s → (i u k : ℕ) → In (s .desks) i → In (s .desks) u → In (written s u) k
+    → (place s i u k ≡ done) ↔ (k ≤ s .applied i u)
+done-counted {s} f i u k hi hu hk = go (s .opens u k) refl
+  where
+    go : (o : Option Open) → s .opens u k ≡ o → (place s i u k ≡ done) ↔ (k ≤ s .applied i u)
+    go none e = rw e (λ _. (let n : ¬ (s .applied i u < k) = not-lower in omega arith), λ _. refl)
+      where
+        not-lower : s .applied i u < k → ⊥
+        not-lower l =
+            let o = f .open-exactly u k .1 (record { writer = hu; number = hk; lacks = record { desk = i; desk-in = hi; lower = l } }) in
+            apart true refl (sym (rw e at o))
+    go (some w) e = rw e (f .open-write u k w e .marked i hi)
 
 -- "At each desk every accepted write is in exactly one place": the places are three different numbers
 pub one-place : {s : State} → Rules s → (i u k : ℕ) → In (s .desks) i → In (s .desks) u → In (written s u) k
     → (place s i u k ≡ away) ⊎ ((place s i u k ≡ held) ⊎ (place s i u k ≡ done))
-one-place {s} r i u k hi hu hk = ?
-
-pub done-counted : {s : State} → Frame s → (i u k : ℕ) → In (s .desks) i → In (s .desks) u → In (written s u) k
-    → (place s i u k ≡ done) ↔ (k ≤ s .applied i u)
-done-counted {s} f i u k hi hu hk = ?
+one-place {s} r i u k hi hu hk = go (s .opens u k) refl
+  where
+    go : (o : Option Open) → s .opens u k ≡ o → (place s i u k ≡ away) ⊎ ((place s i u k ≡ held) ⊎ (place s i u k ≡ done))
+    go none e = inr (inr (rw e))
+    go (some w) e =
+        rw e
+        (same-or (w .marks i) away (λ p. inl p)
+        (λ p. same-or (w .marks i) held (λ q. inr (inl q)) (λ q. inr (inr (omega (arith, r .frame .open-write u k w e .marks-in i))))))
