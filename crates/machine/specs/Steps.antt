@@ -25,6 +25,13 @@ abbrev pub need : Bool → Refusal → State → Out → Out
 need true r s o = o
 need false r s o = refuse r s
 
+-- the state with another clock at desk i, or with other open writes
+abbrev pub withClock : State → ℕ → Vec → State
+withClock t i c = record { desks = t .desks; cells = t .cells; applied = t .applied; clock = upd (t .clock) i c; cell = t .cell; opens = t .opens }
+
+abbrev pub withOpens : State → (ℕ → ℕ → Option Open) → State
+withOpens t o = record { desks = t .desks; cells = t .cells; applied = t .applied; clock = t .clock; cell = t .cell; opens = o }
+
 -- 1 to n
 abbrev pub within : ℕ → ℕ → Bool
 within n i = leb 1 i && leb i n
@@ -59,14 +66,7 @@ readClock c blank = c
 readClock c (set v u w) = join c w
 
 abbrev pub read : State → ℕ → ℕ → State
-read s i x = record {
-  desks = s .desks;
-  cells = s .cells;
-  applied = s .applied;
-  clock = upd (s .clock) i (readClock (s .clock i) (s .cell i x));
-  cell = s .cell;
-  opens = s .opens;
-}
+read s i x = withClock s i (readClock (s .clock i) (s .cell i x))
 
 -- "The answer is status and write name, or unset."
 abbrev pub shownAt : State → ℕ → ℕ → Shown
@@ -97,14 +97,7 @@ apply s i u k w = record {
 
 -- "If not ready it is held"
 abbrev pub hold : State → ℕ → ℕ → ℕ → Open → State
-hold s i u k w = record {
-  desks = s .desks;
-  cells = s .cells;
-  applied = s .applied;
-  clock = s .clock;
-  cell = s .cell;
-  opens = upd2 (s .opens) u k (some (mark w i held));
-}
+hold s i u k w = withOpens s (upd2 (s .opens) u k (some (mark w i held)))
 
 -- Write --
 
@@ -116,14 +109,7 @@ abbrev pub nextVector : State → ℕ → Vec
 nextVector s i = upd (s .clock i) i (nextNumber s i)
 
 abbrev pub raise : State → ℕ → State
-raise s i = record {
-  desks = s .desks;
-  cells = s .cells;
-  applied = s .applied;
-  clock = upd (s .clock) i (nextVector s i);
-  cell = s .cell;
-  opens = s .opens;
-}
+raise s i = withClock s i (nextVector s i)
 
 -- "that clock is the write's vector"; "Every other desk has yet to receive it."
 abbrev pub newWrite : State → ℕ → ℕ → ℕ → Open
@@ -171,7 +157,7 @@ abbrev pub settleBy : (State → Settled) → State → ℕ → Option ℕ → S
 settleBy again s i none = record { names = []; state = s }
 settleBy again s i (some u) = applyNext again s i u (s .opens u (suc (s .applied i u)))
 
--- at most f turns; `cascade-ends` (Rules) says that most-open turns leave nothing ready held
+-- at most f turns: `settle-rules` (Proofs/Cascade) says that most-open turns leave nothing ready held
 unfoldable pub settle : ℕ → State → ℕ → Settled
 settle zero s i = record { names = []; state = s }
 settle (suc f) s i = settleBy (λ s′. settle f s′ i) s i (firstDue s i)
