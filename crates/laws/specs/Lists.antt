@@ -1,11 +1,12 @@
 -- Tests of a list's elements.
-use mathlib.Core.Path.{_≡_, refl}
-use mathlib.Core.Logic.{_↔_}
+use mathlib.Core.Path.{_≡_, refl, ap}
+use mathlib.Core.Logic.{_↔_, ⊎-elim}
 use mathlib.Core.Bool.{Bool, true, false, _&&_}
-use mathlib.Core.List.{List, [], _∷_, List·Memᴰ}
+use mathlib.Core.List.{List, [], _∷_, map, List·Memᴰ, List·Memᴰ·head, List·Memᴰ·tail, List·Memᴰ·not-nil, List·Memᴰ·cases-cons}
 use Prim.Native.Nat.{ℕ}
 use native.Mathlib.Omega.{arith}
 use Rattle.laws.specs.Loop.{cases}
+use Rattle.laws.specs.Says.{Says, says-as, clash, apart}
 
 unfoldable pub any : {A : Type 0} → (A → Bool) → List A → Bool
 any p [] = false
@@ -14,3 +15,45 @@ any p (x ∷ l) = elim (p x) [ true ↦ true | false ↦ any p l ]
 unfoldable pub every : {A : Type 0} → (A → Bool) → List A → Bool
 every p [] = true
 every p (x ∷ l) = elim (p x) [ true ↦ every p l | false ↦ false ]
+
+-- an element with a property
+pub record Some {A : Type 0} (P : A → Type 0) (l : List A) : Type 0 where
+  pub element : A
+  pub among : List·Memᴰ element l
+  pub has : P element
+
+-- what the tests of a list's elements say
+module _ {A : Type 0} {P : A → Type 0} (p : A → Bool) (h : (x : A) → Says (p x) (P x)) where
+  pub says-every : (l : List A) → Says (every p l) ((x : A) → List·Memᴰ x l → P x)
+  unfolding every
+  says-every [] = record { to = λ e x m. absurd (List·Memᴰ·not-nil m); from = λ f. refl }
+  says-every (y ∷ l) =
+      cases (p y)
+      (λ e. rw (e, every) (says-as (every p l) (says-every l)
+      (λ f x m. ⊎-elim (λ (q : x ≡ y). rw q (h y .to e)) (λ (m : List·Memᴰ x l). f x m) (List·Memᴰ·cases-cons m))
+      (λ f x m. f x (List·Memᴰ·tail m))))
+      (λ e. rw (e, every) (record { to = λ z. clash z; from = λ f. apart (p y) (h y .from (f y (List·Memᴰ·head refl))) e }))
+
+  pub says-any : (l : List A) → Says (any p l) (Some P l)
+  unfolding any
+  says-any [] = record { to = λ e. clash e; from = λ s. absurd (List·Memᴰ·not-nil (s .among)) }
+  says-any (y ∷ l) =
+      cases (p y)
+      (λ e. rw (e, any) (record { to = λ z. record { element = y; among = List·Memᴰ·head refl; has = h y .to e }; from = λ s. refl }))
+      (λ e. rw (e, any) (says-as (any p l) (says-any l)
+      (λ s. record { element = s .element; among = List·Memᴰ·tail (s .among); has = s .has })
+      (λ s. ⊎-elim
+      (λ (q : s .element ≡ y). apart (p y) (h y .from (rw q at (s .has))) e)
+      (λ (m : List·Memᴰ (s .element) l). record { element = s .element; among = m; has = s .has })
+      (List·Memᴰ·cases-cons (s .among)))))
+
+module _ {A B : Type 0} (p : B → Bool) (f : A → B) where
+  pub any-map : (l : List A) → any p (map f l) ≡ any (λ x. p (f x)) l
+  unfolding any
+  any-map [] = refl
+  any-map (x ∷ l) = ap (λ (b : Bool). elim (p (f x)) as (λ _. Bool) [ true ↦ true | false ↦ b ]) (any-map l)
+
+  pub every-map : (l : List A) → every p (map f l) ≡ every (λ x. p (f x)) l
+  unfolding every
+  every-map [] = refl
+  every-map (x ∷ l) = ap (λ (b : Bool). elim (p (f x)) as (λ _. Bool) [ true ↦ b | false ↦ false ]) (every-map l)

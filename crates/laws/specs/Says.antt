@@ -3,8 +3,8 @@ use Prim.Native.Nat.{ℕ, zero, suc, _+_, _-_, _<_, _≤_}
 use mathlib.Core.Path.{_≡_, refl, sym, ap, _∙_}
 use mathlib.Core.Bool.{Bool, true, false, not, _&&_}
 use native.Mathlib.Omega.{arith}
-use borrow.Author.Tests.{leb-true, eqb-true, le-leb, eq-eqb, not-true, not-false, leb-false}
-use lib.Dec.{eqb, leb}
+use borrow.Author.Tests.{leb-true, ltb-true, eqb-true, le-leb, lt-ltb, eq-eqb, not-true, not-false, leb-false}
+use lib.Dec.{eqb, leb, ltb}
 use Rattle.laws.specs.Loop.{pick, cases, scan, turns}
 use Rattle.laws.specs.All.{all, all-at, all-true}
 
@@ -62,3 +62,6 @@ all-not p (suc n) at e =
     cases (p at)
     (λ t. let r = all-not p n (suc at) (rw t at e) in (r .0, omega (arith, r .1), omega (arith, r .2), r .3))
     (λ t. (at, omega arith, omega arith, t))
+
+pub says-ltb : (a b : ℕ) → Says (ltb a b) (a < b)
+says-ltb a b = record { to = ltb-true a b; from = lt-ltb a b }

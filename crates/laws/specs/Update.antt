@@ -82,6 +82,10 @@ upd2-some {A} P f i x o new old j y a e =
     (λ p q. rw (p, q) (new a (sym (upd2-same f i x o) ∙ rw (p, q) at e)))
     (λ n. old j y a n (sym (upd2-other f i x o j y n) ∙ e))
 
+-- what g reads of an updated function: the update of what it read
+pub upd-map : {A B : Type 0} (g : A → B) (f : ℕ → A) (i : ℕ) (a : A) → (λ j. g (upd f i a j)) ≡ upd (λ j. g (f j)) i (g a)
+upd-map g f i a = upd-is (λ j. g (f j)) i (g a) (λ j. g (upd f i a j)) (ap g (upd-same f i a)) (λ j e. ap g (upd-other f i a j e))
+
 -- stores into lists --
 
 -- what g reads of each element

@@ -1,7 +1,9 @@
 pub mod Table
 pub mod Answer
 pub mod Steps
+pub mod Refusals
 pub mod Rules
+pub mod Blanks
 pub mod Session
 pub mod Example
 pub mod Paper

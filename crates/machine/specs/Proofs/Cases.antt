@@ -1,0 +1,66 @@
+-- The cases of a delivery, of a write that may close, of the cascade and of a trip.
+use mathlib.Core.Path.{_≡_, refl}
+use mathlib.Core.Logic.{_≢_}
+use mathlib.Core.Bool.{true, false}
+use mathlib.Core.List.{List, [], _∷_}
+use mathlib.Core.Option.{Option, none, some}
+use Prim.Native.Nat.{ℕ, zero, suc}
+use native.Mathlib.Omega.{arith}
+use Rattle.laws.specs.Loop.{cases}
+use Rattle.machine.specs.Table.{most-open, name, placeOf, away, Open, State, written}
+use Rattle.machine.specs.Answer.{Refusal, holds, applies}
+use Rattle.machine.specs.Steps.{Out, refuse, failing, read, everywhere, stillOpen, apply, hold, firstDue, Settled, applyNext, settleBy, settle, deliverBy, reads, Deliver, step}
+use Rattle.machine.specs.Rules.{In}
+use Rattle.machine.specs.Proofs.Refusals.{deliverEffect, step-cases}
+
+-- a delivery that is accepted
+pub record Delivery (s : State) (i u k : ℕ) (w : Open) : Type 0 where
+  pub desk : In (s .desks) i
+  pub writer : In (s .desks) u
+  pub other : i ≢ u
+  pub number : In (written s u) k
+  pub is : s .opens u k ≡ some w
+  pub is-away : w .marks i ≡ away
+
+pub deliver-cases : (s : State) (i u k : ℕ) (Q : Out → Type 0) → ((r : Refusal) → Q (refuse r s))
+    → ((w : Open) → Delivery s i u k w → (t : ℕ) → failing (s .desks) (s .applied i) u (w .vector) ≡ some t
+    → Q (record { answer = holds t; state = hold s i u k w }))
+    → ((w : Open) → Delivery s i u k w → failing (s .desks) (s .applied i) u (w .vector) ≡ none
+    → Q (let r : Settled = settle most-open (apply s i u k w) i in record { answer = applies (name u k ∷ r .names); state = r .state }))
+    → Q (step s (Deliver i u k))
+deliver-cases s i u k Q refusal f g = step-cases s (Deliver i u k) Q refusal (λ h. at-open (h .0) (h .1 .0) (h .1 .1 .0) (s .opens u k) refl (h .1 .1 .1 .0))
+  where
+    by : (w : Open) → Delivery s i u k w → (o : Option ℕ) → failing (s .desks) (s .applied i) u (w .vector) ≡ o → Q (deliverBy s i u k w o)
+    by w d none e = g w d e
+    by w d (some t) e = f w d t e
+
+    at-open : In (s .desks) i × In (s .desks) u → i ≢ u → In (written s u) k → (o : Option Open) → s .opens u k ≡ o → placeOf o i ≡ away → Q (deliverEffect s i u k o)
+    at-open hd ho hk none e ha = absurd (omega arith)
+    at-open hd ho hk (some w) e ha =
+        by w (record { desk = hd .0; writer = hd .1; other = ho; number = hk; is = e; is-away = ha }) (failing (s .desks) (s .applied i) u (w .vector)) refl
+
+-- a write closes or stays open
+pub still-cases : (P : Option Open → Type 0) (n : ℕ) (w : Open) → (everywhere n w ≡ true → P none) → (everywhere n w ≡ false → P (some w)) → P (stillOpen n w)
+still-cases P n w f g = cases (everywhere n w) (λ e. rw (e, stillOpen) (f e)) (λ e. rw (e, stillOpen) (g e))
+
+-- what each application keeps, the cascade keeps
+pub settle-keeps : (P : State → Type 0) (i : ℕ) → ((s : State) (u k : ℕ) (w : Open) → s .opens u k ≡ some w → P s → P (apply s i u k w))
+    → (f : ℕ) (s : State) → P s → P (settle f s i .state)
+unfolding settle
+settle-keeps P i h zero s p = p
+settle-keeps P i h (suc f) s p = by (settle-keeps P i h f) (firstDue s i)
+  where
+    at-open : ((s : State) → P s → P (settle f s i .state)) → (u : ℕ) (o : Option Open) → s .opens u (suc (s .applied i u)) ≡ o
+        → P (applyNext (λ s′. settle f s′ i) s i u o .state)
+    at-open again u none e = p
+    at-open again u (some w) e = again (apply s i u (suc (s .applied i u)) w) (h s u (suc (s .applied i u)) w e p)
+
+    by : ((s : State) → P s → P (settle f s i .state)) → (o : Option ℕ) → P (settleBy (λ s′. settle f s′ i) s i o .state)
+    by again none = p
+    by again (some u) = at-open again u (s .opens u (suc (s .applied i u))) refl
+
+-- what each read keeps, the trip keeps
+pub reads-keep : (P : State → Type 0) (i : ℕ) → ((s : State) (x : ℕ) → P s → P (read s i x)) → (xs : List ℕ) (s : State) → P s → P (reads s i xs .state)
+unfolding reads
+reads-keep P i h [] s p = p
+reads-keep P i h (x ∷ xs) s p = reads-keep P i h xs (read s i x) (h s x p)

@@ -1,0 +1,181 @@
+-- A desk as a process of the paper: each effect on the table is the paper's action at its desk, and nothing at any other.
+use mathlib.Core.Path.{_≡_, refl, sym, ap, _∙_, fun-ext}
+use mathlib.Core.Logic.{_≢_}
+use mathlib.Core.Bool.{true, false}
+use mathlib.Core.Option.{Option, none, some}
+use Prim.Native.Nat.{ℕ, suc, _≤_, max}
+use native.Mathlib.Omega.{arith}
+use borrow.Author.Tests.{eqb-true, eq-eqb, ne-eqb, le-ltb}
+use lib.Dec.{eqb}
+use Rattle.laws.specs.Loop.{cases, scan-empty}
+use Rattle.laws.specs.All.{all-at}
+use Rattle.laws.specs.Says.{apart}
+use Rattle.laws.specs.Update.{upd, upd2, same-or, upd-same, upd-other, upd-map, upd2-same, upd2-row, upd2-here, upd2-other, upd2-all, upd2-is}
+use Rattle.machine.specs.Table.{Vec, Cell, blank, set, held, done, Open, State}
+use Rattle.machine.specs.Steps.{fails, failing, ready, isNone, readClock, read, everywhere, stillOpen, mark, apply, hold, nextNumber, raise, newWrite, write}
+use Rattle.machine.specs.Rules.{In, Flat, Quiet}
+use Rattle.machine.specs.Paper.{Message, Process, WRITE, READ, receipt, resume, Idle, vectorOf, valueOf, messageOf, waitingOf, desk}
+use Rattle.machine.specs.Proofs.Cases.{still-cases}
+
+-- processes are the same if their parts are
+process-is : {p q : Process} → p .Apply ≡ q .Apply → p .Write-co ≡ q .Write-co → p .LastWriteOn ≡ q .LastWriteOn → p .memory ≡ q .memory
+    → p .waiting ≡ q .waiting → p ≡ q
+process-is a c l m w = λ j. record { Apply = a j; Write-co = c j; LastWriteOn = l j; memory = m j; waiting = w j }
+
+-- the process with other waiting threads
+abbrev pub set-all : (ℕ → ℕ → Option Message) → Process → Process
+set-all q p = record { Apply = p .Apply; Write-co = p .Write-co; LastWriteOn = p .LastWriteOn; memory = p .memory; waiting = q }
+
+-- Waiting --
+
+-- what waits is held
+pub record Waits (i u : ℕ) (o : Option Open) (m : Message) : Type 0 where
+  pub entry : Open
+  pub is : o ≡ some entry
+  pub is-held : entry .marks i ≡ held
+  pub message : m ≡ messageOf u entry
+
+pub waits : {i u : ℕ} (o : Option Open) {m : Message} → waitingOf i u o ≡ some m → Waits i u o m
+waits none e = absurd (let z : _≡_ {A = ℕ} 0 1 = cc in omega arith)
+waits {i} {u} (some w) {m} e =
+    cases (eqb (w .marks i) held)
+    (λ t. record { entry = w; is = refl; is-held = eqb-true (w .marks i) held t; message = (let same : some (messageOf u w) ≡ some m = rw (t, waitingOf) at e in cc) })
+    (λ f. absurd (let same : none ≡ some m = rw (f, waitingOf) at e in let z : _≡_ {A = ℕ} 0 1 = cc in omega arith))
+
+pub held-waits : (i u : ℕ) (w : Open) → w .marks i ≡ held → waitingOf i u (some w) ≡ some (messageOf u w)
+held-waits i u w h = rw (eq-eqb (w .marks i) held h, waitingOf)
+
+other-waits-not : (i u : ℕ) (w : Open) → w .marks i ≢ held → waitingOf i u (some w) ≡ none
+other-waits-not i u w h = rw (ne-eqb (w .marks i) held h, waitingOf)
+
+pub everywhere-at : (n : ℕ) (w : Open) → everywhere n w ≡ true → (t : ℕ) → In n t → w .marks t ≡ done
+unfolding everywhere
+everywhere-at n w e t h = eqb-true (w .marks t) done (all-at _ n 1 e t (h .0) (omega arith))
+
+-- a mark at one desk is nothing to another
+marked-there : (i p u : ℕ) (w : Open) (j : ℕ) → j ≢ i → waitingOf j u (some (mark w i p)) ≡ waitingOf j u (some w)
+marked-there i p u w j ne = rw (upd-other (w .marks) i p j ne, waitingOf)
+
+module _ (n i u : ℕ) (w : Open) where
+  -- where it is applied it waits no more
+  applied-here : waitingOf i u (stillOpen n (mark w i done)) ≡ none
+  applied-here =
+      still-cases (λ o. waitingOf i u o ≡ none) n (mark w i done) (λ e. refl)
+      (λ e. other-waits-not i u (mark w i done) (λ h. (let z = upd-same (w .marks) i done in omega (arith, h, z))))
+
+  -- elsewhere it waits as before: what closes was held nowhere
+  applied-there : Flat n (w .marks) → (j : ℕ) → j ≢ i → waitingOf j u (stillOpen n (mark w i done)) ≡ waitingOf j u (some w)
+  applied-there flat j ne =
+      still-cases (λ o. waitingOf j u o ≡ waitingOf j u (some w)) n (mark w i done)
+      (λ e. sym (other-waits-not j u w (λ h.
+      let d = everywhere-at n (mark w i done) e j (flat j (omega arith)) in
+      omega (arith, d, upd-other (w .marks) i done j ne))))
+      (λ e. marked-there i done u w j ne)
+
+-- no waiting thread is enabled where no held write is ready
+enabled-ready : (n : ℕ) (a : Vec) (u : ℕ) (w : Vec) → ((t : ℕ) → In n t → t ≢ u → w t ≤ a t) → suc (a u) ≡ w u → ready n a u w ≡ true
+unfolding failing
+enabled-ready n a u w rest own = ap isNone (scan-empty (fails a u w) some none n 1 (λ t l h. passes t (l, omega arith)))
+  where
+    passes : (t : ℕ) → In n t → fails a u w t ≡ false
+    passes t h =
+        same-or t u
+        (λ e. rw (eq-eqb t u e, fails) (rw (eq-eqb (suc (a u)) (w u) own)))
+        (λ e. rw (ne-eqb t u e, fails) (le-ltb (a t) (w t) (rest t h e)))
+
+pub quiet-idle : (s : State) (j : ℕ) → Quiet s j → Idle (s .desks) (desk s j)
+quiet-idle s j q u k m e en =
+    let w = waits (s .opens u k) e in
+    apart (ready (s .desks) (s .applied j) u (w .entry .vector))
+    (enabled-ready (s .desks) (s .applied j) u (w .entry .vector) (rw (w .message) at (en .others)) (rw (w .message) at (en .own)))
+    (q u k (w .entry) (w .is) (w .is-held))
+
+-- Read --
+
+module _ (s : State) (i x : ℕ) where
+  clock-is : (c : Vec) (z : Cell) → (λ k. max (c k) (vectorOf z k)) ≡ readClock c z
+  clock-is c blank = fun-ext (λ k. omega arith)
+  clock-is c (set v u w) = refl
+
+  pub read-here : READ x (desk s i) ≡ desk (read s i x) i
+  read-here = process-is refl (clock-is (s .clock i) (s .cell i x) ∙ sym (upd-same (s .clock) i _)) refl refl refl
+
+  pub read-there : (j : ℕ) → j ≢ i → desk (read s i x) j ≡ desk s j
+  read-there j ne = process-is refl (upd-other (s .clock) i _ j ne) refl refl refl
+
+-- One open write changes --
+
+abbrev pub Waiting : Type 0
+Waiting = ℕ → ℕ → Option Message
+
+-- what waits at i among the open writes
+abbrev pub waitingAt : ℕ → (ℕ → ℕ → Option Open) → Waiting
+waitingAt i f u k = waitingOf i u (f u k)
+
+module _ (f : ℕ → ℕ → Option Open) (u k : ℕ) (o : Option Open) (j : ℕ) where
+  -- to nothing that matters at j
+  waiting-kept : waitingOf j u o ≡ waitingOf j u (f u k) → waitingAt j (upd2 f u k o) ≡ waitingAt j f
+  waiting-kept e =
+      fun-ext (λ v. fun-ext (λ l. upd2-all f u k o (λ v l o. waitingOf j v o ≡ waitingOf j v (f v l)) v l (λ p q. rw (p, q) e) (λ n. refl)))
+
+  -- to what waits as m
+  waiting-set : (q : Waiting) (m : Option Message) → waitingOf j u o ≡ m → ((v l : ℕ) → (v ≡ u → l ≡ k → ⊥) → q v l ≡ waitingAt j f v l)
+      → upd2 q u k m ≡ waitingAt j (upd2 f u k o)
+  waiting-set q m e same =
+      sym (upd2-is q u k m _ (rw upd2-same e) (λ v l n. rw (upd2-other f u k o v l n) (sym (same v l n))))
+
+-- Hold: the receipt --
+
+module _ (s : State) (i u k : ℕ) (w : Open) where
+  pub receipt-here : w .vector u ≡ k → receipt u (messageOf u w) (desk s i) ≡ desk (hold s i u k w) i
+  receipt-here e =
+      process-is refl refl refl refl
+      (rw e (waiting-set (s .opens) u k (some (mark w i held)) i _ _ (held-waits i u (mark w i held) (upd-same (w .marks) i held)) (λ v l n. refl)))
+
+  pub hold-there : s .opens u k ≡ some w → (j : ℕ) → j ≢ i → desk (hold s i u k w) j ≡ desk s j
+  hold-there e j ne =
+      process-is refl refl refl refl (waiting-kept (s .opens) u k (some (mark w i held)) j (marked-there i held u w j ne ∙ ap (waitingOf j u) (sym e)))
+
+-- Apply: lines 3, 4, 5 --
+
+-- what g reads of each cell
+abbrev along : {A : Type 0} → (Cell → A) → (ℕ → Cell) → ℕ → A
+along g f x = g (f x)
+
+module _ (s : State) (i u k : ℕ) (w : Open) where
+  count-here : upd (s .applied i) u (suc (s .applied i u)) ≡ apply s i u k w .applied i
+  count-here = sym (upd2-here (s .applied) i u (suc (s .applied i u)))
+
+  cell-here : {A : Type 0} (g : Cell → A) → upd (along g (s .cell i)) (w .cell) (g (set (w .status) u (w .vector))) ≡ along g (apply s i u k w .cell i)
+  cell-here g =
+      sym (upd-map g (s .cell i) (w .cell) (set (w .status) u (w .vector)))
+      ∙ ap (along g) (sym (upd2-here (s .cell) i (w .cell) (set (w .status) u (w .vector))))
+
+  cell-there : {A : Type 0} (g : Cell → A) (j : ℕ) → j ≢ i → along g (apply s i u k w .cell j) ≡ along g (s .cell j)
+  cell-there g j ne = ap (along g) (upd2-row (s .cell) i (w .cell) _ j ne)
+
+  -- the thread of u.k goes on, whatever else waits
+  pub resume-here : (q : Waiting) → w .vector u ≡ k → ((v l : ℕ) → (v ≡ u → l ≡ k → ⊥) → q v l ≡ waitingAt i (s .opens) v l)
+      → resume u (messageOf u w) (set-all q (desk s i)) ≡ desk (apply s i u k w) i
+  resume-here q e same =
+      process-is count-here refl (cell-here vectorOf) (cell-here valueOf)
+      (rw e (waiting-set (s .opens) u k _ i q none (applied-here (s .desks) i u w) same))
+
+  pub apply-there : Flat (s .desks) (w .marks) → (j : ℕ) → j ≢ i → waitingOf j u (some w) ≡ waitingOf j u (s .opens u k) → desk (apply s i u k w) j ≡ desk s j
+  apply-there flat j ne was =
+      process-is (upd2-row (s .applied) i u _ j ne) refl (cell-there vectorOf j ne) (cell-there valueOf j ne)
+      (waiting-kept (s .opens) u k _ j (applied-there (s .desks) i u w flat j ne ∙ was))
+
+-- Write --
+
+module _ (s : State) (i x v : ℕ) (new : s .opens i (nextNumber s i) ≡ none) where
+  pub write-here : WRITE i x (record { status = v; writer = i }) (desk s i) ≡ desk (write s i x v) i
+  write-here =
+      process-is (count-here (raise s i) i i (nextNumber s i) (newWrite s i x v)) (sym (upd-same (s .clock) i _))
+      (cell-here (raise s i) i i (nextNumber s i) (newWrite s i x v) vectorOf) (cell-here (raise s i) i i (nextNumber s i) (newWrite s i x v) valueOf)
+      (sym (waiting-kept (s .opens) i (nextNumber s i) _ i (applied-here (s .desks) i i (newWrite s i x v) ∙ ap (waitingOf i i) (sym new))))
+
+  pub write-there : (j : ℕ) → j ≢ i → desk (write s i x v) j ≡ desk s j
+  write-there j ne =
+      apply-there (raise s i) i i (nextNumber s i) (newWrite s i x v) (λ t h. absurd (omega arith)) j ne (ap (waitingOf j i) (sym new))
+      ∙ process-is refl (upd-other (s .clock) i _ j ne) refl refl refl

@@ -1,0 +1,254 @@
+-- Every accepted step is a run of the paper's atomic actions at its desk, after which no waiting thread is enabled anywhere.
+use mathlib.Core.Path.{_≡_, refl, sym, ap, subst, _∙_}
+use mathlib.Core.Logic.{_≢_}
+use mathlib.Core.Bool.{true}
+use mathlib.Core.List.{List, [], _∷_, map}
+use mathlib.Core.Option.{Option, none, some}
+use Prim.Native.Nat.{ℕ, zero, suc, _≤_}
+use native.Mathlib.Omega.{arith}
+use Rattle.laws.specs.Update.{upd2, same-or, upd-other, upd2-same, upd2-other, upd2-all}
+use Rattle.machine.specs.Table.{most-open, Vec, Name, name, Cell, blank, set, held, done, Open, State}
+use Rattle.machine.specs.Answer.{Shown, unset, shown, shownOf, shows, wrote}
+use Rattle.machine.specs.Steps.{Out, failing, ready, isNone, read, everywhere, mark, apply, hold, nextNumber, newWrite, raise, write, firstDue, Settled, applyNext, settleBy, settle, reads, Step, Read, Write, Deliver, Trip, step}
+use Rattle.machine.specs.Rules.{In, Frame, Rules}
+use Rattle.machine.specs.Refusals.{Accepted}
+use Rattle.machine.specs.Paper.{Value, Message, Process, READ, sent, returned, a-write, a-read, a-receipt, a-thread, Action, Does, does-write, does-read, does-receipt, does-thread, Runs, ends, then, Idle, vectorOf, valueOf, messageOf, waitingOf, desk, receiptOf, actionsOf, actor, PaperRun}
+use Rattle.machine.specs.Proofs.Kept.{Midway, ReadyAt, ready-next, apply-midway, first-due, step-keeps-rules}
+use Rattle.machine.specs.Proofs.Refusals.{not-refused, step-cases}
+use Rattle.machine.specs.Proofs.Cases.{Delivery, deliver-cases, still-cases, settle-keeps, reads-keep}
+use Rattle.machine.specs.Proofs.Desks.{Waiting, waitingAt, set-all, held-waits, everywhere-at, quiet-idle, read-here, read-there, receipt-here, hold-there, resume-here, apply-there, write-here, write-there}
+
+-- a waiting message that is ready goes on, whatever else waits
+thread : {s : State} {i u k : ℕ} {w : Open} → Frame s → ReadyAt s i u k w → (q : Waiting)
+    → ((v l : ℕ) → (v ≡ u → l ≡ k → ⊥) → q v l ≡ waitingAt i (s .opens) v l) → q u k ≡ some (messageOf u w)
+    → Does (s .desks) i (set-all q (desk s i)) (a-thread (name u k)) (desk (apply s i u k w) i)
+thread {s} {i} {u} {k} {w} f r q same e =
+    let next = ready-next f r in
+    let number = f .open-write u k w (r .is) .number in
+    subst (λ (p : Process). Does (s .desks) i (set-all q (desk s i)) (a-thread (name u k)) p)
+    (resume-here s i u k w q number same)
+    (does-thread (messageOf u w) e (record { others = λ t h ne. next .rest t ne; own = next .next ∙ sym number }))
+
+reads-as : (s : State) (i x : ℕ) → Does (s .desks) i (desk s i) (a-read x) (desk (read s i x) i)
+reads-as s i x = subst (λ (p : Process). Does (s .desks) i (desk s i) (a-read x) p) (read-here s i x) does-read
+
+-- from s to s′: actions at i, nothing elsewhere
+record Moves (s : State) (i : ℕ) (l : List Action) (s′ : State) : Type 0 where
+  desks : s′ .desks ≡ s .desks
+  runs : Runs (s .desks) i (desk s i) l (desk s′ i)
+  others : (j : ℕ) → j ≢ i → desk s′ j ≡ desk s j
+
+-- one application, then the rest
+apply-then : {s : State} {i u k : ℕ} {w : Open} {l : List Action} {s′ : State} → Frame s → ReadyAt s i u k w → w .marks i ≡ held
+    → Moves (apply s i u k w) i l s′ → Moves s i (a-thread (name u k) ∷ l) s′
+apply-then {s} {i} {u} {k} {w} f r h m =
+    record {
+      desks = m .desks;
+      runs = then (thread f r (waitingAt i (s .opens)) (λ v l n. refl) (ap (waitingOf i u) (r .is) ∙ held-waits i u w h)) (m .runs);
+      others = λ j ne. m .others j ne ∙ apply-there s i u k w (f .open-write u k w (r .is) .marks-flat) j ne (ap (waitingOf j u) (sym (r .is)));
+    }
+
+stays : {s : State} {i : ℕ} → Moves s i [] s
+stays = record { desks = refl; runs = ends; others = λ j ne. refl }
+
+abbrev Cascades : State → ℕ → Settled → Type 0
+Cascades s i r = Moves s i (map a-thread (r .names)) (r .state)
+
+cascade : (f : ℕ) {s : State} {i : ℕ} → Midway s i → In (s .desks) i → Cascades s i (settle f s i)
+unfolding settle
+cascade zero m hi = stays
+cascade (suc f) {s} {i} m hi = by (λ s m hi. cascade f m hi) (firstDue s i) refl
+  where
+    by : ((s : State) → Midway s i → In (s .desks) i → Cascades s i (settle f s i)) → (o : Option ℕ) → firstDue s i ≡ o
+        → Cascades s i (settleBy (λ s′. settle f s′ i) s i o)
+    by again none e = stays
+    by again (some u) e =
+        let d = first-due hi e .1 in
+        let k : ℕ = suc (s .applied i u) in
+        subst (λ (o : Option Open). Cascades s i (applyNext (λ s′. settle f s′ i) s i u o)) (sym (d .at .is))
+        (apply-then (m .frame) (d .at) (d .is-held) (again (apply s i u k (d .entry)) (apply-midway m (d .at)) hi))
+
+-- Trip --
+
+trip-reads : (i : ℕ) (xs : List ℕ) (s : State) → Moves s i (map a-read xs) (reads s i xs .state)
+unfolding reads
+trip-reads i [] s = stays
+trip-reads i (x ∷ xs) s =
+    let m = trip-reads i xs (read s i x) in
+    record {
+      desks = m .desks;
+      runs = then (reads-as s i x) (m .runs);
+      others = λ j ne. m .others j ne ∙ read-there s i x j ne;
+    }
+
+-- The steps --
+
+-- the next number of i is not open yet
+new-number : {s : State} (i : ℕ) → Frame s → s .opens i (nextNumber s i) ≡ none
+new-number {s} i f = by (s .opens i (nextNumber s i)) refl
+  where
+    by : (o : Option Open) → s .opens i (nextNumber s i) ≡ o → s .opens i (nextNumber s i) ≡ none
+    by none e = e
+    by (some w) e =
+        let t = f .open-exactly i (nextNumber s i) .0 (rw e) in
+        absurd (omega (arith, t .number .1, f .clocks .own i))
+
+-- the effects at the desk are the actions; with the rules after them, nothing enabled waits
+paper-run-of : {s : State} {a : Step} {o : Out} → Rules (o .state) → Moves s (actor a) (actionsOf s a (o .answer)) (o .state) → PaperRun s a o
+paper-run-of {s} {a} {o} r m =
+    record {
+      runs = m .runs;
+      others = m .others;
+      idle = λ j. subst (λ (n : ℕ). Idle n (desk (o .state) j)) (m .desks) (quiet-idle (o .state) j (r .quiet j));
+    }
+
+-- an outcome that, if accepted, is its actions
+abbrev IsRun : State → Step → Out → Type 0
+IsRun s a o = Accepted (o .answer) → Moves s (actor a) (actionsOf s a (o .answer)) (o .state)
+
+module _ {s : State} (r : Rules s) where
+  write-moves : (i x v : ℕ) → Moves s i (a-write x (record { status = v; writer = i }) ∷ []) (write s i x v)
+  write-moves i x v =
+      let new = new-number i (r .frame) in
+      record {
+        desks = refl;
+        runs = then (subst (λ (p : Process). Does (s .desks) i (desk s i) (a-write x (record { status = v; writer = i })) p) (write-here s i x v new) does-write) ends;
+        others = write-there s i x v new;
+      }
+
+  module _ {i u k : ℕ} {w : Open} (d : Delivery s i u k w) where
+    of-open : {l : List Action} {s′ : State} → Moves s i (a-receipt u (messageOf u w) ∷ l) s′ → Moves s i (receiptOf u (s .opens u k) l) s′
+    of-open {l} {s′} m = subst (λ (o : Option Open). Moves s i (receiptOf u o l) s′) (sym (d .is)) m
+
+    hold-moves : Moves s i (a-receipt u (messageOf u w) ∷ []) (hold s i u k w)
+    hold-moves =
+        record {
+          desks = refl;
+          runs = then (subst (λ (p : Process). Does (s .desks) i (desk s i) (a-receipt u (messageOf u w)) p) (receipt-here s i u k w (r .frame .open-write u k w (d .is) .number)) does-receipt) ends;
+          others = hold-there s i u k w (d .is);
+        }
+
+    apply-moves : failing (s .desks) (s .applied i) u (w .vector) ≡ none
+        → Moves s i (a-receipt u (messageOf u w) ∷ a-thread (name u k) ∷ map a-thread (settle most-open (apply s i u k w) i .names)) (settle most-open (apply s i u k w) i .state)
+    apply-moves e =
+        let o = r .frame .open-write u k w (d .is) in
+        let at : ReadyAt s i u k w = record { desk = d .desk; is = d .is; ready = ap isNone e } in
+        let midway : Midway s i = record { frame = r .frame; quiet = λ j ne. r .quiet j } in
+        let rest = cascade most-open (apply-midway midway at) (d .desk) in
+        record {
+          desks = rest .desks;
+          runs =
+              then does-receipt
+              (then (thread (r .frame) at (upd2 (waitingAt i (s .opens)) u (w .vector u) (some (messageOf u w)))
+              (λ v l n. upd2-other (waitingAt i (s .opens)) u (w .vector u) _ v l (λ p q. n p (q ∙ o .number)))
+              (rw (o .number) (upd2-same (waitingAt i (s .opens)) u k (some (messageOf u w)))))
+              (rest .runs));
+          others = λ j ne. rest .others j ne ∙ apply-there s i u k w (o .marks-flat) j ne (ap (waitingOf j u) (sym (d .is)));
+        }
+
+  moves : (a : Step) → IsRun s a (step s a)
+  moves (Read i x) =
+      step-cases s (Read i x) (IsRun s (Read i x)) (λ r a. absurd (a r refl))
+      (λ h a. record { desks = refl; runs = then (reads-as s i x) ends; others = read-there s i x })
+  moves (Write i x v) = step-cases s (Write i x v) (IsRun s (Write i x v)) (λ r a. absurd (a r refl)) (λ h a. write-moves i x v)
+  moves (Deliver i u k) =
+      deliver-cases s i u k (IsRun s (Deliver i u k)) (λ r a. absurd (a r refl)) (λ w d t e a. of-open d (hold-moves d)) (λ w d e a. of-open d (apply-moves d e))
+  moves (Trip i xs) = step-cases s (Trip i xs) (IsRun s (Trip i xs)) (λ r a. absurd (a r refl)) (λ h a. trip-reads i xs s)
+
+pub paper-run : {s : State} → Rules s → (a : Step) → Accepted (step s a .answer) → PaperRun s a (step s a)
+paper-run r a ok = paper-run-of (step-keeps-rules r a) (moves r a ok)
+
+-- Messages --
+
+-- an open write that stays open keeps its message: cell, status and vector
+abbrev pub KeepsMessage : ℕ → Option Open → Option Open → Type 0
+KeepsMessage u o o′ = (w w′ : Open) → o ≡ some w → o′ ≡ some w′ → messageOf u w′ ≡ messageOf u w
+
+none-some : {A R : Type 0} {a : A} → none ≡ some a → R
+none-some e = absurd (let z : _≡_ {A = ℕ} 0 1 = cc in omega arith)
+
+keeps-self : (u : ℕ) (o : Option Open) → KeepsMessage u o o
+keeps-self u o w w′ e e′ = let same : w′ ≡ w = cc in ap (messageOf u) same
+
+keeps-mark : (u i p : ℕ) {o : Option Open} {w : Open} → KeepsMessage u o (some w) → KeepsMessage u o (some (mark w i p))
+keeps-mark u i p {o} {w} h w₀ w′ e e′ = let same : w′ ≡ mark w i p = cc in ap (messageOf u) same ∙ h w₀ w e refl
+
+module _ (s₀ : State) where
+  -- every open write of s₀ that is open in s
+  abbrev KeepsAll : State → Type 0
+  KeepsAll s = (u k : ℕ) → KeepsMessage u (s₀ .opens u k) (s .opens u k)
+
+  one-keeps : (s : State) (u k : ℕ) (o : Option Open) → KeepsMessage u (s₀ .opens u k) o → KeepsAll s
+      → (v l : ℕ) → KeepsMessage v (s₀ .opens v l) (upd2 (s .opens) u k o v l)
+  one-keeps s u k o h f v l = upd2-all (s .opens) u k o (λ v l o. KeepsMessage v (s₀ .opens v l) o) v l (λ p q. rw (p, q) h) (λ n. f v l)
+
+  apply-keeps : (i : ℕ) (s : State) (u k : ℕ) (w : Open) → KeepsMessage u (s₀ .opens u k) (some w) → KeepsAll s → KeepsAll (apply s i u k w)
+  apply-keeps i s u k w h f =
+      one-keeps s u k _
+      (still-cases (KeepsMessage u (s₀ .opens u k)) (s .desks) (mark w i done) (λ t w w′ e e′. none-some e′) (λ t. keeps-mark u i done h)) f
+
+pub message-kept : {s : State} → Rules s → (a : Step) (u k : ℕ) → KeepsMessage u (s .opens u k) (step s a .state .opens u k)
+message-kept {s} r a = by a
+  where
+    same : KeepsAll s s
+    same u k = keeps-self u (s .opens u k)
+
+    is : (s′ : State) (u k : ℕ) (w : Open) → s′ .opens u k ≡ some w → KeepsAll s s′ → KeepsMessage u (s .opens u k) (some w)
+    is s′ u k w e f = subst (KeepsMessage u (s .opens u k)) e (f u k)
+
+    by : (a : Step) → KeepsAll s (step s a .state)
+    by (Read i x) = step-cases s (Read i x) (λ o. KeepsAll s (o .state)) (λ r. same) (λ h. same)
+    by (Write i x v) =
+        step-cases s (Write i x v) (λ o. KeepsAll s (o .state)) (λ r. same)
+        (λ h. apply-keeps s i (raise s i) i (nextNumber s i) (newWrite s i x v) (λ w w′ e e′. none-some (sym (new-number i (r .frame)) ∙ e)) same)
+    by (Deliver i u k) =
+        deliver-cases s i u k (λ o. KeepsAll s (o .state)) (λ r. same)
+        (λ w d t e. one-keeps s s u k (some (mark w i held)) (keeps-mark u i held (is s u k w (d .is) same)) same)
+        (λ w d e. settle-keeps (KeepsAll s) i (λ s′ u k w e f. apply-keeps s i s′ u k w (is s′ u k w e f) f) most-open (apply s i u k w)
+        (apply-keeps s i s u k w (is s u k w (d .is) same) same))
+    by (Trip i xs) = step-cases s (Trip i xs) (λ o. KeepsAll s (o .state)) (λ r. same) (λ h. reads-keep (KeepsAll s) i (λ s′ x f. f) xs s same)
+
+-- an open write of u with the message m
+pub record OpenAs (u : ℕ) (m : Message) (o : Option Open) : Type 0 where
+  pub entry : Open
+  pub is : o ≡ some entry
+  pub message : messageOf u entry ≡ m
+
+-- where there is another desk, a new write is not yet applied everywhere
+not-everywhere : (s : State) (i x v : ℕ) → 2 ≤ s .desks → everywhere (s .desks) (mark (newWrite s i x v) i done) ≡ true → ⊥
+not-everywhere s i x v two e = same-or i 1 (λ p. lacks 2 (omega arith) (λ q. omega arith)) (λ p. lacks 1 (omega arith) (λ q. p (sym q)))
+  where
+    lacks : (t : ℕ) → In (s .desks) t → t ≢ i → ⊥
+    lacks t h ne =
+        omega (arith, everywhere-at (s .desks) (mark (newWrite s i x v) i done) e t h, upd-other (newWrite s i x v .marks) i done t ne)
+
+-- where there is a desk to send it to, the new open write has the message that figure 4, line 2 sends
+pub message-sent : (s : State) (i x v k : ℕ) → 2 ≤ s .desks → step s (Write i x v) .answer ≡ wrote (name i k)
+    → OpenAs i (sent i x (record { status = v; writer = i }) (desk s i)) (step s (Write i x v) .state .opens i k)
+message-sent s i x v k two =
+    step-cases s (Write i x v) (λ o. o .answer ≡ wrote (name i k) → OpenAs i m (o .state .opens i k))
+    (λ r e. absurd (not-refused (wrote (name i k)) refl r (sym e)))
+    (λ h e. (
+    let same : name i (nextNumber s i) ≡ name i k = cc in
+    rw (← ap (λ (n : Name). n .number) same, upd2-same)
+    (still-cases (OpenAs i m) (s .desks) (mark (newWrite s i x v) i done) (λ e. absurd (not-everywhere s i x v two e)) (λ e. record { entry = mark (newWrite s i x v) i done; is = refl; message = refl }))))
+  where
+    m : Message
+    m = sent i x (record { status = v; writer = i }) (desk s i)
+
+-- what a value and its LastWriteOn vector show: status, writer, and the writer's place in the vector
+abbrev pub shownBy : Option Value → Vec → Shown
+shownBy none w = unset
+shownBy (some v) w = shown (v .status) (v .writer) (w (v .writer))
+
+-- the answer of a read is what figure 5, line 2 returns
+pub read-returns : (s : State) (i x : ℕ) → Accepted (step s (Read i x) .answer)
+    → step s (Read i x) .answer ≡ (let p : Process = READ x (desk s i) in shows (shownBy (returned x p) (p .LastWriteOn x)))
+read-returns s i x =
+    step-cases s (Read i x) (λ o. Accepted (o .answer) → o .answer ≡ shows (shownBy (valueOf (s .cell i x)) (vectorOf (s .cell i x))))
+    (λ r a. absurd (a r refl))
+    (λ h a. ap shows (of-cell (s .cell i x)))
+  where
+    of-cell : (c : Cell) → shownOf c ≡ shownBy (valueOf c) (vectorOf c)
+    of-cell blank = refl
+    of-cell (set v u w) = refl
