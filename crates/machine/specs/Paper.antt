@@ -8,7 +8,7 @@ use Prim.Native.Nat.{ℕ, suc, _≤_, max}
 use lib.Dec.{eqb}
 use Rattle.laws.specs.Update.{upd, upd2}
 use Rattle.machine.specs.Table.{Vec, zeros, Name, name, Cell, blank, set, held, Open, State}
-use Rattle.machine.specs.Answer.{Answer, began, shows, wrote, holds, applies, judged, refused}
+use Rattle.machine.specs.Answer.{Shown, unset, shown, Answer, began, shows, wrote, holds, applies, judged, refused}
 use Rattle.machine.specs.Steps.{Step, Read, Write, Deliver, Trip, Out, step}
 use Rattle.machine.specs.Rules.{In}
 
@@ -179,3 +179,20 @@ pub record PaperRun (s : State) (a : Step) (o : Out) : Type 0 where
   pub runs : Runs (s .desks) (actor a) (desk s (actor a)) (actionsOf s a (o .answer)) (desk (o .state) (actor a))
   pub others : (j : ℕ) → j ≢ actor a → desk (o .state) j ≡ desk s j
   pub idle : (j : ℕ) → Idle (s .desks) (desk (o .state) j)
+
+-- What is delivered is what was sent, and what a read answers is what figure 5 returns --
+
+-- an open write that stays open keeps its message: cell, status and vector
+abbrev pub KeepsMessage : ℕ → Option Open → Option Open → Type 0
+KeepsMessage u o o′ = (w w′ : Open) → o ≡ some w → o′ ≡ some w′ → messageOf u w′ ≡ messageOf u w
+
+-- an open write of u with the message m
+pub record OpenAs (u : ℕ) (m : Message) (o : Option Open) : Type 0 where
+  pub entry : Open
+  pub is : o ≡ some entry
+  pub message : messageOf u entry ≡ m
+
+-- what a value and its LastWriteOn vector show: status, writer, and the writer's place in the vector
+abbrev pub shownBy : Option Value → Vec → Shown
+shownBy none w = unset
+shownBy (some v) w = shown (v .status) (v .writer) (w (v .writer))

@@ -12,7 +12,7 @@ use Rattle.machine.specs.Answer.{Shown, unset, shown, shownOf, shows, wr
 use Rattle.machine.specs.Steps.{Out, failing, ready, isNone, read, everywhere, mark, apply, hold, nextNumber, newWrite, raise, write, firstDue, Settled, applyNext, settleBy, settle, reads, Step, Read, Write, Deliver, Trip, step}
 use Rattle.machine.specs.Rules.{In, Frame, Rules}
 use Rattle.machine.specs.Refusals.{Accepted}
-use Rattle.machine.specs.Paper.{Value, Message, Process, READ, sent, returned, a-write, a-read, a-receipt, a-thread, Action, Does, does-write, does-read, does-receipt, does-thread, Runs, ends, then, Idle, vectorOf, valueOf, messageOf, waitingOf, desk, receiptOf, actionsOf, actor, PaperRun}
+use Rattle.machine.specs.Paper.{Value, Message, Process, READ, sent, returned, a-write, a-read, a-receipt, a-thread, Action, Does, does-write, does-read, does-receipt, does-thread, Runs, ends, then, Idle, vectorOf, valueOf, messageOf, waitingOf, desk, receiptOf, actionsOf, actor, PaperRun, KeepsMessage, OpenAs, shownBy}
 use Rattle.machine.specs.Proofs.Kept.{Midway, ReadyAt, ready-next, apply-midway, first-due, step-keeps-rules}
 use Rattle.machine.specs.Proofs.Refusals.{not-refused, step-cases}
 use Rattle.machine.specs.Proofs.Cases.{Delivery, deliver-cases, still-cases, settle-keeps, reads-keep}
@@ -160,10 +160,6 @@ paper-run r a ok = paper-run-of (step-keeps-rules r a) (moves r a ok)
 
 -- Messages --
 
--- an open write that stays open keeps its message: cell, status and vector
-abbrev pub KeepsMessage : ℕ → Option Open → Option Open → Type 0
-KeepsMessage u o o′ = (w w′ : Open) → o ≡ some w → o′ ≡ some w′ → messageOf u w′ ≡ messageOf u w
-
 none-some : {A R : Type 0} {a : A} → none ≡ some a → R
 none-some e = absurd (let z : _≡_ {A = ℕ} 0 1 = cc in omega arith)
 
@@ -208,12 +204,6 @@ message-kept {s} r a = by a
         (apply-keeps s i s u k w (is s u k w (d .is) same) same))
     by (Trip i xs) = step-cases s (Trip i xs) (λ o. KeepsAll s (o .state)) (λ r. same) (λ h. reads-keep (KeepsAll s) i (λ s′ x f. f) xs s same)
 
--- an open write of u with the message m
-pub record OpenAs (u : ℕ) (m : Message) (o : Option Open) : Type 0 where
-  pub entry : Open
-  pub is : o ≡ some entry
-  pub message : messageOf u entry ≡ m
-
 -- where there is another desk, a new write is not yet applied everywhere
 not-everywhere : (s : State) (i x v : ℕ) → 2 ≤ s .desks → everywhere (s .desks) (mark (newWrite s i x v) i done) ≡ true → ⊥
 not-everywhere s i x v two e = same-or i 1 (λ p. lacks 2 (omega arith) (λ q. omega arith)) (λ p. lacks 1 (omega arith) (λ q. p (sym q)))
@@ -235,11 +225,6 @@ message-sent s i x v k two =
   where
     m : Message
     m = sent i x (record { status = v; writer = i }) (desk s i)
-
--- what a value and its LastWriteOn vector show: status, writer, and the writer's place in the vector
-abbrev pub shownBy : Option Value → Vec → Shown
-shownBy none w = unset
-shownBy (some v) w = shown (v .status) (v .writer) (w (v .writer))
 
 -- the answer of a read is what figure 5, line 2 returns
 pub read-returns : (s : State) (i x : ℕ) → Accepted (step s (Read i x) .answer)
