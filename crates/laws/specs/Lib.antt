@@ -4,6 +4,7 @@ pub mod Says
 pub mod Update
 pub mod Sum
 pub mod Lists
+pub mod Ends
 pub mod Find
 pub mod Count
 pub mod Tab

@@ -16,6 +16,10 @@ unfoldable pub every : {A : Type 0} → (A → Bool) → List A → Bool
 every p [] = true
 every p (x ∷ l) = elim (p x) [ true ↦ every p l | false ↦ false ]
 
+pub every-cons : {A : Type 0} (p : A → Bool) (x : A) (l : List A) → every p (x ∷ l) ≡ true → (p x ≡ true) × (every p l ≡ true)
+unfolding every
+every-cons p x l e = cases (p x) (λ t. (t, rw (t, every) at e)) (λ t. clash (rw (t, every) at e))
+
 -- an element with a property
 pub record Some {A : Type 0} (P : A → Type 0) (l : List A) : Type 0 where
   pub element : A

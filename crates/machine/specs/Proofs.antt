@@ -9,3 +9,12 @@ pub mod Cases
 pub mod Blanks
 pub mod Desks
 pub mod Paper
+pub mod Order
+pub mod Entries
+pub mod Story
+pub mod Traced
+pub mod Small
+pub mod Marked
+pub mod Observed
+pub mod Runs
+pub mod Demand3
