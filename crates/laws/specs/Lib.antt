@@ -12,3 +12,8 @@ pub mod Fold
 pub mod Run
 pub mod Put
 pub mod Own
+pub mod Cat
+pub mod Each
+pub mod Chunk
+pub mod From
+pub mod Tests

@@ -1,0 +1,42 @@
+-- The check of a block: one definition, and all that anything else knows of it.
+use Prim.Native.Nat.{ℕ, _+_, _*_, _<_, _≤_, pred}
+use mathlib.Core.Path.{_≡_, refl, ap}
+use mathlib.Core.List.{List, _++_}
+use native.Mathlib.Omega.{arith}
+use native.Mathlib.Nat.{mul-le-mul-left}
+use lib.ListN.{length, getD, List·getD-append}
+use Rattle.laws.specs.Sum.{sum, sum-same, sum-le}
+use Rattle.laws.specs.Each.{Each, each-at}
+
+abbrev pub Byte : ℕ → Type 0
+Byte x = x < 256
+
+abbrev pub Bytes : List ℕ → Type 0
+Bytes l = Each Byte l
+
+-- "The check is 1 plus the sum, over j from 0 to 507, of (j+1) times byte j": here j counts from 1 to 508
+abbrev pub weighed : List ℕ → ℕ → ℕ
+weighed b j = j * getD b (pred j) 0
+
+unfoldable pub checkOf : List ℕ → ℕ
+checkOf b = 1 + sum 508 (weighed b)
+
+-- it looks at the first 508 bytes alone
+pub check-first : (b z : List ℕ) → length b ≡ 508 → checkOf (b ++ z) ≡ checkOf b
+unfolding checkOf
+check-first b z e =
+    ap (λ (x : ℕ). 1 + x)
+    (sum-same 508 (weighed b) (weighed (b ++ z)) (λ j l h. ap (λ (x : ℕ). j * x) (List·getD-append b z 0 (pred j) (omega arith))))
+
+-- "its largest value is 32,967,931"
+largest : 1 + sum 508 (λ j. j * 255) ≡ 32967931
+unfolding sum
+largest = refl
+
+pub check-most : (b : List ℕ) → Bytes b → checkOf b ≤ 32967931
+unfolding checkOf
+check-most b h =
+    omega (arith, largest, sum-le 508 (weighed b) (λ j. j * 255) (λ j _ _. mul-le-mul-left j (byte j)))
+  where
+    byte : (j : ℕ) → getD b (pred j) 0 ≤ 255
+    byte j = omega (arith, each-at Byte b 0 (omega arith) h (pred j))

@@ -1,0 +1,98 @@
+-- Document 01, "Saved image": the bytes of a table. Desks and cells count from 1, so where i counts from 0 the desk is suc i.
+use Prim.Native.Nat.{ℕ, suc, _+_, _-_, _*_, _/_, _%_}
+use mathlib.Core.List.{List, [], _∷_, _++_, map}
+use mathlib.Core.Option.{Option, none, some}
+use lib.ListN.{length, getD, replicate}
+use Rattle.laws.specs.Tab.{tab}
+use Rattle.laws.specs.Cat.{cat}
+use Rattle.machine.specs.Table.{most-desks, Vec, Name, Cell, blank, set, Open, State}
+use Rattle.machine.specs.Steps.{openCount}
+use Rattle.image.specs.Names.{names}
+use Rattle.image.specs.Check.{checkOf}
+
+-- "numbers little-endian": of 16 bits, of 32 bits
+abbrev pub word : ℕ → List ℕ
+word x = x % 256 ∷ x / 256 ∷ []
+
+abbrev pub long : ℕ → List ℕ
+long x = x % 256 ∷ x / 256 % 256 ∷ x / 65536 % 256 ∷ x / 16777216 ∷ []
+
+-- "8 vector places of 16 bits"
+unfoldable pub words : Vec → List ℕ
+words v = cat (λ t. word (v (suc t))) most-desks
+
+-- "for each of 8 desks 0 not received, 1 held, 2 applied"
+unfoldable pub markBytes : Vec → List ℕ
+markBytes v = tab most-desks (λ t. v (suc t))
+
+-- "Blocks of 512 bytes; bytes not named are zero. Byte 0 kind, 1 edition (1), 2-3 the block's place from 0, 4-507 payload,
+-- 508-511 check."
+abbrev pub body : ℕ → ℕ → List ℕ → List ℕ
+body kind place payload = kind ∷ 1 ∷ (word place ++ (payload ++ replicate (504 - length payload) 0))
+
+abbrev pub sealed : List ℕ → List ℕ
+sealed b = b ++ long (checkOf b)
+
+unfoldable pub block : ℕ → ℕ → List ℕ → List ℕ
+block kind place payload = sealed (body kind place payload)
+
+-- "Kind 1, one: payload n, m, open count, a byte each."
+abbrev pub block1 : State → List ℕ
+block1 s = block 1 0 (s .desks ∷ s .cells ∷ openCount s ∷ [])
+
+-- "Kind 2, one for each desk: desk number, 3 zeros, 8 applied counts, 8 clock places, 16 bits each."
+unfoldable pub deskBytes : ℕ → Vec → Vec → List ℕ
+deskBytes i applied clock = i ∷ 0 ∷ 0 ∷ 0 ∷ (words applied ++ words clock)
+
+abbrev pub block2 : State → ℕ → List ℕ
+block2 s i = block 2 (1 + i) (deskBytes (suc i) (s .applied (suc i)) (s .clock (suc i)))
+
+-- "20 bytes each: writer (0 unset, then all zero), status, 2 zeros, 8 vector places"
+unfoldable pub cellBytes : Cell → List ℕ
+cellBytes blank = replicate 20 0
+cellBytes (set v u w) = u ∷ v ∷ 0 ∷ 0 ∷ words w
+
+-- "Kind 3, desk by desk, each desk from a new block, 25 cells to a block": the q-th block of a desk has the cells 25 * q + 1 on
+unfoldable pub cellPart : State → ℕ → ℕ → ℕ → List ℕ
+cellPart s i q j = cellBytes (s .cell (suc i) (suc (25 * q + j)))
+
+unfoldable pub perDesk : ℕ → ℕ
+perDesk m = (m + 24) / 25
+
+abbrev pub block3 : State → ℕ → ℕ → List ℕ
+block3 s i q = block 3 (1 + s .desks + perDesk (s .cells) * i + q) (cat (cellPart s i q) 25)
+
+-- "28 bytes each: writer, status, cell, zero, 8 vector places, then for each of 8 desks .."
+unfoldable pub openBytes : ℕ → Option Open → List ℕ
+openBytes u none = replicate 28 0
+openBytes u (some w) = u ∷ w .status ∷ w .cell ∷ 0 ∷ (words (w .vector) ++ markBytes (w .marks))
+
+abbrev pub named : State → Name → List ℕ
+named s w = openBytes (w .writer) (s .opens (w .writer) (w .number))
+
+-- "Kind 4, 18 open writes to a block, by writer then number": those of the q-th block, and zeros past the last
+unfoldable pub openPart : State → ℕ → ℕ → List ℕ
+openPart s q j = getD (map (named s) (names s)) (18 * q + j) (replicate 28 0)
+
+-- "No kind 4 block when nothing is open."
+unfoldable pub openBlocks : State → ℕ
+openBlocks s = (openCount s + 17) / 18
+
+abbrev pub block4 : State → ℕ → List ℕ
+block4 s q = block 4 (1 + s .desks + perDesk (s .cells) * s .desks + q) (cat (openPart s q) 18)
+
+-- "Blocks stand by kind, 1 to 4, and nothing follows them."
+abbrev pub kind2 : State → List ℕ
+kind2 s = cat (block2 s) (s .desks)
+
+abbrev pub kind3 : State → List ℕ
+kind3 s = cat (λ i. cat (block3 s i) (perDesk (s .cells))) (s .desks)
+
+abbrev pub kind4 : State → List ℕ
+kind4 s = cat (block4 s) (openBlocks s)
+
+unfoldable pub encode : State → List ℕ
+encode s = block1 s ++ (kind2 s ++ (kind3 s ++ kind4 s))
+
+abbrev pub blocks : State → ℕ
+blocks s = 1 + s .desks + perDesk (s .cells) * s .desks + openBlocks s

@@ -1,0 +1,15 @@
+pub mod Within
+pub mod Names
+pub mod Check
+pub mod Encode
+pub mod Fields
+pub mod Places
+pub mod Decode
+pub mod Bytes
+pub mod Sound
+pub mod Keeps
+pub mod Tells
+pub mod Shape
+pub mod Load
+pub mod Counted
+pub mod Examples

@@ -1,0 +1,90 @@
+-- What 12 is given for: "image length not a nonzero multiple of 512, or a block check wrong". No saved image is damaged.
+use Prim.Native.Nat.{ℕ, suc, _+_, _*_, _/_, _%_, _<_, _≤_}
+use mathlib.Core.Path.{_≡_}
+use mathlib.Core.Bool.{Bool, _&&_}
+use mathlib.Core.List.{List, [], _∷_, _++_}
+use native.Mathlib.Omega.{arith}
+use lib.Dec.{eqb, leb}
+use lib.ListN.{length, getD}
+use lib.Seq.{getD-append-add}
+use Rattle.laws.specs.All.{all}
+use Rattle.laws.specs.Says.{Says, says-leb, says-eqb, says-all, says-as, says-both}
+use Rattle.laws.specs.Cat.{cat, part}
+use Rattle.laws.specs.Chunk.{Chunked, chunk-one, chunk-append, chunk-cat}
+use Rattle.machine.specs.Table.{State}
+use Rattle.machine.specs.Steps.{openCount}
+use Rattle.image.specs.Check.{checkOf, check-first}
+use Rattle.image.specs.Encode.{long, body, block, deskBytes, cellPart, openPart, perDesk, openBlocks, block1, block2, block3, block4, kind2, kind3, kind4, encode}
+use Rattle.image.specs.Fields.{length-desk}
+use Rattle.image.specs.Places.{length-encode, length-body, length-block, length-cells, length-opens}
+
+-- bytes 508-511 of a block
+unfoldable pub checkIn : List ℕ → ℕ
+checkIn l = getD l 508 0 + 256 * getD l 509 0 + 65536 * getD l 510 0 + 16777216 * getD l 511 0
+
+-- the block at place k
+abbrev pub blockIn : List ℕ → ℕ → List ℕ
+blockIn b k = part (512 * k) 512 b
+
+-- its check is right
+abbrev pub Right : List ℕ → Type 0
+Right l = checkIn l ≡ checkOf l
+
+pub record Sound (b : List ℕ) : Type 0 where
+  pub nonzero : 1 ≤ length b
+  pub multiple : length b % 512 ≡ 0
+  pub checks : (k : ℕ) → k < length b / 512 → Right (blockIn b k)
+
+abbrev pub Damaged : List ℕ → Type 0
+Damaged b = Sound b → ⊥
+
+-- as a test
+unfoldable pub sound : List ℕ → Bool
+sound b =
+    leb 1 (length b) && (eqb (length b % 512) 0 && all (λ k. eqb (checkIn (blockIn b k)) (checkOf (blockIn b k))) (length b / 512) 0)
+
+pub says-sound : (b : List ℕ) → Says (sound b) (Sound b)
+unfolding sound
+says-sound b =
+    says-as (sound b)
+    (says-both _ _ (says-leb 1 (length b)) (says-both _ _ (says-eqb (length b % 512) 0)
+    (says-all _ (length b / 512) (λ k _. says-eqb (checkIn (blockIn b k)) (checkOf (blockIn b k))))))
+    (λ h. record { nonzero = h .0; multiple = h .1 .0; checks = h .1 .1 })
+    (λ h. (h .nonzero, (h .multiple, h .checks)))
+
+right-block : (kind place : ℕ) (l : List ℕ) → length l ≤ 504 → Right (block kind place l)
+unfolding checkIn block
+right-block kind place l h =
+    let b = body kind place l in
+    let e = length-body kind place l h in
+    let c = checkOf b in
+    let tail = getD-append-add b (long c) in
+    rw (check-first b (long c) e, rw e at (tail 0 0), rw e at (tail 1 0), rw e at (tail 2 0), rw e at (tail 3 0)) (omega arith)
+
+one-block : (kind place : ℕ) (l : List ℕ) → length l ≤ 504 → Chunked Right 512 (block kind place l)
+one-block kind place l h = chunk-one Right 512 (block kind place l) (length-block kind place l h) (right-block kind place l h)
+
+module _ (s : State) where
+  chunked : Chunked Right 512 (encode s)
+  unfolding encode
+  chunked =
+      chunk-append Right 512 (block1 s) (kind2 s ++ (kind3 s ++ kind4 s)) (one-block 1 0 (s .desks ∷ s .cells ∷ openCount s ∷ []) (omega arith))
+      (chunk-append Right 512 (kind2 s) (kind3 s ++ kind4 s)
+      (chunk-cat Right 512 (block2 s) (s .desks)
+      (λ i _. one-block 2 (1 + i) (deskBytes (suc i) (s .applied (suc i)) (s .clock (suc i))) (omega (arith, length-desk (suc i) (s .applied (suc i)) (s .clock (suc i))))))
+      (chunk-append Right 512 (kind3 s) (kind4 s)
+      (chunk-cat Right 512 (λ i. cat (block3 s i) (perDesk (s .cells))) (s .desks)
+      (λ i _. chunk-cat Right 512 (block3 s i) (perDesk (s .cells))
+      (λ q _. one-block 3 (1 + s .desks + perDesk (s .cells) * i + q) (cat (cellPart s i q) 25) (omega (arith, length-cells s i q 25)))))
+      (chunk-cat Right 512 (block4 s) (openBlocks s)
+      (λ q _. one-block 4 (1 + s .desks + perDesk (s .cells) * s .desks + q) (cat (openPart s q) 18) (omega (arith, length-opens s q 18))))))
+
+  -- a saved image has a length that is a nonzero multiple of 512, and every block's check is right
+  pub sound-encode : Sound (encode s)
+  sound-encode =
+      let e = length-encode s in
+      record {
+        nonzero = omega arith;
+        multiple = rw e (omega arith);
+        checks = λ k h. chunked .at k (omega (arith, chunked .size));
+      }
