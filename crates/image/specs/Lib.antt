@@ -13,3 +13,4 @@ pub mod Shape
 pub mod Load
 pub mod Counted
 pub mod Examples
+pub mod Reload

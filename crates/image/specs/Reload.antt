@@ -1,0 +1,36 @@
+-- Saving a table and loading it again, as a step of a schedule: demand 3 and the condition on blanks with nothing assumed.
+use mathlib.Core.Path.{_≡_, ap}
+use mathlib.Core.List.{List}
+use Prim.Native.Nat.{ℕ}
+use Rattle.machine.specs.Table.{most-desks, most-cells, State, fresh}
+use Rattle.machine.specs.Answer.{unset}
+use Rattle.machine.specs.Steps.{shownAt}
+use Rattle.machine.specs.Rules.{In, Rules}
+use Rattle.machine.specs.History.{Act, run, history}
+use Rattle.machine.specs.Blanks.{Unwritten}
+use Rattle.machine.specs.Demand3.{Demand3}
+use Rattle.machine.specs.Proofs.Blanks as blanks
+use Rattle.machine.specs.Proofs.Demand3 as machine
+use Rattle.image.specs.Encode.{encode}
+use Rattle.image.specs.Load.{Loaded, refused, loaded, load, load-encode}
+
+-- a refused image leaves the table that was
+abbrev pub afterLoad : State → Loaded → State
+afterLoad s (refused r) = s
+afterLoad s (loaded t) = t
+
+unfoldable pub reload : State → State
+reload s = afterLoad s (load (encode s))
+
+pub reload-same : (s : State) → Rules s → reload s ≡ s
+unfolding reload
+reload-same s r = ap (afterLoad s) (load-encode s r)
+
+-- of every schedule from a fresh table, with saves and reloads anywhere
+pub demand-3 : (n m : ℕ) → In most-desks n → In most-cells m → (l : List Act)
+    → Demand3 (run reload (fresh n m) l) (history reload (fresh n m) l)
+demand-3 n m = machine.demand-3 reload reload-same n m
+
+pub never-written-reads-unset : (n m : ℕ) → In most-desks n → In most-cells m → (l : List Act) (x : ℕ)
+    → Unwritten x (history reload (fresh n m) l) → (i : ℕ) → shownAt (run reload (fresh n m) l) i x ≡ unset
+never-written-reads-unset n m = blanks.never-written-reads-unset reload reload-same n m
