@@ -17,3 +17,5 @@ pub mod Each
 pub mod Chunk
 pub mod From
 pub mod Tests
+pub mod Stores
+pub mod Text

@@ -1,0 +1,23 @@
+-- The head, and the number behind it.
+use native.Mathlib.Omega.{arith}
+use borrow.Author.Needs.{needs}
+use lib.ListN.{length-append}
+use Rattle.laws.specs.Stores.{left-start, left-put, left-last}
+use Rattle.answer.specs.Bytes.{decimal}
+use Rattle.answer.proofs.put_field.Statement.{statement}
+use Rattle.answer.proofs.put_field.Tie as tie
+
+put-words-requires : tie.Need-put-words-requires
+put-words-requires c κs = let a = c .before .before .before .args in omega (arith, length-append (a .head .now) (decimal (a .k)))
+
+put-number-requires : tie.Need-put-number-requires
+put-number-requires c κs = let a = c .before .before .before .before .before .before .before .args in omega (arith, length-append (a .head .now) (decimal (a .k)), c .before .before .before .put-words .kept .0)
+
+same-length : tie.Need-same-length
+same-length c = search needs
+
+returns : tie.Need-returns
+returns c = left-last (c .before .before .put-number .ensures) (left-put (c .before .before .before .before .before .before .put-words .ensures) left-start)
+
+pub put-field-spec : {M : Type 1} → statement M
+put-field-spec = tie.close (tie.spec put-words-requires put-number-requires same-length returns)

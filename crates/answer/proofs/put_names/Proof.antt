@@ -1,0 +1,111 @@
+-- What is left of the names makes the whole.
+use Prim.Native.Nat.{_+_, _-_, _≤_}
+use mathlib.Core.Path.{refl, ap}
+use native.Mathlib.Omega.{arith}
+use borrow.Author.Needs.{needs}
+use lib.ListN.{length, length-set}
+use Rattle.laws.specs.Stores.{Left, stored-one, left-start, left-put, left-none}
+use Rattle.answer.specs.Names.{namesLeft, names-start, names-next, names-longer, names-end}
+use Rattle.answer.proofs.put_names.Statement.{statement}
+use Rattle.answer.proofs.put_names.Tie as tie
+
+abbrev Inv-loop : tie.InvT-loop
+Inv-loop out₀ at names count n p₀ j₀ out p j = (j ≤ n) × ((at + length (namesLeft n names 0) ≤ length out₀) × Left out₀ at (namesLeft n names 0) out p (namesLeft n names j))
+
+abbrev μ-loop : tie.MeasureT-loop
+μ-loop out₀ at names count n p₀ j₀ out p j = n - j
+
+name-count-requires : tie.Need-name-count-requires Inv-loop μ-loop
+name-count-requires c κs = search needs
+
+loop-holds : tie.Need-loop-holds Inv-loop μ-loop
+loop-holds c = let a = c .before .before .args in
+    let e = ap length (names-start (c .name-count .result) (a .count) (a .names .now) (c .name-count .ensures .0)) in
+    (search needs, (omega arith, left-start))
+
+slice-write-out : tie.Need-slice-write-out Inv-loop μ-loop
+slice-write-out c = let n = c .before .before .name-count .result in
+    let names = c .before .before .before .before .args .names .now in
+    omega (arith, names-longer n names (c .before .loop .j) (search needs))
+
+add-put-name : tie.Need-add-put-name Inv-loop μ-loop
+add-put-name c = let n = c .before .before .before .name-count .result in
+    let names = c .before .before .before .before .before .args .names .now in
+    omega (arith, names-longer n names (c .before .before .loop .j) (search needs))
+
+mul-put-name : tie.Need-mul-put-name Inv-loop μ-loop
+mul-put-name c = search needs
+
+mul-put-name-2 : tie.Need-mul-put-name-2 Inv-loop μ-loop
+mul-put-name-2 c = search needs
+
+element-copy-out-put-name : tie.Need-element-copy-out-put-name Inv-loop μ-loop
+element-copy-out-put-name c = search needs
+
+mul-put-name-3 : tie.Need-mul-put-name-3 Inv-loop μ-loop
+mul-put-name-3 c = search needs
+
+add-put-name-2 : tie.Need-add-put-name-2 Inv-loop μ-loop
+add-put-name-2 c = search needs
+
+mul-put-name-4 : tie.Need-mul-put-name-4 Inv-loop μ-loop
+mul-put-name-4 c = search needs
+
+element-copy-out-put-name-2 : tie.Need-element-copy-out-put-name-2 Inv-loop μ-loop
+element-copy-out-put-name-2 c = search needs
+
+put-name-requires : tie.Need-put-name-requires Inv-loop μ-loop
+put-name-requires c κs = let n = c .before .before .before .before .before .name-count .result in
+    let names = c .before .before .before .before .before .before .before .args .names .now in
+    simp length-set (omega (arith, names-longer n names (c .before .before .before .before .loop .j) (search needs)))
+
+add-j : tie.Need-add-j Inv-loop μ-loop
+add-j c = search needs
+
+loop-less : tie.Need-loop-less Inv-loop μ-loop
+loop-less c = search needs
+
+loop-again : tie.Need-loop-again Inv-loop μ-loop
+loop-again c = let n = c .before .before .before .before .before .before .before .before .name-count .result in
+    let names = c .before .before .before .before .before .before .before .before .before .before .args .names .now in
+    let L = c .before .before .before .before .before .before .before .loop in (
+      search needs,
+      (
+        L .inv .1 .0,
+        left-put (c .before .before .put-name .ensures) (left-put (stored-one refl) (rw (names-next n names (L .j) (search needs)) at (L .inv .1 .1))),
+      ),
+    )
+
+same-length : tie.Need-same-length Inv-loop μ-loop
+same-length c = c .before .loop .inv .1 .1 .long
+
+returns : tie.Need-returns Inv-loop μ-loop
+returns c = let n = c .before .before .name-count .result in
+    let names = c .before .before .before .before .args .names .now in
+    let L = c .before .loop in
+    rw (← names-start n (c .before .before .before .before .args .count) names (c .before .before .name-count .ensures .0))
+    (left-none (rw (names-end n names (L .j) (search needs)) at (L .inv .1 .1)))
+
+pub put-names-spec : {M : Type 1} → statement M
+put-names-spec =
+    tie.close
+    (tie.spec
+    Inv-loop
+    μ-loop
+    name-count-requires
+    loop-holds
+    slice-write-out
+    add-put-name
+    mul-put-name
+    mul-put-name-2
+    element-copy-out-put-name
+    mul-put-name-3
+    add-put-name-2
+    mul-put-name-4
+    element-copy-out-put-name-2
+    put-name-requires
+    add-j
+    loop-less
+    loop-again
+    same-length
+    returns)

@@ -1,0 +1,108 @@
+-- What is left, in place of the digits to come, makes the whole number.
+use Prim.Native.Nat.{ℕ, _+_, _/_, _%_, _≤_, _<_}
+use mathlib.Core.Path.{_≡_, refl, sym, ap, _∙_}
+use mathlib.Core.List.{List, [], _∷_}
+use native.Mathlib.Omega.{arith}
+use borrow.Author.Needs.{needs}
+use lib.ListN.{length, set, length-set}
+use lib.Seq.{sets}
+use Rattle.laws.specs.Stores.{sets-last}
+use Rattle.answer.specs.Bytes.{decimal}
+use Rattle.answer.specs.Decimal.{decimal-one, decimal-more, decimal-longer, decimal-some}
+use Rattle.answer.proofs.put_number.Statement.{statement}
+use Rattle.answer.proofs.put_number.Tie as tie
+
+-- a turn stores the last digit of what is left
+turn : (out : List ℕ) (at p v : ℕ) → 10 ≤ v → p + 1 ≡ at + length (decimal v) → sets (set out p (48 + v % 10)) at (decimal (v / 10)) ≡ sets out at (decimal v)
+turn out at p v h e =
+    let q : p ≡ at + length (decimal (v / 10)) = omega (arith, decimal-longer v h) in
+    rw (decimal-more v h, q) (sym (sets-last (decimal (v / 10)) out at (48 + v % 10)))
+
+-- one digit is left
+last : (out : List ℕ) (at p v : ℕ) → v < 10 → p + 1 ≡ at + length (decimal v) → set out p (48 + v) ≡ sets out at (decimal v)
+last out at p v h e =
+    let d : decimal v ≡ (48 + v) ∷ [] = decimal-one v h in
+    let q : p ≡ at = omega (arith, ap length d) in
+    rw (d, q)
+
+abbrev Inv-loop : tie.InvT-loop
+Inv-loop out₀ at k end p₀ v₀ out p v = (p + 1 ≡ at + length (decimal v)) × ((p < length out₀) × ((length out ≡ length out₀) × (sets out at (decimal v) ≡ sets out₀ at (decimal k))))
+
+abbrev μ-loop : tie.MeasureT-loop
+μ-loop out₀ at k end p₀ v₀ out p v = v
+
+digit-count-requires : tie.Need-digit-count-requires Inv-loop μ-loop
+digit-count-requires c κs = search needs
+
+add-end : tie.Need-add-end Inv-loop μ-loop
+add-end c = search needs
+
+sub-p : tie.Need-sub-p Inv-loop μ-loop
+sub-p c = omega (arith, decimal-some (c .before .before .args .k))
+
+loop-holds : tie.Need-loop-holds Inv-loop μ-loop
+loop-holds c = let o = decimal-some (c .before .before .args .k) in (omega arith, (omega arith, (refl, refl)))
+
+digit-requires : tie.Need-digit-requires Inv-loop μ-loop
+digit-requires c κs = search needs
+
+slice-write-out : tie.Need-slice-write-out Inv-loop μ-loop
+slice-write-out c = search needs
+
+sub-p-2 : tie.Need-sub-p-2 Inv-loop μ-loop
+sub-p-2 c = let L = c .before .before .loop in omega (arith, decimal-longer (L .v) (search needs), decimal-some (L .v / 10))
+
+loop-less : tie.Need-loop-less Inv-loop μ-loop
+loop-less c = search needs
+
+loop-again : tie.Need-loop-again Inv-loop μ-loop
+loop-again c = let L = c .before .before .loop in
+    let h : 10 ≤ L .v = search needs in
+    let l = decimal-longer (L .v) h in
+    let o = decimal-some (L .v / 10) in (
+      omega arith,
+      (
+        omega arith,
+        (
+          length-set (L .out) (L .p) (c .digit .result) ∙ L .inv .1 .1 .0,
+          rw (c .digit .ensures) (turn (L .out) (c .before .before .before .before .before .args .at) (L .p) (L .v) h (L .inv .0) ∙ L .inv .1 .1 .1),
+        ),
+      ),
+    )
+
+digit-requires-2 : tie.Need-digit-requires-2 Inv-loop μ-loop
+digit-requires-2 c κs = search needs
+
+slice-write-out-2 : tie.Need-slice-write-out-2 Inv-loop μ-loop
+slice-write-out-2 c = search needs
+
+same-length : tie.Need-same-length Inv-loop μ-loop
+same-length c = search needs
+
+returns : tie.Need-returns Inv-loop μ-loop
+returns c = let L = c .before .before .loop in
+    record {
+      stored =
+          rw (c .digit2 .ensures) (last (L .out) (c .before .before .before .before .before .args .at) (L .p) (L .v) (search needs) (L .inv .0) ∙ L .inv .1 .1 .1);
+      behind = search needs;
+    }
+
+pub put-number-spec : {M : Type 1} → statement M
+put-number-spec =
+    tie.close
+    (tie.spec
+    Inv-loop
+    μ-loop
+    digit-count-requires
+    add-end
+    sub-p
+    loop-holds
+    digit-requires
+    slice-write-out
+    sub-p-2
+    loop-less
+    loop-again
+    digit-requires-2
+    slice-write-out-2
+    same-length
+    returns)

@@ -1,0 +1,43 @@
+-- The status, a space and the name.
+use mathlib.Core.Path.{refl}
+use native.Mathlib.Omega.{arith}
+use borrow.Author.Needs.{needs}
+use lib.ListN.{length-set}
+use Rattle.laws.specs.Stores.{stored-one, stored-long, left-from, left-put, left-last}
+use Rattle.answer.specs.Names.{shown-parts, shown-length}
+use Rattle.answer.proofs.put_shown.Statement.{statement}
+use Rattle.answer.proofs.put_shown.Tie as tie
+
+slice-aggregate-put-field : tie.Need-slice-aggregate-put-field
+slice-aggregate-put-field c = search needs
+
+put-field-requires : tie.Need-put-field-requires
+put-field-requires c κs = let a = c .before .before .before .args in omega (arith, shown-length (a .v) (a .u) (a .k))
+
+slice-write-out : tie.Need-slice-write-out
+slice-write-out c = let a = c .before .before .before .before .before .before .args in omega (arith, shown-length (a .v) (a .u) (a .k), c .before .before .put-field .kept .0)
+
+add-put-name : tie.Need-add-put-name
+add-put-name c = let a = c .before .before .before .before .before .before .before .args in omega (arith, shown-length (a .v) (a .u) (a .k), c .before .before .before .put-field .kept .0)
+
+put-name-requires : tie.Need-put-name-requires
+put-name-requires c κs = let a = c .before .before .before .before .before .before .before .args in simp length-set (omega (arith, shown-length (a .v) (a .u) (a .k), c .before .before .before .put-field .kept .0))
+
+returns : tie.Need-returns
+returns c = let a = c .before .before .before .before .before .before .before .before .before .before .args in left-last (c .before .before .put-name .ensures)
+    (left-put (stored-one refl) (left-put (c .before .before .before .before .before .before .put-field .ensures) (left-from (shown-parts (a .v) (a .u) (a .k)))))
+
+same-length : tie.Need-same-length
+same-length c = stored-long (returns c)
+
+pub put-shown-spec : {M : Type 1} → statement M
+put-shown-spec =
+    tie.close
+    (tie.spec
+    slice-aggregate-put-field
+    put-field-requires
+    slice-write-out
+    add-put-name
+    put-name-requires
+    same-length
+    returns)

@@ -1,0 +1,70 @@
+-- What is left of the words makes the whole.
+use Prim.Native.Nat.{_+_, _-_, _≤_, _<_}
+use native.Mathlib.Nat.{add-zero}
+use native.Mathlib.Numerals.{add-one}
+use native.Mathlib.Omega.{arith}
+use borrow.Author.Needs.{needs}
+use lib.ListN.{length, drop, drop-of-length-le}
+use lib.Seq.{drop-cons}
+use Rattle.laws.specs.Stores.{Left, stored-one, left-start, left-put, left-none}
+use Rattle.answer.proofs.put_words.Statement.{statement}
+use Rattle.answer.proofs.put_words.Tie as tie
+
+abbrev Inv-loop : tie.InvT-loop
+Inv-loop out₀ at words j₀ out j = (j ≤ length words) × Left out₀ at words out (at + j) (drop j words)
+
+abbrev μ-loop : tie.MeasureT-loop
+μ-loop out₀ at words j₀ out j = length words - j
+
+loop-holds : tie.Need-loop-holds Inv-loop μ-loop
+loop-holds c = (search needs, rw add-zero left-start)
+
+shared-slice-read-out : tie.Need-shared-slice-read-out Inv-loop μ-loop
+shared-slice-read-out c = search needs
+
+add-out : tie.Need-add-out Inv-loop μ-loop
+add-out c = search needs
+
+slice-write-out : tie.Need-slice-write-out Inv-loop μ-loop
+slice-write-out c = search needs
+
+add-j : tie.Need-add-j Inv-loop μ-loop
+add-j c = search needs
+
+loop-less : tie.Need-loop-less Inv-loop μ-loop
+loop-less c = search needs
+
+loop-again : tie.Need-loop-again Inv-loop μ-loop
+loop-again c = let L = c .before .before .loop in
+    let words = c .before .before .before .args .words .now in
+    let h : L .j < length words = search needs in
+    (search needs, left-put (stored-one (omega arith)) (rw (drop-cons words (L .j) 0 h, ← add-one (L .j)) at (L .inv .1)))
+
+add-result : tie.Need-add-result Inv-loop μ-loop
+add-result c = search needs
+
+same-length : tie.Need-same-length Inv-loop μ-loop
+same-length c = search needs
+
+returns : tie.Need-returns Inv-loop μ-loop
+returns c = let L = c .before .loop in
+    let words = c .before .before .args .words .now in
+    let h : length words ≤ L .j = search needs in
+    left-none (rw (drop-of-length-le words h) at (L .inv .1))
+
+pub put-words-spec : {M : Type 1} → statement M
+put-words-spec =
+    tie.close
+    (tie.spec
+    Inv-loop
+    μ-loop
+    loop-holds
+    shared-slice-read-out
+    add-out
+    slice-write-out
+    add-j
+    loop-less
+    loop-again
+    add-result
+    same-length
+    returns)

@@ -1,0 +1,61 @@
+-- Lines of document 01's session, computed.
+use mathlib.Core.Path.{_≡_, refl}
+use mathlib.Core.List.{[], _∷_}
+use Prim.Native.Nat.{ℕ}
+use Rattle.laws.specs.Text.{text}
+use Rattle.laws.specs.Tab.{tab, tabFrom}
+use Rattle.machine.specs.Table.{name}
+use Rattle.machine.specs.Answer.{began, shows, wrote, holds, applies, judged, refused, unset, shown, Yes, No, Unknown, own-write, short}
+use Rattle.answer.specs.Bytes.{digits, decimal, nameBytes, namesBytes, answerLine}
+
+line-N : answerLine began ≡ text "N\n"
+line-N = refl
+
+line-W : answerLine (wrote (name 1 2)) ≡ text "W 1.2\n"
+unfolding digits decimal nameBytes
+line-W = refl
+
+line-R : answerLine (shows (shown 2 1 1)) ≡ text "R 2 1.1\n"
+unfolding digits decimal nameBytes
+line-R = refl
+
+line-unset : answerLine (shows unset) ≡ text "R -\n"
+line-unset = refl
+
+line-H : answerLine (holds 1) ≡ text "H 1\n"
+unfolding digits decimal
+line-H = refl
+
+line-A : answerLine (applies (name 1 1 ∷ name 2 1 ∷ [])) ≡ text "A 1.1 2.1\n"
+unfolding digits decimal nameBytes namesBytes
+line-A = refl
+
+line-unknown : answerLine (judged Unknown) ≡ text "T unknown\n"
+line-unknown = refl
+
+line-no : answerLine (judged No) ≡ text "T no\n"
+line-no = refl
+
+line-yes : answerLine (judged Yes) ≡ text "T yes\n"
+line-yes = refl
+
+line-E : answerLine (refused own-write) ≡ text "E 6\n"
+unfolding digits decimal
+line-E = refl
+
+-- numbers of one digit, of two and of five
+line-E14 : answerLine (refused short) ≡ text "E 14\n"
+unfolding digits decimal
+line-E14 = refl
+
+decimal-0 : decimal 0 ≡ text "0"
+unfolding digits decimal
+decimal-0 = refl
+
+decimal-large : decimal 65535 ≡ text "65535"
+unfolding digits decimal
+decimal-large = refl
+
+decimal-inner : decimal 90010 ≡ text "90010"
+unfolding digits decimal
+decimal-inner = refl
