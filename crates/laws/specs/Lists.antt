@@ -16,6 +16,15 @@ unfoldable pub every : {A : Type 0} → (A → Bool) → List A → Bool
 every p [] = true
 every p (x ∷ l) = elim (p x) [ true ↦ every p l | false ↦ false ]
 
+-- the first element decides, or leaves it to the others
+pub every-first : {A : Type 0} (p : A → Bool) (x : A) (l : List A) → p x ≡ true → every p (x ∷ l) ≡ every p l
+unfolding every
+every-first p x l e = rw (e, every)
+
+pub every-fails : {A : Type 0} (p : A → Bool) (x : A) (l : List A) → p x ≡ false → every p (x ∷ l) ≡ false
+unfolding every
+every-fails p x l e = rw (e, every)
+
 pub every-cons : {A : Type 0} (p : A → Bool) (x : A) (l : List A) → every p (x ∷ l) ≡ true → (p x ≡ true) × (every p l ≡ true)
 unfolding every
 every-cons p x l e = cases (p x) (λ t. (t, rw (t, every) at e)) (λ t. clash (rw (t, every) at e))

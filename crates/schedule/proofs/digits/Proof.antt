@@ -1,0 +1,92 @@
+use Prim.Native.Nat.{ℕ, _≤_, _+_, _-_, _*_}
+use mathlib.Core.Path.{_≡_, refl, _∙_}
+use mathlib.Core.List.{List}
+use mathlib.Core.Logic.{inl, inr}
+use mathlib.Core.Option.{some}
+use native.Mathlib.Omega.{arith}
+use lib.ListN.{length, drop}
+use Rattle.schedule.specs.Grammar.{most-number, join}
+use Rattle.schedule.specs.Fields.{digitsOn, fieldsAt, DigitsAre, at-more, at-stop, at-end, digits-large}
+use borrow.Author.Needs.{needs}
+use Rattle.schedule.proofs.digits.Statement.{statement}
+use Rattle.schedule.proofs.digits.Tie as tie
+
+abbrev Inv-loop : tie.InvT-loop
+Inv-loop s from first v₀ i₀ v i =
+    (from ≤ i) × ((i ≤ length s) × ((v ≤ most-number) × (digitsOn first (drop from s) ≡ digitsOn v (drop i s))))
+
+abbrev μ-loop : tie.MeasureT-loop
+μ-loop s from first v₀ i₀ v i = length s - i
+
+-- the number ends here
+ends : (s : List ℕ) (from first v i : ℕ) → Inv-loop s from first first from v i → digitsOn v (drop i s) ≡ join (some v) (fieldsAt s i) → DigitsAre s from first v i
+ends s from first v i h e = record { small = h .1 .1 .0; ahead = h .0; within = h .1 .0; is = h .1 .1 .1 ∙ e }
+
+-- past both tests the byte is a digit
+more : (c : tie.After-wide Inv-loop μ-loop) →
+    let L = c .before .before .before .before .before .loop in
+    let a = c .before .before .before .before .before .before .before .args in
+    digitsOn (a .first) (drop (a .from) (a .s .now)) ≡ digitsOn (10 * L .v + c .wide .result) (drop (L .i + 1) (a .s .now))
+more c =
+    let L = c .before .before .before .before .before .loop in
+    rw (c .wide .ensures .0) (L .inv .1 .1 .1 ∙ at-more _ (L .i) (L .v) (omega arith) (c .before .before .if1 .left) (c .before .if2 .left))
+
+loop-holds : tie.Need-loop-holds Inv-loop μ-loop
+loop-holds c = (search needs, (search needs, (search needs, refl)))
+
+shared-slice-read-b : tie.Need-shared-slice-read-b Inv-loop μ-loop
+shared-slice-read-b c = search needs
+
+returns : tie.Need-returns Inv-loop μ-loop
+returns c =
+    let L = c .before .before .before .loop in
+    ends _ _ _ _ _ (L .inv) (at-stop _ (L .i) _ (omega arith) (L .inv .1 .1 .0) (inl (c .if1 .taken)))
+
+returns-2 : tie.Need-returns-2 Inv-loop μ-loop
+returns-2 c =
+    let L = c .before .before .before .before .loop in
+    ends _ _ _ _ _ (L .inv) (at-stop _ (L .i) _ (omega arith) (L .inv .1 .1 .0) (inr (c .if2 .taken)))
+
+mul-v : tie.Need-mul-v Inv-loop μ-loop
+mul-v c = search needs
+
+wide-requires : tie.Need-wide-requires Inv-loop μ-loop
+wide-requires c κs = search needs
+
+add-v : tie.Need-add-v Inv-loop μ-loop
+add-v c = search needs
+
+returns-3 : tie.Need-returns-3 Inv-loop μ-loop
+returns-3 c = more (c .before) ∙ digits-large _ _ (omega (arith, c .if3 .taken))
+
+add-i : tie.Need-add-i Inv-loop μ-loop
+add-i c = search needs
+
+loop-less : tie.Need-loop-less Inv-loop μ-loop
+loop-less c = search needs
+
+loop-again : tie.Need-loop-again Inv-loop μ-loop
+loop-again c = (search needs, (search needs, (search needs, more (c .before))))
+
+returns-4 : tie.Need-returns-4 Inv-loop μ-loop
+returns-4 c =
+    let L = c .before .loop in ends _ _ _ _ _ (L .inv) (at-end _ (L .i) _ (c .loop-test .left) (L .inv .1 .1 .0))
+
+pub digits-spec : {M : Type 1} → statement M
+digits-spec =
+    tie.close
+    (tie.spec
+    Inv-loop
+    μ-loop
+    loop-holds
+    shared-slice-read-b
+    returns
+    returns-2
+    mul-v
+    wide-requires
+    add-v
+    returns-3
+    add-i
+    loop-less
+    loop-again
+    returns-4)

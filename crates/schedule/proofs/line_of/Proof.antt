@@ -1,0 +1,59 @@
+use native.Mathlib.Omega.{arith}
+use Rattle.schedule.specs.Forms.{no-bytes, too-long, told-none, told-two, told-three, line-trip, line-other}
+use borrow.Author.Needs.{needs}
+use Rattle.schedule.proofs.line_of.Statement.{statement}
+use Rattle.schedule.proofs.line_of.Tie as tie
+
+returns : tie.Need-returns
+returns c = told-none _ _ (no-bytes _ (c .if1 .taken))
+
+returns-2 : tie.Need-returns-2
+returns-2 c = told-none _ _ (too-long _ (omega (arith, c .if2 .taken)))
+
+shared-slice-read-letter : tie.Need-shared-slice-read-letter
+shared-slice-read-letter c = omega (arith, c .before .before .if1 .left)
+
+two-requires : tie.Need-two-requires
+two-requires c κs = search needs
+
+three-requires : tie.Need-three-requires
+three-requires c κs = search needs
+
+trip-requires : tie.Need-trip-requires
+trip-requires c κs = search needs
+
+returns-3 : tie.Need-returns-3
+returns-3 c =
+    let k = c .before .before .before in
+    told-two _ (k .before .if1 .left) (k .if2 .left) (c .before .match .keys1) _ _ (c .two .ensures)
+
+returns-4 : tie.Need-returns-4
+returns-4 c =
+    let k = c .before .before .before in
+    told-three _ (k .before .if1 .left) (k .if2 .left) (c .before .match .keys2) _ _ (c .three .ensures)
+
+returns-5 : tie.Need-returns-5
+returns-5 c =
+    let k = c .before .before .before .before in
+    rw (line-trip _ (k .before .if1 .left) (k .if2 .left) (c .before .before .match .keys3)) (c .trip .ensures)
+
+returns-6 : tie.Need-returns-6
+returns-6 c =
+    let k = c .before .before in
+    let r = c .match .rest in
+    told-none _ _ (line-other _ (k .before .if1 .left) (k .if2 .left) (r .0 .0 .1) (r .0 .1) (r .1))
+
+pub line-of-spec : {M : Type 1} → statement M
+line-of-spec =
+    tie.close
+    (tie.spec
+    returns
+    returns-2
+    shared-slice-read-letter
+    two-requires
+    three-requires
+    trip-requires
+    returns-3
+    returns-4
+    returns-5
+    returns-6)

@@ -1,0 +1,87 @@
+use Prim.Native.Nat.{_+_, _-_}
+use mathlib.Core.Path.{_≡_}
+use mathlib.Core.Logic.{inl, inr}
+use native.Mathlib.Omega.{arith}
+use lib.ListN.{drop}
+use Rattle.schedule.specs.Fields.{fieldsAt, digitsOn, field-unspaced, field-empty, field-zero, field-none, field-first, tells-digits}
+use borrow.Author.Needs.{needs}
+use Rattle.schedule.proofs.next_field.Statement.{statement}
+use Rattle.schedule.proofs.next_field.Tie as tie
+
+-- past all tests the byte after the space is 1 to 9
+first : (c : tie.After-wide) →
+    let a = c .before .before .before .before .before .before .before .before .before .before .args in
+    fieldsAt (a .s .now) (a .at) ≡ digitsOn (c .wide .result) (drop (a .at + 1 + 1) (a .s .now))
+first c =
+    let b = c .before .before .before .before in
+    let a = b .before .before .before .before .before .before .args in
+    rw (c .wide .ensures .0) (field-first (a .s .now) (a .at) (omega (arith, b)) (b .before .before .if2 .left) (omega (arith, b)) (omega (arith, c .before .before .before .if4 .left, c .before .before .if5 .left)) (c .before .if6 .left))
+
+returns : tie.Need-returns
+returns c = λ h. absurd (omega (arith, c .if1 .taken))
+
+shared-slice-read-if2 : tie.Need-shared-slice-read-if2
+shared-slice-read-if2 c = search needs
+
+returns-2 : tie.Need-returns-2
+returns-2 c = λ h. field-unspaced _ _ h (c .if2 .taken)
+
+add-start : tie.Need-add-start
+add-start c = search needs
+
+returns-3 : tie.Need-returns-3
+returns-3 c = λ h. field-empty _ _ h (c .before .if2 .left) (c .if3 .taken)
+
+shared-slice-read-b : tie.Need-shared-slice-read-b
+shared-slice-read-b c = search needs
+
+add-t10 : tie.Need-add-t10
+add-t10 c = search needs
+
+returns-4 : tie.Need-returns-4
+returns-4 c =
+    let b = c .before in
+    let a = b .before .before .before .before .before .before .args in
+    record {
+      small = search needs;
+      ahead = search needs;
+      within = search needs;
+      is = field-zero (a .s .now) (a .at) (omega arith) (b .before .before .if2 .left) (omega arith) (c .if4 .taken);
+    }
+
+returns-5 : tie.Need-returns-5
+returns-5 c = let b = c .before .before in λ h. field-none _ _ h (b .before .before .if2 .left) (omega arith) (inl (c .if5 .taken))
+
+returns-6 : tie.Need-returns-6
+returns-6 c = let b = c .before .before .before in λ h. field-none _ _ h (b .before .before .if2 .left) (omega arith) (inr (c .if6 .taken))
+
+add-digits : tie.Need-add-digits
+add-digits c = search needs
+
+wide-requires : tie.Need-wide-requires
+wide-requires c κs = search needs
+
+digits-requires : tie.Need-digits-requires
+digits-requires c κs = search needs
+
+returns-7 : tie.Need-returns-7
+returns-7 c = tells-digits _ _ _ (first (c .before)) (c .digits .result) (c .digits .ensures)
+
+pub next-field-spec : {M : Type 1} → statement M
+next-field-spec =
+    tie.close
+    (tie.spec
+    returns
+    shared-slice-read-if2
+    returns-2
+    add-start
+    returns-3
+    shared-slice-read-b
+    add-t10
+    returns-4
+    returns-5
+    returns-6
+    add-digits
+    wide-requires
+    digits-requires
+    returns-7)

@@ -1,0 +1,106 @@
+use mathlib.Core.Path.{_≡_, refl, sym, ap, _∙_}
+use mathlib.Core.List.{_∷_}
+use native.Mathlib.Omega.{arith}
+use Rattle.schedule.specs.Grammar.{three}
+use Rattle.schedule.specs.Value.{lineValue}
+use Rattle.schedule.specs.Fields.{FieldIs}
+use Rattle.schedule.specs.Forms.{sayAt, triples, no-field, one-field, too-many, no-more}
+use borrow.Author.Needs.{needs}
+use Rattle.schedule.proofs.three.Statement.{statement}
+use Rattle.schedule.proofs.three.Tie as tie
+
+first : (c : tie.After-a) → FieldIs (c .before .before .before .before .args .s .now) 1 (c .a .given .0 .0) (c .a .given .0 .1 .0)
+first c = rw (c .a .given .1) at (c .before .before .next-field .ensures)
+
+second : (c : tie.After-b) →
+    let a = c .before .before .before .before in
+    FieldIs (a .before .before .before .before .args .s .now) (a .a .given .0 .1 .0) (c .b .given .0 .0) (c .b .given .0 .1 .0)
+second c = rw (c .b .given .1) at (c .before .before .next-field2 .ensures)
+
+third : (c : tie.After-d) →
+    let b = c .before .before .before .before in
+    let a = b .before .before .before .before in
+    FieldIs (a .before .before .before .before .args .s .now) (b .b .given .0 .1 .0) (c .d .given .0 .0) (c .d .given .0 .1 .0)
+third c = rw (c .d .given .1) at (c .before .before .next-field3 .ensures)
+
+-- all fields are there
+all : (c : tie.After-d) →
+    let b = c .before .before .before .before in
+    let a = b .before .before .before .before in
+    let k = a .before .before .before .before .args in
+    sayAt (k .s .now) 1 (three (triples (k .writes))) ≡ sayAt (k .s .now) (c .d .given .0 .1 .0) (λ l. three (triples (k .writes)) (a .a .given .0 .0 ∷ b .b .given .0 .0 ∷ c .d .given .0 .0 ∷ l))
+all c =
+    let b = c .before .before .before .before in
+    one-field _ 1 _ _ _ (first (b .before .before .before .before)) ∙ (one-field _ _ _ _ _ (second b) ∙ one-field _ _ _ _ _ (third c))
+
+next-field-requires : tie.Need-next-field-requires
+next-field-requires c κs = search needs
+
+enum-known-a : tie.Need-enum-known-a
+enum-known-a c = search needs
+
+enum-told : tie.Need-enum-told
+enum-told c = search needs
+
+returns : tie.Need-returns
+returns c = sym (ap lineValue (no-field _ 1 _ (rw (c .enum-told .given .1) at (c .before .before .next-field .ensures)) refl))
+
+next-field-requires-2 : tie.Need-next-field-requires-2
+next-field-requires-2 c κs = search needs
+
+enum-known-b : tie.Need-enum-known-b
+enum-known-b c = search needs
+
+enum-told-2 : tie.Need-enum-told-2
+enum-told-2 c = search needs
+
+returns-2 : tie.Need-returns-2
+returns-2 c =
+    let b = c .before .before .before in
+    sym (ap lineValue (one-field _ 1 _ _ _ (first (b .before)) ∙ no-field _ _ _ (rw (c .enum-told2 .given .1) at (c .before .before .next-field2 .ensures)) refl))
+
+next-field-requires-3 : tie.Need-next-field-requires-3
+next-field-requires-3 c κs = search needs
+
+enum-known-d : tie.Need-enum-known-d
+enum-known-d c = search needs
+
+enum-told-3 : tie.Need-enum-told-3
+enum-told-3 c = search needs
+
+returns-3 : tie.Need-returns-3
+returns-3 c =
+    let b = c .before .before .before .before in
+    sym (ap lineValue (one-field _ 1 _ _ _ (first (b .before .before .before .before)) ∙ (one-field _ _ _ _ _ (second b) ∙ no-field _ _ _ (rw (c .enum-told3 .given .1) at (c .before .before .next-field3 .ensures)) refl)))
+
+returns-4 : tie.Need-returns-4
+returns-4 c =
+    let d = c .before .before in sym (ap lineValue (all d ∙ too-many _ _ _ (third d .within) (λ e. (omega (arith, c .if1 .taken))) (λ x l. refl)))
+
+returns-5 : tie.Need-returns-5
+returns-5 c =
+    let d = c .before .before .before in sym (ap lineValue (all d ∙ no-more _ _ _ (omega (arith, c .before .if1 .left))) ∙ rw (c .if2 .taken))
+
+returns-6 : tie.Need-returns-6
+returns-6 c =
+    let d = c .before .before .before in sym (ap lineValue (all d ∙ no-more _ _ _ (omega (arith, c .before .if1 .left))) ∙ rw (c .if2 .left))
+
+pub three-spec : {M : Type 1} → statement M
+three-spec =
+    tie.close
+    (tie.spec
+    next-field-requires
+    enum-known-a
+    enum-told
+    returns
+    next-field-requires-2
+    enum-known-b
+    enum-told-2
+    returns-2
+    next-field-requires-3
+    enum-known-d
+    enum-told-3
+    returns-3
+    returns-4
+    returns-5
+    returns-6)

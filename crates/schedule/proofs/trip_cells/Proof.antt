@@ -1,0 +1,80 @@
+use Prim.Native.Nat.{_≤_, _-_, _+_, _*_}
+use mathlib.Core.Path.{_≡_, refl, _∙_}
+use native.Mathlib.Omega.{arith}
+use lib.ListN.{length}
+use Rattle.schedule.specs.Fields.{fieldsAt, FieldIs}
+use Rattle.schedule.specs.Cells.{storing, store-one, store-bad, store-end}
+use borrow.Author.Needs.{needs}
+use Rattle.schedule.proofs.trip_cells.Statement.{statement}
+use Rattle.schedule.proofs.trip_cells.Tie as tie
+
+-- a cell takes two bytes at least
+abbrev Inv-loop : tie.InvT-loop
+Inv-loop s from cells₀ at₀ n₀ cells at n =
+    (2 * n + from ≤ at) × (storing cells₀ 0 (fieldsAt s from) ≡ storing cells n (fieldsAt s at))
+
+abbrev μ-loop : tie.MeasureT-loop
+μ-loop s from cells₀ at₀ n₀ cells at n = length s - at
+
+one : (c : tie.After-x Inv-loop μ-loop) →
+    FieldIs (c .before .before .before .before .before .before .args .s .now) (c .before .before .before .before .loop .at) (c .x .given .0 .0) (c .x .given .0 .1 .0)
+one c = rw (c .x .given .1) at (c .before .before .next-field .ensures)
+
+loop-holds : tie.Need-loop-holds Inv-loop μ-loop
+loop-holds c = (search needs, refl)
+
+next-field-requires : tie.Need-next-field-requires Inv-loop μ-loop
+next-field-requires c κs = search needs
+
+enum-known-x : tie.Need-enum-known-x Inv-loop μ-loop
+enum-known-x c = search needs
+
+enum-told : tie.Need-enum-told Inv-loop μ-loop
+enum-told c = search needs
+
+returns : tie.Need-returns Inv-loop μ-loop
+returns c =
+    let b = c .before .before in
+    b .before .before .loop .inv .1 ∙ store-bad _ _ _ _ (b .before .loop-test .taken) (rw (c .enum-told .given .1) at (b .next-field .ensures))
+
+cast-cells : tie.Need-cast-cells Inv-loop μ-loop
+cast-cells c = omega (arith, one (c .before) .small)
+
+mul-cells : tie.Need-mul-cells Inv-loop μ-loop
+mul-cells c = omega (arith, c .before .before .before .before)
+
+element-write-cells : tie.Need-element-write-cells Inv-loop μ-loop
+element-write-cells c = omega (arith, c .before .before .before .before)
+
+add-n : tie.Need-add-n Inv-loop μ-loop
+add-n c = omega (arith, c .before .before .before .before)
+
+loop-less : tie.Need-loop-less Inv-loop μ-loop
+loop-less c = omega (arith, one (c .before) .ahead, c .before .before .before .before)
+
+loop-again : tie.Need-loop-again Inv-loop μ-loop
+loop-again c =
+    let L = c .before .before .before .before .before .loop in
+    (omega (arith, one (c .before) .ahead), L .inv .1 ∙ store-one _ _ _ _ _ _ (one (c .before)))
+
+returns-2 : tie.Need-returns-2 Inv-loop μ-loop
+returns-2 c = c .before .loop .inv .1 ∙ store-end _ _ _ _ (c .loop-test .left)
+
+pub trip-cells-spec : {M : Type 1} → statement M
+trip-cells-spec =
+    tie.close
+    (tie.spec
+    Inv-loop
+    μ-loop
+    loop-holds
+    next-field-requires
+    enum-known-x
+    enum-told
+    returns
+    cast-cells
+    mul-cells
+    element-write-cells
+    add-n
+    loop-less
+    loop-again
+    returns-2)

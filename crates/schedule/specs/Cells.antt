@@ -1,0 +1,61 @@
+-- The cells of a trip, stored one after the other.
+use Prim.Native.Nat.{ℕ, suc, _+_, _<_, _≤_}
+use mathlib.Core.Path.{_≡_, refl}
+use mathlib.Core.List.{List}
+use mathlib.Core.Option.{Option, none, some, bind}
+use native.Mathlib.Omega.{arith}
+use native.Mathlib.Nat.{add-zero}
+use native.Mathlib.Numerals.{add-one}
+use lib.ListN.{length, set, drop-of-length-le}
+use lib.Seq.{sets}
+use Rattle.schedule.specs.declared.Field.{Field}
+use Rattle.schedule.specs.declared.Field.the-variants.{Num, Bad}
+use Rattle.schedule.specs.declared.Line.the-variants.{Trip}
+use Rattle.schedule.specs.Grammar.{join}
+use Rattle.schedule.specs.Fields.{rest, fieldsAt, FieldIs}
+use Rattle.schedule.specs.Forms.{travels, sayAt, Told}
+
+pub data Stored : Type 0 where
+  stored : (cells : List ℕ) (n : ℕ) → Stored
+  unstored : Stored
+
+-- the numbers stored from n on, if every field is a number
+abbrev pub storing : List ℕ → ℕ → Option (List ℕ) → Stored
+storing l n none = unstored
+storing l n (some xs) = stored (sets l n xs) (n + length xs)
+
+abbrev pub CellsTell : List ℕ → ℕ → List ℕ → Field → List ℕ → Type 0
+CellsTell s at l (Num n end) l′ = storing l 0 (fieldsAt s at) ≡ stored l′ n
+CellsTell s at l Bad l′ = storing l 0 (fieldsAt s at) ≡ unstored
+
+module _ (s : List ℕ) (at : ℕ) (l : List ℕ) (n : ℕ) where
+  pub store-one : (x next : ℕ) → FieldIs s at x next → storing l n (fieldsAt s at) ≡ storing (set l n x) (n + 1) (fieldsAt s next)
+  store-one x next h = rw (h .is) (go (fieldsAt s next))
+    where
+      go : (o : Option (List ℕ)) → storing l n (join (some x) o) ≡ storing (set l n x) (n + 1) o
+      go none = refl
+      go (some xs) = let e : n + suc (length xs) ≡ suc n + length xs = omega arith in rw (e, add-one n)
+
+  pub store-bad : at < length s → (at < length s → fieldsAt s at ≡ none) → storing l n (fieldsAt s at) ≡ unstored
+  store-bad h e = rw (e h)
+
+  pub store-end : length s ≤ at → storing l n (fieldsAt s at) ≡ stored l n
+  unfolding rest
+  store-end h = rw (drop-of-length-le s h, add-zero n)
+
+module _ (s : List ℕ) (at i : ℕ) (l : List ℕ) where
+  pub trip-bad : storing l 0 (fieldsAt s at) ≡ unstored → sayAt s at (λ xs. some (travels i xs)) ≡ none
+  unfolding sayAt bind
+  trip-bad e = go (fieldsAt s at) e
+    where
+      go : (o : Option (List ℕ)) → storing l 0 o ≡ unstored → bind o (λ xs. some (travels i xs)) ≡ none
+      go none e = refl
+      go (some xs) e = absurd (let z : _≡_ {A = ℕ} 0 1 = cc in omega arith)
+
+  pub told-trip : (l′ : List ℕ) (n : ℕ) → storing l 0 (fieldsAt s at) ≡ stored l′ n → Told (sayAt s at (λ xs. some (travels i xs))) (Trip i n) l l′
+  unfolding sayAt bind
+  told-trip l′ n e = go (fieldsAt s at) e
+    where
+      go : (o : Option (List ℕ)) → storing l 0 o ≡ stored l′ n → Told (bind o (λ xs. some (travels i xs))) (Trip i n) l l′
+      go none e = absurd (let z : _≡_ {A = ℕ} 0 1 = cc in omega arith)
+      go (some xs) e = let q : n ≡ 0 + length xs = cc in let k : n ≡ length xs = omega arith in (rw k, (cc))

@@ -1,0 +1,186 @@
+-- The forms of a line over the fields that follow its letter, and the code's answer to each.
+use Prim.Native.Nat.{ℕ, suc, _<_, _≤_}
+use mathlib.Core.Path.{_≡_, refl, _∙_}
+use mathlib.Core.List.{List, [], _∷_}
+use mathlib.Core.Logic.{_⊎_, inl, inr}
+use mathlib.Core.Bool.{Bool, true, false}
+use mathlib.Core.Option.{Option, none, some, bind}
+use native.Mathlib.Omega.{arith}
+use borrow.Author.Tests.{ne-eqb, le-leb, lt-leb, ltb-true, ltb-false, eqb-true, eqb-false}
+use lib.Dec.{eqb, ltb}
+use lib.ListN.{length, getD, drop, drop-of-length-le}
+use lib.Seq.{drop-cons, drop-length, sets}
+use Rattle.laws.specs.Loop.{cases}
+use Rattle.machine.specs.Steps.{Read, Write, Deliver, Trip}
+use Rattle.schedule.specs.declared.Line.{Line as Answer}
+use Rattle.schedule.specs.declared.Line.the-variants.{NoStep}
+use Rattle.schedule.specs.Grammar.{Line, begin-line, step-line, most-bytes, space, onto, words, join, number, numbers, two, three, oneOrMore, form, sentence, lineOf}
+use Rattle.schedule.specs.Value.{lineValue, cellsOf}
+use Rattle.schedule.specs.Fields.{rest, fieldsAt, FieldIs}
+
+abbrev pub pairs : Bool → ℕ → ℕ → Line
+pairs true n m = begin-line n m
+pairs false i x = step-line (Read i x)
+
+abbrev pub triples : Bool → ℕ → ℕ → ℕ → Line
+triples true i x v = step-line (Write i x v)
+triples false i u k = step-line (Deliver i u k)
+
+abbrev pub travels : ℕ → List ℕ → Line
+travels i xs = step-line (Trip i xs)
+
+-- what the fields from a place on say in a form
+unfoldable pub sayAt : List ℕ → ℕ → (List ℕ → Option Line) → Option Line
+sayAt s at f = bind (fieldsAt s at) f
+
+-- the code's answer r to what is said, with the lent list from l to l′
+abbrev pub Told : Option Line → Answer → List ℕ → List ℕ → Type 0
+Told o r l l′ = (r ≡ lineValue o) × (l′ ≡ sets l 0 (cellsOf o))
+
+module _ (s : List ℕ) (at : ℕ) (f : List ℕ → Option Line) where
+  -- a field is missing or bad
+  pub no-field : (at < length s → fieldsAt s at ≡ none) → f [] ≡ none → sayAt s at f ≡ none
+  unfolding sayAt bind rest
+  no-field h z =
+      cases (ltb at (length s))
+      (λ e. rw (h (ltb-true at (length s) e)))
+      (λ e. rw (drop-of-length-le s (ltb-false at (length s) e)) z)
+
+  -- a field is there
+  pub one-field : (v next : ℕ) → FieldIs s at v next → sayAt s at f ≡ sayAt s next (λ l. f (v ∷ l))
+  unfolding sayAt bind
+  one-field v next h = rw (h .is) (go (fieldsAt s next))
+    where
+      go : (o : Option (List ℕ)) → bind (join (some v) o) f ≡ bind o (λ l. f (v ∷ l))
+      go none = refl
+      go (some l) = refl
+
+  -- the line is at its end
+  pub no-more : at ≡ length s → sayAt s at f ≡ f []
+  unfolding sayAt bind rest
+  no-more e = rw (e, drop-length s)
+
+  -- or goes on where the form has no field
+  pub too-many : at ≤ length s → (at ≡ length s → ⊥) → ((x : ℕ) (l : List ℕ) → f (x ∷ l) ≡ none) → sayAt s at f ≡ none
+  unfolding sayAt bind rest words numbers number
+  too-many l n h = rw (drop-cons s at 0 (omega (arith, n))) (go (getD s at 0) (drop (suc at) s))
+    where
+      joined : (o : Option ℕ) (ns : Option (List ℕ)) → bind (join o ns) f ≡ none
+      joined none ns = refl
+      joined (some x) none = refl
+      joined (some x) (some l) = h x l
+
+      worded : (c : ℕ) (ws : List (List ℕ)) → bind (numbers (onto c ws)) f ≡ none
+      worded c [] = joined (number (c ∷ [])) (some [])
+      worded c (w ∷ ws) = joined (number (c ∷ w)) (numbers ws)
+
+      spaced : (l : List ℕ) → bind (numbers (words l)) f ≡ none
+      spaced [] = refl
+      spaced (c ∷ l) = cases (eqb c space) (λ e. rw e) (λ e. rw e (worded c (words l)))
+
+      go : (b : ℕ) (l : List ℕ) → bind (rest (b ∷ l)) f ≡ none
+      go b l = cases (eqb b space) (λ e. rw e (spaced l)) (λ e. rw e)
+
+  -- what every list of numbers has, the line has
+  pub sayAt-all : (P : Option Line → Type 0) → P none → ((l : List ℕ) → fieldsAt s at ≡ some l → P (f l)) → P (sayAt s at f)
+  unfolding sayAt bind
+  sayAt-all P z h = go (fieldsAt s at) h
+    where
+      go : (o : Option (List ℕ)) → ((l : List ℕ) → o ≡ some l → P (f l)) → P (bind o f)
+      go none h = z
+      go (some l) h = h l refl
+
+two-cells : (b : Bool) (l : List ℕ) → cellsOf (two (pairs b) l) ≡ []
+two-cells b [] = refl
+two-cells b (x ∷ []) = refl
+two-cells true (x ∷ y ∷ []) = refl
+two-cells false (x ∷ y ∷ []) = refl
+two-cells b (x ∷ y ∷ z ∷ l) = refl
+
+three-cells : (b : Bool) (l : List ℕ) → cellsOf (three (triples b) l) ≡ []
+three-cells b [] = refl
+three-cells b (w ∷ []) = refl
+three-cells b (w ∷ x ∷ []) = refl
+three-cells true (w ∷ x ∷ y ∷ []) = refl
+three-cells false (w ∷ x ∷ y ∷ []) = refl
+three-cells b (w ∷ x ∷ y ∷ z ∷ l) = refl
+
+-- nothing is stored: no step, or another form than a trip's
+pub told-none : (o : Option Line) (l : List ℕ) → o ≡ none → Told o NoStep l l
+told-none o l e = rw e (refl, refl)
+
+told-form : (s : List ℕ) (f : List ℕ → Option Line) → ((l : List ℕ) → cellsOf (f l) ≡ []) →
+    (o : Option Line) → o ≡ sayAt s 1 f → (r : Answer) (l : List ℕ) → r ≡ lineValue (sayAt s 1 f) → Told o r l l
+told-form s f h o e r l a =
+    let n : cellsOf (sayAt s 1 f) ≡ [] = sayAt-all s 1 f (λ o. cellsOf o ≡ []) refl (λ l _. h l) in rw e (a, rw n)
+
+-- the whole line --
+
+first-word : (c : ℕ) (l : List ℕ) → (c ≡ space → ⊥) → sentence (words (c ∷ l)) ≡ bind (rest l) (form c)
+unfolding words numbers rest bind
+first-word c [] n = rw (ne-eqb c space n)
+first-word c (b ∷ l) n = rw (ne-eqb c space n) (cases (eqb b space) (λ e. rw e) (λ e. rw e (go (words l))))
+  where
+    go : (ws : List (List ℕ)) → sentence (onto c (onto b ws)) ≡ none
+    go [] = refl
+    go (w ∷ ws) = refl
+
+pub too-long : (s : List ℕ) → most-bytes < length s → lineOf s ≡ none
+unfolding lineOf
+too-long s h = rw (lt-leb (length s) most-bytes h)
+
+pub no-bytes : (s : List ℕ) → length s ≡ 0 → lineOf s ≡ none
+unfolding lineOf words bind
+no-bytes [] e = refl
+no-bytes (c ∷ l) e = absurd (omega arith)
+
+bind-none : (o : Option (List ℕ)) → bind {B = Line} o (λ l. none) ≡ none
+unfolding bind
+bind-none none = refl
+bind-none (some l) = refl
+
+module _ (s : List ℕ) (z : length s ≡ 0 → ⊥) (h : length s ≤ most-bytes) where
+  -- the letter decides
+  pub by-letter : (c : ℕ) → eqb c space ≡ false → getD s 0 0 ≡ c → lineOf s ≡ sayAt s 1 (form c)
+  unfolding lineOf sayAt
+  by-letter c n e = go s z h e
+    where
+      go : (s : List ℕ) → (length s ≡ 0 → ⊥) → length s ≤ most-bytes → getD s 0 0 ≡ c → lineOf s ≡ sayAt s 1 (form c)
+      go [] z h e = absurd (z refl)
+      go (b ∷ l) z h e = rw (e, le-leb (suc (length l)) most-bytes h) (first-word c l (eqb-false c space n))
+
+  pub no-letter : getD s 0 0 ≡ space → lineOf s ≡ none
+  unfolding lineOf words bind
+  no-letter e = go s z h e
+    where
+      go : (s : List ℕ) → (length s ≡ 0 → ⊥) → length s ≤ most-bytes → getD s 0 0 ≡ space → lineOf s ≡ none
+      go [] z h e = absurd (z refl)
+      go (b ∷ l) z h e = rw (e, le-leb (suc (length l)) most-bytes h)
+
+  -- N or R; D or W; T; another
+  line-two : (getD s 0 0 ≡ 78) ⊎ (getD s 0 0 ≡ 82) → lineOf s ≡ sayAt s 1 (two (pairs (eqb (getD s 0 0) 78)))
+  unfolding form
+  line-two (inl e) = by-letter 78 refl e ∙ rw e
+  line-two (inr e) = by-letter 82 refl e ∙ rw e
+
+  pub told-two : (getD s 0 0 ≡ 78) ⊎ (getD s 0 0 ≡ 82) → (r : Answer) (l : List ℕ) → r ≡ lineValue (sayAt s 1 (two (pairs (eqb (getD s 0 0) 78)))) → Told (lineOf s) r l l
+  told-two k = told-form s (two (pairs (eqb (getD s 0 0) 78))) (two-cells (eqb (getD s 0 0) 78)) (lineOf s) (line-two k)
+
+  line-three : (getD s 0 0 ≡ 68) ⊎ (getD s 0 0 ≡ 87) → lineOf s ≡ sayAt s 1 (three (triples (eqb (getD s 0 0) 87)))
+  unfolding form
+  line-three (inl e) = by-letter 68 refl e ∙ rw e
+  line-three (inr e) = by-letter 87 refl e ∙ rw e
+
+  pub told-three : (getD s 0 0 ≡ 68) ⊎ (getD s 0 0 ≡ 87) → (r : Answer) (l : List ℕ) → r ≡ lineValue (sayAt s 1 (three (triples (eqb (getD s 0 0) 87)))) → Told (lineOf s) r l l
+  told-three k = told-form s (three (triples (eqb (getD s 0 0) 87))) (three-cells (eqb (getD s 0 0) 87)) (lineOf s) (line-three k)
+
+  pub line-trip : getD s 0 0 ≡ 84 → lineOf s ≡ sayAt s 1 (oneOrMore travels)
+  unfolding form
+  line-trip e = by-letter 84 refl e
+
+  pub line-other : ((getD s 0 0 ≡ 78) ⊎ (getD s 0 0 ≡ 82) → ⊥) → ((getD s 0 0 ≡ 68) ⊎ (getD s 0 0 ≡ 87) → ⊥) → (getD s 0 0 ≡ 84 → ⊥) → lineOf s ≡ none
+  unfolding sayAt form
+  line-other a b c =
+      cases (eqb (getD s 0 0) space)
+      (λ q. no-letter (eqb-true _ _ q))
+      (λ q. by-letter (getD s 0 0) q refl ∙ rw (ne-eqb _ 78 (λ e. a (inl e)), ne-eqb _ 82 (λ e. a (inr e)), ne-eqb _ 87 (λ e. b (inr e)), ne-eqb _ 68 (λ e. b (inl e)), ne-eqb _ 84 c) (bind-none (fieldsAt s 1)))

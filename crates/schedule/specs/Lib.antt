@@ -1,0 +1,9 @@
+pub mod Lines
+pub mod Grammar
+pub mod Examples
+pub mod Value
+pub mod LineLaws
+pub mod Fields
+pub mod Forms
+pub mod Cells
+pub mod Facts

@@ -1,0 +1,95 @@
+-- Laws of the lines of a schedule.
+use Prim.Native.Nat.{ℕ, suc, _+_, _-_, _<_, _≤_}
+use mathlib.Core.Path.{_≡_, refl, sym, ap, _∙_}
+use mathlib.Core.List.{List, [], _∷_, _++_}
+use native.Mathlib.Omega.{arith}
+use native.Mathlib.Numerals.{add-one}
+use borrow.Author.Tests.{eq-eqb, ne-eqb, lt-ltb, le-ltb, ltb-false}
+use lib.Dec.{eqb, ltb}
+use lib.ListN.{length, getD, take, drop, length-append, length-drop, drop-of-length-le}
+use lib.Seq.{drop-cons, take-at}
+use Rattle.laws.specs.Loop.{cases}
+use Rattle.schedule.specs.Lines.{LF, untilLF, fromLF, lineAt, endedAt, endAt, startAt}
+
+-- a line and what follows it are the list
+pub cut : (l : List ℕ) → untilLF l ++ fromLF l ≡ l
+unfolding untilLF fromLF
+cut [] = refl
+cut (b ∷ l) = cases (eqb b LF) (λ e. rw e) (λ e. rw e (ap (λ (t : List ℕ). b ∷ t) (cut l)))
+
+module _ (s : List ℕ) (at : ℕ) where
+  lengths : length (untilLF (drop at s)) + length (fromLF (drop at s)) ≡ length s - at
+  lengths = sym (length-append (untilLF (drop at s)) (fromLF (drop at s))) ∙ (ap length (cut (drop at s)) ∙ length-drop at s)
+
+  -- what a loop at e has shown: no LF before it
+  unfoldable pub Passed : ℕ → Type 0
+  Passed e = fromLF (drop at s) ≡ fromLF (drop e s)
+
+  pub passed-none : Passed at
+  unfolding Passed
+  passed-none = refl
+
+  pub passed-more : (e : ℕ) → e < length s → (getD s e 0 ≡ LF → ⊥) → Passed e → Passed (e + 1)
+  unfolding Passed fromLF
+  passed-more e h n p = p ∙ rw (drop-cons s e 0 h, ne-eqb (getD s e 0) LF n, add-one e)
+
+  pub passed-here : (e : ℕ) → e < length s → getD s e 0 ≡ LF → Passed e → e ≡ endAt s at
+  unfolding Passed fromLF endAt
+  passed-here e h q p =
+      let f : fromLF (drop at s) ≡ drop e s = p ∙ rw (drop-cons s e 0 h, eq-eqb (getD s e 0) LF q) in
+      rw (f, length-drop e s) (omega arith)
+
+  -- at the end, or past it, nothing is left
+  pub passed-end : (e : ℕ) → length s ≤ e → Passed e → length s ≡ endAt s at
+  unfolding Passed fromLF endAt
+  passed-end e h p =
+      let f : fromLF (drop at s) ≡ [] = p ∙ rw (drop-of-length-le s h) in
+      rw f (omega arith)
+
+  pub end-le : endAt s at ≤ length s
+  unfolding endAt
+  end-le = omega arith
+
+  -- the line is what stands between the place and the end
+  pub line-take : take (endAt s at - at) (drop at s) ≡ lineAt s at
+  unfolding endAt lineAt
+  line-take =
+      let n : length (untilLF (drop at s)) ≡ length s - length (fromLF (drop at s)) - at = omega (arith, lengths) in
+      ap (take (length s - length (fromLF (drop at s)) - at)) (sym (cut (drop at s))) ∙ take-at (untilLF (drop at s)) (fromLF (drop at s)) _ n
+
+  -- an end before the place is the end of all
+  pub end-past : endAt s at < at → endAt s at ≡ length s
+  unfolding endAt
+  end-past h = omega (arith, lengths)
+
+  pub line-past : endAt s at < at → take (length s - endAt s at) (drop (endAt s at) s) ≡ lineAt s at
+  line-past h =
+      let z : endAt s at - at ≡ 0 = omega arith in
+      let y : length s - endAt s at ≡ 0 = omega (arith, end-past h) in
+      rw y (rw z at line-take)
+
+  pub start-past : endAt s at < at → endAt s at ≡ startAt s at
+  unfolding startAt
+  start-past h =
+      let g : length s ≤ at = omega (arith, end-past h) in
+      rw (le-ltb at (length s) g) (end-past h)
+
+  pub start-within : at ≤ endAt s at → at ≡ startAt s at
+  unfolding startAt
+  start-within h = cases (ltb at (length s)) (λ e. rw e) (λ e. rw e (omega (arith, ltb-false at (length s) e, end-le)))
+
+  -- the line lies within the bytes
+  pub line-within : at ≤ length s → at + length (lineAt s at) ≤ length s
+  unfolding lineAt
+  line-within h = omega (arith, lengths)
+
+  -- a LF ended the line exactly if bytes follow it
+  pub ended-is : at ≤ length s → ltb (at + length (lineAt s at)) (length s) ≡ endedAt s at
+  unfolding endedAt lineAt
+  ended-is h =
+      let e : at + length (untilLF (drop at s)) ≡ length s - length (fromLF (drop at s)) = omega (arith, lengths) in
+      rw e (go (fromLF (drop at s)) (length s) (omega (arith, lengths)))
+    where
+      go : (f : List ℕ) (n : ℕ) → length f ≤ n → ltb (n - length f) n ≡ ltb 0 (length f)
+      go [] n h = le-ltb (n - 0) n (omega arith)
+      go (b ∷ f) n h = lt-ltb (n - suc (length f)) n (omega arith) ∙ sym (lt-ltb 0 (suc (length f)) (omega arith))
