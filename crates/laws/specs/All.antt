@@ -4,7 +4,7 @@ use mathlib.Core.Path.{_≡_, refl, sym, ap, _∙_}
 use mathlib.Core.Bool.{Bool, true, false, not}
 use native.Mathlib.Omega.{arith}
 use borrow.Author.Tests.{not-false}
-use Rattle.laws.specs.Loop.{scan, turns, scan-miss, scan-here, scan-next, scan-end, cases}
+use Rattle.laws.specs.Loop.{scan, turns, scan-miss, scan-here, scan-next, scan-end, scan-same, cases}
 
 unfoldable pub all : (ℕ → Bool) → ℕ → ℕ → Bool
 all p n at = scan (λ k. not (p k)) (λ k. false) true n at
@@ -32,3 +32,18 @@ module _ (p : ℕ → Bool) where
   unfolding all scan turns
   all-true zero at h = refl
   all-true (suc n) at h = rw (h at (omega arith) (omega arith)) (all-true n (suc at) (λ k l g. h k (omega arith) (omega arith)))
+
+  -- one failure is enough
+  pub all-fails-at : (n at k : ℕ) → at ≤ k → k < at + n → p k ≡ false → all p n at ≡ false
+  all-fails-at n at k l h e = cases (all p n at) (λ t. absurd (let f : true ≡ false = sym (all-at n at t k l h) ∙ e in let z : _≡_ {A = ℕ} 0 1 = cc in omega arith)) (λ t. t)
+
+-- two tests that agree on the indexes
+pub all-same : (p q : ℕ → Bool) (n at : ℕ) → ((k : ℕ) → at ≤ k → k < at + n → p k ≡ q k) → all p n at ≡ all q n at
+unfolding all
+all-same p q n at h = scan-same (λ k. not (p k)) (λ k. not (q k)) (λ k. false) true n at (λ k l g. ap not (h k l g))
+
+-- the indexes from one further on
+pub all-shift : (p : ℕ → Bool) (n at : ℕ) → all p n (suc at) ≡ all (λ k. p (suc k)) n at
+unfolding all scan turns
+all-shift p zero at = refl
+all-shift p (suc n) at = rw (all-shift p n (suc at))

@@ -19,3 +19,4 @@ pub mod From
 pub mod Tests
 pub mod Stores
 pub mod Text
+pub mod Rows

@@ -86,6 +86,12 @@ upd2-some {A} P f i x o new old j y a e =
 pub upd-map : {A B : Type 0} (g : A → B) (f : ℕ → A) (i : ℕ) (a : A) → (λ j. g (upd f i a j)) ≡ upd (λ j. g (f j)) i (g a)
 upd-map g f i a = upd-is (λ j. g (f j)) i (g a) (λ j. g (upd f i a j)) (ap g (upd-same f i a)) (λ j e. ap g (upd-other f i a j e))
 
+-- the later of two updates at one pair
+pub upd2-again : {A : Type 0} (f : ℕ → ℕ → A) (i x : ℕ) (a b : A) → upd2 (upd2 f i x a) i x b ≡ upd2 f i x b
+upd2-again f i x a b =
+    upd2-is f i x b (upd2 (upd2 f i x a) i x b) (upd2-same (upd2 f i x a) i x b)
+    (λ j y n. upd2-other (upd2 f i x a) i x b j y n ∙ upd2-other f i x a j y n)
+
 -- stores into lists --
 
 -- what g reads of each element

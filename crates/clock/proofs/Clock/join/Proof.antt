@@ -1,0 +1,82 @@
+use Rattle.clock.specs.Vectors.{places}
+use Prim.Native.Nat.{_≤_, _-_}
+use mathlib.Core.Path.{_≡_, ap, _∙_}
+use mathlib.Core.List.{_++_}
+use lib.ListN.{length, drop}
+use native.Mathlib.Omega.{arith}
+use Rattle.laws.specs.Tab.{tab, fill-start, fill-more, fill-end}
+use Rattle.clock.specs.Vectors.{largerAt, joined, clockOf}
+use borrow.Author.Needs.{needs}
+use Rattle.clock.proofs.Clock.join.Statement.{statement}
+use Rattle.clock.proofs.Clock.join.Tie as tie
+
+abbrev Inv-loop : tie.InvT-loop
+Inv-loop v old at₀ t₀ at t = (t ≤ places) × ((at ≡ tab t (largerAt old v) ++ drop t old) × (length old ≡ places))
+
+abbrev μ-loop : tie.MeasureT-loop
+μ-loop v old at₀ t₀ at t = places - t
+
+loop-holds : tie.Need-loop-holds Inv-loop μ-loop
+loop-holds c = (search needs, (fill-start _ _, search needs))
+
+mul-larger : tie.Need-mul-larger Inv-loop μ-loop
+mul-larger c = search needs
+
+array-read-larger : tie.Need-array-read-larger Inv-loop μ-loop
+array-read-larger c = search needs
+
+mul-larger-2 : tie.Need-mul-larger-2 Inv-loop μ-loop
+mul-larger-2 c = search needs
+
+array-read-larger-2 : tie.Need-array-read-larger-2 Inv-loop μ-loop
+array-read-larger-2 c = search needs
+
+larger-requires : tie.Need-larger-requires Inv-loop μ-loop
+larger-requires c κs = search needs
+
+mul-at : tie.Need-mul-at Inv-loop μ-loop
+mul-at c = search needs
+
+array-write-at : tie.Need-array-write-at Inv-loop μ-loop
+array-write-at c = search needs
+
+add-t : tie.Need-add-t Inv-loop μ-loop
+add-t c = search needs
+
+loop-less : tie.Need-loop-less Inv-loop μ-loop
+loop-less c = search needs
+
+loop-again : tie.Need-loop-again Inv-loop μ-loop
+loop-again c = let L = c .before .before .loop in (
+  search needs,
+  (
+    rw (L .inv .1 .0, c .larger .ensures)
+        (fill-more (largerAt (c .before .before .before .before .args .self .at) (c .before .before .before .before .args .t2)) _ 0 (L .t) (search needs)),
+    search needs,
+  ),
+)
+
+returns : tie.Need-returns Inv-loop μ-loop
+unfolding joined
+returns c = let L = c .before .loop in
+    let e : L .t ≡ length (c .before .before .before .args .self .at) = omega (arith, L .inv .1 .1) in
+    ap clockOf (L .inv .1 .0 ∙ fill-end _ _ places _ (L .inv .1 .1) (search needs) ∙ rw e)
+
+pub join-spec : {M : Type 1} → statement M
+join-spec =
+    tie.close
+    (tie.spec
+    Inv-loop
+    μ-loop
+    loop-holds
+    mul-larger
+    array-read-larger
+    mul-larger-2
+    array-read-larger-2
+    larger-requires
+    mul-at
+    array-write-at
+    add-t
+    loop-less
+    loop-again
+    returns)

@@ -1,0 +1,72 @@
+use Rattle.clock.specs.Vectors.{places}
+use Prim.Native.Nat.{_≤_, _-_}
+use mathlib.Core.Path.{_≡_, sym, _∙_}
+use mathlib.Core.Logic.{inl, inr}
+use mathlib.Core.Bool.{false, not}
+use lib.ListN.{getD}
+use lib.Dec.{ltb}
+use Rattle.laws.specs.Loop.{pick}
+use Rattle.laws.specs.All.{all}
+use Rattle.clock.specs.Readiness.{covers, covers-over, covers-more, covers-end}
+use borrow.Author.Needs.{needs}
+use Rattle.clock.proofs.covers.Statement.{statement}
+use Rattle.clock.proofs.covers.Tie as tie
+
+abbrev Inv-loop : tie.InvT-loop
+Inv-loop a v over₀ t₀ over t = (t ≤ places) × (pick over false (all (λ j. not (ltb (getD a j 0) (getD v j 0))) (places - t) t) ≡ covers places a v)
+
+abbrev μ-loop : tie.MeasureT-loop
+μ-loop a v over₀ t₀ over t = places - t
+
+loop-holds : tie.Need-loop-holds Inv-loop μ-loop
+unfolding covers
+loop-holds c = search needs
+
+mul-if1 : tie.Need-mul-if1 Inv-loop μ-loop
+mul-if1 c = search needs
+
+array-read-if1 : tie.Need-array-read-if1 Inv-loop μ-loop
+array-read-if1 c = search needs
+
+mul-if1-2 : tie.Need-mul-if1-2 Inv-loop μ-loop
+mul-if1-2 c = search needs
+
+array-read-if1-2 : tie.Need-array-read-if1-2 Inv-loop μ-loop
+array-read-if1-2 c = search needs
+
+add-t : tie.Need-add-t Inv-loop μ-loop
+add-t c = search needs
+
+loop-less : tie.Need-loop-less Inv-loop μ-loop
+loop-less c = search needs
+
+loop-again : tie.Need-loop-again Inv-loop μ-loop
+loop-again c = let L = c .before .before .loop in
+    let g = c .before .before .before .args in (
+      search needs,
+      elim (c .if1 .came) [
+        | inl w ↦ rw (w .1) (sym (covers-over places (g .t1) (g .t2) (L .over) (L .t) (search needs) (w .0 .taken)) ∙ L .inv .1)
+        | inr w ↦ rw (w .1) (sym (covers-more places (g .t1) (g .t2) (L .over) (L .t) (search needs) (w .0 .left)) ∙ L .inv .1)
+      ],
+    )
+
+returns : tie.Need-returns Inv-loop μ-loop
+returns c = let L = c .before .loop in
+    let g = c .before .before .args in
+    sym (covers-end places (g .t1) (g .t2) (L .over) (L .t) (search needs)) ∙ L .inv .1
+
+pub covers-spec : {M : Type 1} → statement M
+covers-spec =
+    tie.close
+    (tie.spec
+    Inv-loop
+    μ-loop
+    loop-holds
+    mul-if1
+    array-read-if1
+    mul-if1-2
+    array-read-if1-2
+    add-t
+    loop-less
+    loop-again
+    returns)

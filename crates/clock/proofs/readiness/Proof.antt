@@ -1,0 +1,51 @@
+use Rattle.clock.specs.Vectors.{places}
+use Prim.Native.Nat.{_≤_, _-_, _+_}
+use mathlib.Core.Path.{_≡_, sym, _∙_}
+use Rattle.laws.specs.Loop.{scan, scan-here, scan-next, scan-end}
+use Rattle.clock.specs.Readiness.{failsAt, waitFor, wait-scan}
+use Rattle.clock.specs.declared.Wait.the-variants.{Ready, Fails}
+use borrow.Author.Needs.{needs}
+use Rattle.clock.proofs.readiness.Statement.{statement}
+use Rattle.clock.proofs.readiness.Tie as tie
+
+abbrev Inv-loop : tie.InvT-loop
+Inv-loop a v u t₀ t = (1 ≤ t) × ((t ≤ places + 1) × (scan (failsAt a v u) Fails Ready (places + 1 - t) t ≡ waitFor a v u))
+
+abbrev μ-loop : tie.MeasureT-loop
+μ-loop a v u t₀ t = places + 1 - t
+
+loop-holds : tie.Need-loop-holds Inv-loop μ-loop
+loop-holds c = let g = c .args in (search needs, (search needs, sym (wait-scan (g .a) (g .v) (g .u))))
+
+fails-requires : tie.Need-fails-requires Inv-loop μ-loop
+fails-requires c κs = search needs
+
+returns : tie.Need-returns Inv-loop μ-loop
+returns c = let L = c .before .before .before .loop in sym (scan-here _ _ _ (places + 1) (L .t) (search needs) (cc)) ∙ L .inv .1 .1
+
+add-t : tie.Need-add-t Inv-loop μ-loop
+add-t c = search needs
+
+loop-less : tie.Need-loop-less Inv-loop μ-loop
+loop-less c = search needs
+
+loop-again : tie.Need-loop-again Inv-loop μ-loop
+loop-again c = let L = c .before .before .before .loop in
+    (search needs, (search needs, sym (scan-next _ _ _ (places + 1) (L .t) (search needs) (cc)) ∙ L .inv .1 .1))
+
+returns-2 : tie.Need-returns-2 Inv-loop μ-loop
+returns-2 c = let L = c .before .loop in sym (scan-end _ _ _ (places + 1) (L .t) (search needs)) ∙ L .inv .1 .1
+
+pub readiness-spec : {M : Type 1} → statement M
+readiness-spec =
+    tie.close
+    (tie.spec
+    Inv-loop
+    μ-loop
+    loop-holds
+    fails-requires
+    returns
+    add-t
+    loop-less
+    loop-again
+    returns-2)

@@ -1,0 +1,11 @@
+use Rattle.table.specs.Begin.{freshTable}
+use borrow.Author.Needs.{needs}
+use Rattle.table.proofs.fresh.Statement.{statement}
+use Rattle.table.proofs.fresh.Tie as tie
+
+returns : tie.Need-returns
+unfolding freshTable
+returns c = search needs
+
+pub fresh-spec : {M : Type 1} → statement M
+fresh-spec = tie.close (tie.spec returns)

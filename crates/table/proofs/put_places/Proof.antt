@@ -1,0 +1,73 @@
+use Rattle.clock.specs.Vectors.{places}
+use Prim.Native.Nat.{_≤_, _-_, _+_}
+use mathlib.Core.Path.{_≡_, refl, sym, _∙_}
+use native.Mathlib.Nat.{add-zero}
+use lib.ListN.{length, drop, length-set}
+use lib.Seq.{sets}
+use Rattle.laws.specs.Rows.{sets-one, sets-done}
+use borrow.Author.Needs.{needs}
+use Rattle.table.proofs.put_places.Statement.{statement}
+use Rattle.table.proofs.put_places.Tie as tie
+
+abbrev Inv-loop : tie.InvT-loop
+Inv-loop l₀ at v t₀ l t = (t ≤ places) × ((sets l (at + t) (drop t v) ≡ sets l₀ at v) × ((length l ≡ length l₀) × (length v ≡ places)))
+
+abbrev μ-loop : tie.MeasureT-loop
+μ-loop l₀ at v t₀ l t = places - t
+
+loop-holds : tie.Need-loop-holds Inv-loop μ-loop
+loop-holds c = (search needs, (rw add-zero, (refl, search needs)))
+
+mul-l : tie.Need-mul-l Inv-loop μ-loop
+mul-l c = search needs
+
+array-read-l : tie.Need-array-read-l Inv-loop μ-loop
+array-read-l c = search needs
+
+add-l : tie.Need-add-l Inv-loop μ-loop
+add-l c = search needs
+
+mul-l-2 : tie.Need-mul-l-2 Inv-loop μ-loop
+mul-l-2 c = search needs
+
+slice-write-l : tie.Need-slice-write-l Inv-loop μ-loop
+slice-write-l c = search needs
+
+add-t : tie.Need-add-t Inv-loop μ-loop
+add-t c = search needs
+
+loop-less : tie.Need-loop-less Inv-loop μ-loop
+loop-less c = search needs
+
+loop-again : tie.Need-loop-again Inv-loop μ-loop
+loop-again c = let L = c .before .loop in
+    let g = c .before .before .args in (
+      search needs,
+      (sym (sets-one (L .l) (g .at) (g .t3) (L .t) (search needs)) ∙ L .inv .1 .0, (simp length-set (L .inv .1 .1 .0), L .inv .1 .1 .1)),
+    )
+
+same-length : tie.Need-same-length Inv-loop μ-loop
+same-length c = search needs
+
+returns : tie.Need-returns Inv-loop μ-loop
+returns c = let L = c .before .loop in
+    let g = c .before .before .args in
+    (sym (sets-done (L .l) (g .at + L .t) (g .t3) (L .t) (search needs)) ∙ L .inv .1 .0, L .inv .1 .1 .1)
+
+pub put-places-spec : {M : Type 1} → statement M
+put-places-spec =
+    tie.close
+    (tie.spec
+    Inv-loop
+    μ-loop
+    loop-holds
+    mul-l
+    array-read-l
+    add-l
+    mul-l-2
+    slice-write-l
+    add-t
+    loop-less
+    loop-again
+    same-length
+    returns)

@@ -1,0 +1,84 @@
+-- The name of an entry's write, and what a search for an entry finds.
+use Prim.Native.Nat.{ℕ, _+_, _-_, _<_, _≤_, _%_}
+use mathlib.Core.Path.{_≡_, refl}
+use mathlib.Core.List.{List}
+use mathlib.Core.Bool.{Bool, true, false}
+use native.Mathlib.Omega.{arith}
+use borrow.Author.Tests.{eqb-true, eq-eqb, ne-eqb}
+use lib.ListN.{getD}
+use lib.Dec.{eqb}
+use Rattle.laws.specs.Loop.{pick, cases}
+use Rattle.laws.specs.Says.{apart}
+use Rattle.clock.specs.Vectors.{place, place-at}
+use Rattle.table.specs.declared.Open.{Open}
+use Rattle.table.specs.declared.Found.{Found}
+use Rattle.table.specs.declared.Found.the-variants.{At, Nothing}
+use Rattle.table.specs.Value.{entries, openAt, isFree}
+
+-- the entry's number: its writer's place of its vector
+abbrev pub number : Open → ℕ
+number o = place (o .vector) (o .writer)
+
+-- the entry is in use and holds the write u.k
+unfoldable pub named : ℕ → ℕ → Open → Bool
+named u k o = pick (isFree o) false (pick (eqb (o .writer) u) (eqb (number o) k) false)
+
+-- a free entry has no name
+pub free-named : (o : Open) (u k : ℕ) → isFree o ≡ true → named u k o ≡ false
+unfolding named
+free-named o u k e = rw e
+
+-- an entry in use has its own name
+pub own-named : (o : Open) → isFree o ≡ false → named (o .writer) (number o) o ≡ true
+unfolding named
+own-named o e = rw (e, eq-eqb (o .writer) (o .writer) refl, eq-eqb (number o) (number o) refl)
+
+-- and no other
+pub named-is : (o : Open) (u k : ℕ) → named u k o ≡ true → (isFree o ≡ false) × (o .writer ≡ u) × (number o ≡ k)
+unfolding named
+named-is o u k e =
+    cases (isFree o)
+    (λ t. apart false (rw t at e) refl)
+    (λ t. cases (eqb (o .writer) u)
+    (λ r. (t, eqb-true _ _ r, eqb-true _ _ (rw (t, r) at e)))
+    (λ r. apart false (rw (t, r) at e) refl))
+
+pub not-named : (o : Open) (u k : ℕ) → (o .writer ≡ u → number o ≡ k → ⊥) → named u k o ≡ false
+not-named o u k ne =
+    cases (named u k o)
+    (λ t. let n = named-is o u k t in absurd (ne (n .1) (n .2)))
+    (λ t. t)
+
+-- by the writer, and then by its place of the vector
+pub other-writer : (o : Open) (u k : ℕ) → (o .writer ≡ u → ⊥) → named u k o ≡ false
+other-writer o u k ne = not-named o u k (λ p q. ne p)
+
+pub same-writer : (o : Open) (u k : ℕ) → 1 ≤ u → o .writer ≡ u → named u k o ≡ eqb (getD (o .vector) (u - 1) 0) k
+unfolding named
+same-writer o u k h e =
+    let f : o .writer ≡ 0 → ⊥ = (λ q. (omega arith)) in
+    rw (ne-eqb (o .writer) 0 f, e, eq-eqb u u refl, place-at (o .vector) u h)
+
+-- what a search over the entries finds: one that passes, or that none does
+abbrev pub FoundIn : (ℕ → Bool) → Found → Type 0
+FoundIn p (At e) = (e < entries) × (p e ≡ true)
+FoundIn p Nothing = (e : ℕ) → e < entries → p e ≡ false
+
+pub found-at : (p : ℕ → Bool) (r : Found) (e : ℕ) → FoundIn p r → r ≡ At e → (e < entries) × (p e ≡ true)
+found-at p r e f q = rw q at f
+
+pub found-nothing : (p : ℕ → Bool) (r : Found) → FoundIn p r → r ≡ Nothing → (e : ℕ) → e < entries → p e ≡ false
+found-nothing p r f q = rw q at f
+
+abbrev pub namedAt : List ℕ → ℕ → ℕ → ℕ → Bool
+namedAt l u k e = named u k (openAt l e)
+
+abbrev pub freeAt : List ℕ → ℕ → Bool
+freeAt l e = isFree (openAt l e)
+
+-- a search that begins at any entry and goes round has seen them all
+pub round : (p : ℕ → Bool) (first : ℕ) → ((i : ℕ) → i < entries → p ((first + i) % entries) ≡ false) → (e : ℕ) → e < entries → p e ≡ false
+round p first h e b =
+    let i : ℕ = (e + entries - first % entries) % entries in
+    let c : (first + i) % entries ≡ e = omega arith in
+    rw (← c) (h i (omega arith))
