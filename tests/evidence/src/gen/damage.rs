@@ -1,0 +1,910 @@
+//! Damaged images: each written rule broken, in a field of its own.
+
+use super::Rng;
+use crate::image::{
+    self, check_of, BLOCK, CELLS_PER_BLOCK, CELL_BYTES, CHECK, OPEN_BYTES, OPEN_PER_BLOCK, PAYLOAD,
+};
+use crate::Refusal;
+
+/// A way to damage an image.
+///
+/// Those that break a rule of the table leave, where the rules allow it, all
+/// other rules kept, and put the block checks right.
+#[derive(Clone, Copy, Debug, PartialEq, Eq, Hash)]
+pub enum Damage {
+    // Length and checks: refusal 12.
+    /// No bytes at all.
+    Empty,
+    /// 1 to 511 bytes cut off.
+    CutBytes,
+    /// 1 to 511 bytes too many.
+    ExtraBytes,
+    /// A bit of a check changed.
+    CheckByte,
+    /// A bit of a block changed, its check left.
+    ContentByte,
+    /// A block of zeros, check included.
+    ZeroBlock,
+    /// A rule broken in the first block and a check in the last: 12, not 13.
+    CheckBeforeRule,
+
+    // The blocks: refusal 13 from here on.
+    /// A block's kind is another.
+    KindWrong,
+    /// A block's edition is not 1.
+    EditionWrong,
+    /// A block's place is another.
+    PlaceWrong,
+    /// The last block is missing.
+    BlockCut,
+    /// Some block is missing, the places put right or not.
+    BlockDropped,
+    /// A block stands twice.
+    BlockAdded,
+    /// A block without content behind the last, its check right.
+    ZeroBlockAdded,
+    /// Two blocks of different kinds exchanged, the places put right.
+    KindsSwapped,
+    /// Two blocks exchanged with their places.
+    PlacesSwapped,
+
+    // Kind 1.
+    /// n is not 1 to 8.
+    DesksRange,
+    /// m is not 1 to 64.
+    CellsRange,
+    /// The open count is not that of the list.
+    OpenCountWrong,
+    /// A byte behind the open count is not zero.
+    HeadByte,
+
+    // Kind 2.
+    /// A desk number is another.
+    DeskNumber,
+    /// Two desks' blocks exchanged, the places put right.
+    DesksSwapped,
+    /// A byte that is not named is not zero.
+    DeskByte,
+    /// A count past n.
+    CountPastN,
+    /// A clock place past n.
+    ClockPastN,
+    /// A count of u above u's own.
+    CountAboveOwn,
+    /// A clock above its desk's counts.
+    ClockAboveCount,
+    /// A clock below its desk's own count, at that place.
+    ClockOwnPlace,
+
+    // Kind 3.
+    /// A cell's writer is above n.
+    CellWriter,
+    /// A set cell's status is above 2.
+    CellStatus,
+    /// A byte that is not named is not zero.
+    CellByte,
+    /// A set cell's vector has a place past n.
+    CellPlacePastN,
+    /// A cell past m.
+    CellPastM,
+    /// An unset cell with a status or a vector.
+    UnsetNotZero,
+    /// A set cell's vector above its desk's counts.
+    CellAboveCount,
+    /// A set cell's vector is zero at its writer's place.
+    CellWriterPlaceZero,
+
+    // Kind 4.
+    /// An open write's writer is another, or no desk.
+    OpenWriter,
+    /// An open write's status is above 2.
+    OpenStatus,
+    /// An open write's cell is not 1 to m.
+    OpenCell,
+    /// An open write's byte 3 is not zero.
+    OpenByte,
+    /// An open write's vector has a place past n.
+    OpenPlacePastN,
+    /// An open write's vector above t's own count.
+    OpenAboveOwn,
+    /// An open write's vector above the counts of a desk that applied it.
+    OpenAboveCount,
+    /// An open write's number is another.
+    OpenNumber,
+    /// An open write is not in the list.
+    OpenMissing,
+    /// An open write stands twice.
+    OpenTwice,
+    /// A write that all desks have applied stands in the list.
+    OpenClosed,
+    /// Two neighbours exchanged.
+    OpenOrder,
+    /// A byte behind the last open write is not zero.
+    OpenPastCount,
+    /// A mark above 2.
+    MarkRange,
+    /// A mark of a desk past n.
+    MarkPastN,
+    /// Mark 2 above the desk's count.
+    MarkAppliedTooSoon,
+    /// Mark 0 or 1 at or below the desk's count.
+    MarkNotApplied,
+    /// Mark 1 on a write that is ready.
+    MarkHeldReady,
+
+    /// Changes that no rule forbids: accepted.
+    Allowed,
+
+    // Whatever comes out: nothing is foretold.
+    /// One to three bytes changed.
+    Scribble,
+    /// Two blocks of a kind exchanged, the places put right.
+    SameKindSwapped,
+}
+
+impl Damage {
+    /// All ways.
+    pub const ALL: [Damage; 57] = [
+        Damage::Empty,
+        Damage::CutBytes,
+        Damage::ExtraBytes,
+        Damage::CheckByte,
+        Damage::ContentByte,
+        Damage::ZeroBlock,
+        Damage::CheckBeforeRule,
+        Damage::KindWrong,
+        Damage::EditionWrong,
+        Damage::PlaceWrong,
+        Damage::BlockCut,
+        Damage::BlockDropped,
+        Damage::BlockAdded,
+        Damage::ZeroBlockAdded,
+        Damage::KindsSwapped,
+        Damage::PlacesSwapped,
+        Damage::DesksRange,
+        Damage::CellsRange,
+        Damage::OpenCountWrong,
+        Damage::HeadByte,
+        Damage::DeskNumber,
+        Damage::DesksSwapped,
+        Damage::DeskByte,
+        Damage::CountPastN,
+        Damage::ClockPastN,
+        Damage::CountAboveOwn,
+        Damage::ClockAboveCount,
+        Damage::ClockOwnPlace,
+        Damage::CellWriter,
+        Damage::CellStatus,
+        Damage::CellByte,
+        Damage::CellPlacePastN,
+        Damage::CellPastM,
+        Damage::UnsetNotZero,
+        Damage::CellAboveCount,
+        Damage::CellWriterPlaceZero,
+        Damage::OpenWriter,
+        Damage::OpenStatus,
+        Damage::OpenCell,
+        Damage::OpenByte,
+        Damage::OpenPlacePastN,
+        Damage::OpenAboveOwn,
+        Damage::OpenAboveCount,
+        Damage::OpenNumber,
+        Damage::OpenMissing,
+        Damage::OpenTwice,
+        Damage::OpenClosed,
+        Damage::OpenOrder,
+        Damage::OpenPastCount,
+        Damage::MarkRange,
+        Damage::MarkPastN,
+        Damage::MarkAppliedTooSoon,
+        Damage::MarkNotApplied,
+        Damage::MarkHeldReady,
+        Damage::Allowed,
+        Damage::Scribble,
+        Damage::SameKindSwapped,
+    ];
+
+    /// What a load of an image so damaged has to answer; `None` if it depends
+    /// on the bytes.
+    pub fn foretold(self) -> Option<Result<(), Refusal>> {
+        match self {
+            Damage::Scribble | Damage::SameKindSwapped => None,
+            Damage::Allowed => Some(Ok(())),
+            Damage::Empty
+            | Damage::CutBytes
+            | Damage::ExtraBytes
+            | Damage::CheckByte
+            | Damage::ContentByte
+            | Damage::ZeroBlock
+            | Damage::CheckBeforeRule => Some(Err(Refusal::ImageDamaged)),
+            _ => Some(Err(Refusal::RuleBroken)),
+        }
+    }
+}
+
+/// A damaged image.
+#[derive(Clone, Debug)]
+pub struct Sample {
+    /// What was done to it.
+    pub damage: Damage,
+    /// Its bytes.
+    pub image: Vec<u8>,
+}
+
+/// A damaged image of a random table.
+pub fn damaged_image(seed: u64) -> Sample {
+    let mut rng = Rng::new(seed ^ 0xda3a_6e00_0000_0000);
+    loop {
+        let what = *rng.pick(&Damage::ALL);
+        let table = super::table(rng.bits());
+        let good = image::to_vec(&table).expect("a table that a schedule gave keeps the rules");
+        if let Some(image) = damage(&good, what, &mut rng) {
+            return Sample {
+                damage: what,
+                image,
+            };
+        }
+    }
+}
+
+/// Damages a good image; `None` if it has no place for that.
+pub fn damage(good: &[u8], what: Damage, rng: &mut Rng) -> Option<Vec<u8>> {
+    let mut f = Fields::of(good);
+    let (n, m, open) = (f.n, f.m, f.open);
+    let blocks = good.len() / BLOCK;
+    let block = rng.below(blocks);
+    match what {
+        Damage::Empty => f.image.clear(),
+        Damage::CutBytes => f.image.truncate(good.len() - rng.range(1, BLOCK - 1)),
+        Damage::ExtraBytes => f.image.resize(good.len() + rng.range(1, BLOCK - 1), 0),
+        Damage::CheckByte => {
+            f.image[block * BLOCK + rng.range(CHECK, BLOCK - 1)] ^= 1 << rng.below(8);
+            return Some(f.image);
+        }
+        Damage::ContentByte => {
+            f.image[block * BLOCK + rng.below(CHECK)] ^= 1 << rng.below(8);
+            return Some(f.image);
+        }
+        Damage::ZeroBlock => {
+            f.image[block * BLOCK..][..BLOCK].fill(0);
+            return Some(f.image);
+        }
+        Damage::CheckBeforeRule => {
+            // A rule broken in the first block, a check wrong in the last.
+            f.image[PAYLOAD] = 9;
+            f.put_checks_right();
+            f.image[good.len() - BLOCK + CHECK] ^= 1;
+            return Some(f.image);
+        }
+
+        Damage::KindWrong => {
+            let byte = &mut f.image[block * BLOCK];
+            *byte = other(*byte, &[0, 1, 2, 3, 4, 5, 255], rng);
+        }
+        Damage::EditionWrong => f.image[block * BLOCK + 1] = *rng.pick(&[0, 2, 255]),
+        Damage::PlaceWrong => {
+            let at = block * BLOCK + rng.range(2, 3);
+            f.image[at] = f.image[at].wrapping_add(1 + rng.below(255) as u8);
+        }
+        Damage::BlockCut => f.image.truncate(good.len() - BLOCK),
+        Damage::BlockDropped => {
+            f.image.drain(block * BLOCK..(block + 1) * BLOCK);
+            if rng.chance(1, 2) {
+                f.put_places_right();
+            }
+        }
+        Damage::BlockAdded => {
+            let copy = good[block * BLOCK..][..BLOCK].to_vec();
+            let at = rng.pick(&[block, blocks]) * BLOCK;
+            f.image.splice(at..at, copy);
+            f.put_places_right();
+        }
+        Damage::ZeroBlockAdded => {
+            // Zero but for its check, and perhaps a head.
+            f.image.resize(good.len() + BLOCK, 0);
+            if rng.chance(1, 2) {
+                f.image[good.len()] = 4;
+                f.image[good.len() + 1] = 1;
+                f.put_places_right();
+            }
+        }
+        Damage::KindsSwapped => {
+            let with = rng.below(blocks);
+            if f.image[block * BLOCK] == f.image[with * BLOCK] {
+                return None;
+            }
+            f.swap_blocks(block, with);
+            f.put_places_right();
+        }
+        Damage::PlacesSwapped => {
+            let with = rng.below(blocks);
+            if block == with {
+                return None;
+            }
+            f.swap_blocks(block, with);
+        }
+
+        Damage::DesksRange => f.image[PAYLOAD] = *rng.pick(&[0, 9, 255]),
+        Damage::CellsRange => f.image[PAYLOAD + 1] = *rng.pick(&[0, 65, 255]),
+        Damage::OpenCountWrong => {
+            let count = [open.wrapping_sub(1) as u8, open as u8 + 1, 65, 255];
+            f.image[PAYLOAD + 2] = other(open as u8, &count, rng);
+        }
+        Damage::HeadByte => f.image[rng.range(PAYLOAD + 3, CHECK - 1)] = nonzero(rng),
+
+        Damage::DeskNumber => {
+            let at = f.desk(rng.below(n));
+            f.image[at] = other(f.image[at], &[0, 1, 2, 8, 9, 255], rng);
+        }
+        Damage::DesksSwapped => {
+            let (a, b) = (rng.below(n), rng.below(n));
+            if a == b {
+                return None;
+            }
+            f.swap_blocks(1 + a, 1 + b);
+            f.put_places_right();
+        }
+        Damage::DeskByte => {
+            let (before, behind) = (rng.range(1, 3), rng.range(36, CHECK - PAYLOAD - 1));
+            let at = f.desk(rng.below(n)) + rng.pick(&[before, behind]);
+            f.image[at] = nonzero(rng);
+        }
+        Damage::CountPastN => f.set_past_n(f.applied(rng.below(n), 0), rng)?,
+        Damage::ClockPastN => f.set_past_n(f.clock(rng.below(n), 0), rng)?,
+        Damage::CountAboveOwn => {
+            // Where all of u's writes are applied: no open write changes.
+            let mut places = f.desk_pairs();
+            places.retain(|&(i, u)| i != u && f.get(f.applied(i, u)) == f.own(u));
+            let (i, u) = choose(&places, rng)?;
+            let value = f.own(u).checked_add(1)?;
+            f.set(f.applied(i, u), value);
+        }
+        Damage::ClockAboveCount => {
+            let mut places = f.desk_pairs();
+            places.retain(|&(i, u)| i != u);
+            let (i, u) = choose(&places, rng)?;
+            let value = f.get(f.applied(i, u)).checked_add(1)?;
+            f.set(f.clock(i, u), value);
+        }
+        Damage::ClockOwnPlace => {
+            let i = rng.below(n);
+            let value = f.own(i).checked_sub(1)?;
+            f.set(f.clock(i, i), value);
+        }
+
+        Damage::CellWriter => {
+            let at = f.set_cell(rng)?.2;
+            f.image[at] = *rng.pick(&[n as u8 + 1, 9, 255]);
+        }
+        Damage::CellStatus => {
+            let at = f.set_cell(rng)?.2;
+            f.image[at + 1] = *rng.pick(&[3, 4, 255]);
+        }
+        Damage::CellByte => {
+            let (i, x) = (rng.below(n), rng.below(m));
+            let inside = f.cell(i, x) + rng.range(2, 3);
+            let tail = f.cell(i, x) / BLOCK * BLOCK + rng.range(CHECK - 4, CHECK - 1);
+            f.image[*rng.pick(&[inside, tail])] = nonzero(rng);
+        }
+        Damage::CellPlacePastN => {
+            let at = f.set_cell(rng)?.2;
+            f.set_past_n(at + 4, rng)?;
+        }
+        Damage::CellPastM => {
+            if m % CELLS_PER_BLOCK == 0 {
+                return None;
+            }
+            let (i, x, from) = f.set_cell(rng)?;
+            let past = rng.range(m, m.next_multiple_of(CELLS_PER_BLOCK) - 1);
+            let to = f.cell(i, past);
+            if rng.chance(1, 2) {
+                // A whole cell that would be a good one.
+                let cell = good[from..][..CELL_BYTES].to_vec();
+                f.image[to..][..CELL_BYTES].copy_from_slice(&cell);
+            } else {
+                f.image[to + rng.below(CELL_BYTES)] = nonzero(rng);
+            }
+            debug_assert!(x < m);
+        }
+        Damage::UnsetNotZero => {
+            let mut cells = f.all_cells();
+            cells.retain(|&(_, _, at)| f.image[at] == 0);
+            let (_, _, at) = choose(&cells, rng)?;
+            if rng.chance(1, 2) {
+                f.image[at + 1] = *rng.pick(&[1, 2]);
+            } else {
+                let u = rng.below(n);
+                f.set(at + 4 + 2 * u, 1);
+            }
+        }
+        Damage::CellAboveCount => {
+            // Best where the other bound, t's own count, stays kept.
+            let mut places = Vec::new();
+            for (i, _, at) in f.all_cells() {
+                for t in 0..n {
+                    if f.image[at] != 0 && f.get(f.applied(i, t)) < f.own(t) {
+                        places.push((i, t, at));
+                    }
+                }
+            }
+            let (i, t, at) = choose(&places, rng)?;
+            let value = f.get(f.applied(i, t)) + 1;
+            f.set(at + 4 + 2 * t, value);
+        }
+        Damage::CellWriterPlaceZero => {
+            let at = f.set_cell(rng)?.2;
+            let u = f.image[at] as usize - 1;
+            f.set(at + 4 + 2 * u, 0);
+        }
+
+        Damage::OpenWriter => {
+            let at = f.open_write(rng)?;
+            f.image[at] = other(f.image[at], &[0, 1, 2, n as u8 + 1, 9, 255], rng);
+        }
+        Damage::OpenStatus => {
+            let at = f.open_write(rng)?;
+            f.image[at + 1] = *rng.pick(&[3, 4, 255]);
+        }
+        Damage::OpenCell => {
+            let at = f.open_write(rng)?;
+            f.image[at + 2] = *rng.pick(&[0, m as u8 + 1, 65, 255]);
+        }
+        Damage::OpenByte => {
+            let at = f.open_write(rng)?;
+            f.image[at + 3] = nonzero(rng);
+        }
+        Damage::OpenPlacePastN => {
+            let at = f.open_write(rng)?;
+            f.set_past_n(at + 4, rng)?;
+        }
+        Damage::OpenAboveOwn => {
+            let at = f.open_write(rng)?;
+            let u = f.image[at] as usize - 1;
+            let t = rng.below(n);
+            if t == u {
+                return None;
+            }
+            let value = f.own(t).checked_add(1)?;
+            f.set(at + 4 + 2 * t, value);
+        }
+        Damage::OpenAboveCount => {
+            // Above the counts of a desk marked 2, and not above t's own.
+            let mut places = Vec::new();
+            for j in 0..open {
+                let at = f.open_at(j);
+                let u = f.image[at] as usize - 1;
+                for i in (0..n).filter(|&i| f.image[at + 20 + i] == 2) {
+                    for t in (0..n).filter(|&t| t != u) {
+                        if f.get(f.applied(i, t)) < f.own(t) {
+                            places.push((i, t, at));
+                        }
+                    }
+                }
+            }
+            let (i, t, at) = choose(&places, rng)?;
+            let value = f.get(f.applied(i, t)) + 1;
+            f.set(at + 4 + 2 * t, value);
+        }
+        Damage::OpenNumber => {
+            let at = f.open_write(rng)?;
+            let place = at + 4 + 2 * (f.image[at] as usize - 1);
+            let value = f.get(place);
+            let number = *rng.pick(&[value - 1, value.checked_add(1)?, 0]);
+            f.set(place, number);
+        }
+        Damage::OpenMissing => {
+            let mut list = f.open_list();
+            if list.is_empty() {
+                return None;
+            }
+            list.remove(rng.below(open));
+            f.set_open_list(&list);
+        }
+        Damage::OpenTwice => {
+            let mut list = f.open_list();
+            if list.is_empty() || open == 64 {
+                return None;
+            }
+            let j = rng.below(open);
+            list.insert(j, list[j]);
+            f.set_open_list(&list);
+        }
+        Damage::OpenClosed => {
+            // A write that every desk has applied, in its right place.
+            if open == 64 {
+                return None;
+            }
+            let closed: Vec<(usize, u16)> = (0..n)
+                .filter_map(|u| {
+                    let low = (0..n).map(|i| f.get(f.applied(i, u))).min()?;
+                    (low > 0).then_some((u, low))
+                })
+                .collect();
+            let (u, number) = choose(&closed, rng)?;
+            let mut write = [0; OPEN_BYTES];
+            write[0] = u as u8 + 1;
+            write[2] = 1;
+            write[4 + 2 * u..][..2].copy_from_slice(&number.to_le_bytes());
+            write[20..20 + n].fill(2);
+            let mut list = f.open_list();
+            let at = list.iter().take_while(|w| w[0] < write[0]).count();
+            list.insert(at, write);
+            f.set_open_list(&list);
+        }
+        Damage::OpenOrder => {
+            let mut list = f.open_list();
+            if list.len() < 2 {
+                return None;
+            }
+            let j = rng.below(open - 1);
+            list.swap(j, j + 1);
+            f.set_open_list(&list);
+        }
+        Damage::OpenPastCount => {
+            // Something behind the last open write, in its block.
+            if open % OPEN_PER_BLOCK == 0 {
+                return None;
+            }
+            let j = rng.range(open, open.next_multiple_of(OPEN_PER_BLOCK) - 1);
+            let at = f.open_at(j) + rng.below(OPEN_BYTES);
+            f.image[at] = nonzero(rng);
+        }
+        Damage::MarkRange => {
+            let at = f.open_write(rng)? + 20 + rng.below(n);
+            f.image[at] = *rng.pick(&[3, 4, 255]);
+        }
+        Damage::MarkPastN => {
+            if n == 8 {
+                return None;
+            }
+            let at = f.open_write(rng)? + 20 + rng.range(n, 7);
+            f.image[at] = *rng.pick(&[1, 2]);
+        }
+        Damage::MarkAppliedTooSoon => {
+            let mut marks = f.marks();
+            marks.retain(|&(_, _, at)| f.image[at] != 2);
+            let (_, _, at) = choose(&marks, rng)?;
+            f.image[at] = 2;
+        }
+        Damage::MarkNotApplied => {
+            let mut marks = f.marks();
+            marks.retain(|&(_, _, at)| f.image[at] == 2);
+            let (_, _, at) = choose(&marks, rng)?;
+            f.image[at] = *rng.pick(&[0, 1]);
+        }
+        Damage::MarkHeldReady => {
+            let mut marks = f.marks();
+            marks.retain(|&(j, i, at)| f.image[at] == 0 && f.ready(f.open_at(j), i));
+            let (_, _, at) = choose(&marks, rng)?;
+            f.image[at] = 1;
+        }
+
+        Damage::Allowed => return Some(changed(f.image, rng)),
+        Damage::Scribble => {
+            for _ in 0..rng.range(1, 3) {
+                let at = f.interesting_byte(rng);
+                f.image[at] = match rng.below(3) {
+                    0 => f.image[at].wrapping_add(1),
+                    1 => f.image[at].wrapping_sub(1),
+                    _ => rng.below(4) as u8,
+                };
+            }
+        }
+        Damage::SameKindSwapped => {
+            let with = rng.below(blocks);
+            if block == with || f.image[block * BLOCK] != f.image[with * BLOCK] {
+                return None;
+            }
+            f.swap_blocks(block, with);
+            f.put_places_right();
+        }
+    }
+    f.put_checks_right();
+    Some(f.image)
+}
+
+/// A good image with the numbers of desk u moved up by `up[u]` in all counts,
+/// clocks and vectors.
+pub(super) fn raised(good: Vec<u8>, up: &[u16; 8]) -> Vec<u8> {
+    let mut f = Fields::of(&good);
+    let mut vectors = Vec::new();
+    for i in 0..f.n {
+        vectors.push(f.applied(i, 0));
+        vectors.push(f.clock(i, 0));
+    }
+    for (_, _, at) in f.all_cells() {
+        if f.image[at] != 0 {
+            vectors.push(at + 4);
+        }
+    }
+    for j in 0..f.open {
+        vectors.push(f.open_at(j) + 4);
+    }
+    for at in vectors {
+        for (u, up) in up.iter().enumerate().take(f.n) {
+            let value = f.get(at + 2 * u) + up;
+            f.set(at + 2 * u, value);
+        }
+    }
+    f.put_checks_right();
+    f.image
+}
+
+/// A good image after up to a dozen changes that no written rule forbids.
+pub(super) fn changed(good: Vec<u8>, rng: &mut Rng) -> Vec<u8> {
+    let mut f = Fields::of(&good);
+    for _ in 0..rng.range(1, 12) {
+        let _ = f.change(rng);
+    }
+    f.put_checks_right();
+    f.image
+}
+
+fn choose<T: Copy>(list: &[T], rng: &mut Rng) -> Option<T> {
+    (!list.is_empty()).then(|| *rng.pick(list))
+}
+
+/// One of the list that is not `old`.
+fn other(old: u8, list: &[u8], rng: &mut Rng) -> u8 {
+    let others: Vec<u8> = list.iter().copied().filter(|&b| b != old).collect();
+    *rng.pick(&others)
+}
+
+fn nonzero(rng: &mut Rng) -> u8 {
+    rng.range(1, 255) as u8
+}
+
+/// An image and where its fields lie. Desks, cells and open writes count from
+/// 0 here.
+struct Fields {
+    image: Vec<u8>,
+    n: usize,
+    m: usize,
+    open: usize,
+}
+
+impl Fields {
+    fn of(good: &[u8]) -> Fields {
+        Fields {
+            image: good.to_vec(),
+            n: good[PAYLOAD].into(),
+            m: good[PAYLOAD + 1].into(),
+            open: good[PAYLOAD + 2].into(),
+        }
+    }
+
+    fn get(&self, at: usize) -> u16 {
+        u16::from_le_bytes([self.image[at], self.image[at + 1]])
+    }
+
+    fn set(&mut self, at: usize, value: u16) {
+        self.image[at..at + 2].copy_from_slice(&value.to_le_bytes());
+    }
+
+    /// A desk's payload.
+    fn desk(&self, i: usize) -> usize {
+        (1 + i) * BLOCK + PAYLOAD
+    }
+
+    fn applied(&self, i: usize, u: usize) -> usize {
+        self.desk(i) + 4 + 2 * u
+    }
+
+    fn clock(&self, i: usize, u: usize) -> usize {
+        self.desk(i) + 20 + 2 * u
+    }
+
+    fn own(&self, u: usize) -> u16 {
+        self.get(self.applied(u, u))
+    }
+
+    fn cell(&self, i: usize, x: usize) -> usize {
+        let block = 1 + self.n + i * self.m.div_ceil(CELLS_PER_BLOCK) + x / CELLS_PER_BLOCK;
+        block * BLOCK + PAYLOAD + x % CELLS_PER_BLOCK * CELL_BYTES
+    }
+
+    fn open_at(&self, j: usize) -> usize {
+        let block = image::block_count(self.n, self.m, 0) + j / OPEN_PER_BLOCK;
+        block * BLOCK + PAYLOAD + j % OPEN_PER_BLOCK * OPEN_BYTES
+    }
+
+    /// Pairs of desks.
+    fn desk_pairs(&self) -> Vec<(usize, usize)> {
+        let n = self.n;
+        (0..n).flat_map(|i| (0..n).map(move |u| (i, u))).collect()
+    }
+
+    /// All cells: desk, cell, where.
+    fn all_cells(&self) -> Vec<(usize, usize, usize)> {
+        (0..self.n)
+            .flat_map(|i| (0..self.m).map(move |x| (i, x, self.cell(i, x))))
+            .collect()
+    }
+
+    /// All marks: open write, desk, where.
+    fn marks(&self) -> Vec<(usize, usize, usize)> {
+        (0..self.open)
+            .flat_map(|j| (0..self.n).map(move |i| (j, i, self.open_at(j) + 20 + i)))
+            .collect()
+    }
+
+    /// A set cell, if there is one.
+    fn set_cell(&self, rng: &mut Rng) -> Option<(usize, usize, usize)> {
+        let mut cells = self.all_cells();
+        cells.retain(|&(_, _, at)| self.image[at] != 0);
+        choose(&cells, rng)
+    }
+
+    /// An open write, if there is one.
+    fn open_write(&self, rng: &mut Rng) -> Option<usize> {
+        (self.open > 0).then(|| self.open_at(rng.below(self.open)))
+    }
+
+    fn open_list(&self) -> Vec<[u8; OPEN_BYTES]> {
+        (0..self.open)
+            .map(|j| {
+                let mut write = [0; OPEN_BYTES];
+                write.copy_from_slice(&self.image[self.open_at(j)..][..OPEN_BYTES]);
+                write
+            })
+            .collect()
+    }
+
+    /// Writes the kind 4 blocks and the open count anew.
+    fn set_open_list(&mut self, list: &[[u8; OPEN_BYTES]]) {
+        self.open = list.len();
+        self.image[PAYLOAD + 2] = self.open as u8;
+        let before = image::block_count(self.n, self.m, 0);
+        self.image.truncate(before * BLOCK);
+        let blocks = image::block_count(self.n, self.m, self.open);
+        self.image.resize(blocks * BLOCK, 0);
+        for block in before..blocks {
+            self.image[block * BLOCK] = 4;
+            self.image[block * BLOCK + 1] = 1;
+        }
+        for (j, write) in list.iter().enumerate() {
+            let at = self.open_at(j);
+            self.image[at..at + OPEN_BYTES].copy_from_slice(write);
+        }
+        self.put_places_right();
+    }
+
+    /// Makes a place past n of the vector at `at` nonzero.
+    fn set_past_n(&mut self, at: usize, rng: &mut Rng) -> Option<()> {
+        if self.n == 8 {
+            return None;
+        }
+        let u = rng.range(self.n, 7);
+        self.set(at + 2 * u, *rng.pick(&[1, 256, 65_535]));
+        Some(())
+    }
+
+    /// Whether the open write at `write` is ready at desk i.
+    fn ready(&self, write: usize, i: usize) -> bool {
+        let u = self.image[write] as usize - 1;
+        (0..self.n).all(|t| {
+            let (need, have) = (self.get(write + 4 + 2 * t), self.get(self.applied(i, t)));
+            if t == u {
+                u32::from(have) + 1 == u32::from(need)
+            } else {
+                have >= need
+            }
+        })
+    }
+
+    /// Makes one change that the rules allow; `None` if there was no place.
+    fn change(&mut self, rng: &mut Rng) -> Option<()> {
+        let n = self.n;
+        let any =
+            |rng: &mut Rng, least: u16, most: u16| rng.range(least.into(), most.into()) as u16;
+        match rng.below(7) {
+            0 => {
+                let at = self.set_cell(rng)?.2;
+                self.image[at + 1] = rng.below(3) as u8;
+            }
+            1 => {
+                // Another vector, and perhaps another writer.
+                let (i, _, at) = self.set_cell(rng)?;
+                let t = rng.below(n);
+                let least = u16::from(usize::from(self.image[at]) == t + 1);
+                let value = any(rng, least, self.get(self.applied(i, t)));
+                self.set(at + 4 + 2 * t, value);
+                let u = rng.below(n);
+                if self.get(at + 4 + 2 * u) > 0 {
+                    self.image[at] = u as u8 + 1;
+                }
+            }
+            2 => {
+                // A cell set anew, or made unset.
+                let (i, x, u) = (rng.below(n), rng.below(self.m), rng.below(n));
+                let at = self.cell(i, x);
+                self.image[at..][..CELL_BYTES].fill(0);
+                if self.get(self.applied(i, u)) > 0 {
+                    self.image[at] = u as u8 + 1;
+                    self.image[at + 1] = rng.below(3) as u8;
+                    for t in 0..n {
+                        let value = any(rng, u16::from(t == u), self.get(self.applied(i, t)));
+                        self.set(at + 4 + 2 * t, value);
+                    }
+                }
+            }
+            3 => {
+                let (i, t) = (rng.below(n), rng.below(n));
+                if i != t {
+                    let value = any(rng, 0, self.get(self.applied(i, t)));
+                    self.set(self.clock(i, t), value);
+                }
+            }
+            4 => {
+                let at = self.open_write(rng)?;
+                self.image[at + 1] = rng.below(3) as u8;
+                self.image[at + 2] = rng.range(1, self.m) as u8;
+            }
+            5 => {
+                // Another vector; what is ready by it is held no more.
+                let at = self.open_write(rng)?;
+                let t = rng.below(n);
+                if t + 1 != self.image[at].into() {
+                    let most = (0..n)
+                        .filter(|&i| self.image[at + 20 + i] == 2)
+                        .map(|i| self.get(self.applied(i, t)))
+                        .min()?;
+                    let value = any(rng, 0, most);
+                    self.set(at + 4 + 2 * t, value);
+                }
+                for i in 0..n {
+                    if self.image[at + 20 + i] == 1 && self.ready(at, i) {
+                        self.image[at + 20 + i] = 0;
+                    }
+                }
+            }
+            _ => {
+                let mut marks = self.marks();
+                marks.retain(|&(j, i, at)| match self.image[at] {
+                    0 => !self.ready(self.open_at(j), i),
+                    mark => mark == 1,
+                });
+                let at = choose(&marks, rng)?.2;
+                self.image[at] ^= 1;
+            }
+        }
+        Some(())
+    }
+
+    /// A byte of a field that means something.
+    fn interesting_byte(&self, rng: &mut Rng) -> usize {
+        let i = rng.below(self.n);
+        match rng.below(6) {
+            0 => self.desk(i) + 4 + rng.below(32),
+            1 => self.cell(i, rng.below(self.m)) + rng.below(CELL_BYTES),
+            2 => match self.set_cell(rng) {
+                Some((_, _, at)) => at + rng.below(6),
+                None => self.clock(i, i),
+            },
+            3 | 4 => match self.open_write(rng) {
+                Some(at) => at + rng.below(OPEN_BYTES),
+                None => self.applied(i, i),
+            },
+            _ => rng.below(self.image.len() / BLOCK) * BLOCK + rng.below(CHECK),
+        }
+    }
+
+    fn swap_blocks(&mut self, a: usize, b: usize) {
+        for j in 0..BLOCK {
+            self.image.swap(a * BLOCK + j, b * BLOCK + j);
+        }
+    }
+
+    fn put_places_right(&mut self) {
+        for (block, place) in self.image.chunks_exact_mut(BLOCK).zip(0u16..) {
+            block[2..PAYLOAD].copy_from_slice(&place.to_le_bytes());
+        }
+    }
+
+    fn put_checks_right(&mut self) {
+        for block in self.image.chunks_exact_mut(BLOCK) {
+            let check = check_of(block);
+            block[CHECK..].copy_from_slice(&check.to_le_bytes());
+        }
+    }
+}

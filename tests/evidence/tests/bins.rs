@@ -1,0 +1,73 @@
+//! The two programs.
+
+mod common;
+
+use evidence::gen::{schedule, Kind};
+use evidence::text::replay;
+use std::io::Write;
+use std::process::{Command, Output, Stdio};
+
+fn run(program: &str, args: &[&str], input: &[u8]) -> Output {
+    let mut child = Command::new(program)
+        .args(args)
+        .stdin(Stdio::piped())
+        .stdout(Stdio::piped())
+        .stderr(Stdio::piped())
+        .spawn()
+        .unwrap();
+    let mut stdin = child.stdin.take().unwrap();
+    let input = input.to_vec();
+    let writer = std::thread::spawn(move || stdin.write_all(&input));
+    let output = child.wait_with_output().unwrap();
+    // Not even too long an input finds its pipe broken.
+    let _ = writer.join().unwrap();
+    output
+}
+
+fn replay_ref(input: &[u8]) -> Vec<u8> {
+    let output = run(env!("CARGO_BIN_EXE_replay_ref"), &[], input);
+    assert!(output.status.success() && output.stderr.is_empty());
+    output.stdout
+}
+
+#[test]
+fn replay_ref_does_as_replay() {
+    let (input, output) = common::session();
+    assert_eq!(replay_ref(&input), output);
+    assert_eq!(replay_ref(b""), b"");
+    assert_eq!(replay_ref(b"N 1 1"), b"E 10\n");
+    for seed in 0..4 {
+        for kind in Kind::ALL {
+            let text = schedule(seed, kind, 300);
+            assert_eq!(replay_ref(&text), replay(&text), "{kind:?} {seed}");
+        }
+    }
+}
+
+#[test]
+fn replay_ref_and_long_input() {
+    assert_eq!(replay_ref(&[b'\n'; 65_536]).len(), 5 * 65_536);
+    assert_eq!(replay_ref(&[b'\n'; 65_537]), b"E 14\n");
+    assert_eq!(replay_ref(&vec![b'\n'; 3_000_000]), b"E 14\n");
+}
+
+#[test]
+fn schedules_prints_schedules() {
+    let program = env!("CARGO_BIN_EXE_schedules");
+    for kind in Kind::ALL {
+        let args = ["--seed", "12", "--kind", kind.name(), "--lines", "77"];
+        let output = run(program, &args, b"");
+        assert!(output.status.success());
+        assert_eq!(output.stdout, schedule(12, kind, 77));
+    }
+    for bad in [
+        &["--seed", "x"][..],
+        &["--kind", "none"],
+        &["--lines"],
+        &["--what", "1"],
+    ] {
+        let output = run(program, bad, b"");
+        assert_eq!(output.status.code(), Some(2));
+        assert!(output.stdout.is_empty());
+    }
+}

@@ -1,0 +1,216 @@
+//! The rules of "Saved image", one by one, on the bytes of an image.
+
+/// A rule that an image breaks.
+#[derive(Clone, Copy, Debug, PartialEq, Eq, PartialOrd, Ord, Hash)]
+pub enum Rule {
+    /// Refusal 12.
+    LengthOrCheck,
+    /// n, m or the open count is out of range.
+    HeadRange,
+    /// Not the blocks that n, m and the open count ask for.
+    Blocks,
+    /// A byte that is not named is not zero (cells past m are such bytes).
+    UnnamedByte,
+    DeskNumber,
+    /// A place past n of a count or clock.
+    DeskPastN,
+    /// A place past n of a vector.
+    VectorPastN,
+    CountAboveOwn,
+    ClockAboveCount,
+    ClockOwnPlace,
+    UnsetNotZero,
+    CellWriter,
+    CellStatus,
+    CellAboveCount,
+    CellWriterPlace,
+    VectorAboveOwn,
+    OpenWriter,
+    OpenStatus,
+    OpenCell,
+    /// The open list is not exactly the one asked for, as a set.
+    OpenSet,
+    /// It is, and is out of order.
+    OpenOrder,
+    MarkRange,
+    MarkPastN,
+    MarkTwo,
+    AppliedAboveCount,
+    HeldReady,
+}
+
+type Vector = [u32; 8];
+
+fn vector(bytes: &[u8]) -> Vector {
+    std::array::from_fn(|t| u32::from(bytes[2 * t]) + 256 * u32::from(bytes[2 * t + 1]))
+}
+
+/// All rules that the image breaks; those about blocks come alone.
+pub fn broken(image: &[u8]) -> Vec<Rule> {
+    if image.is_empty() || image.len() / 512 * 512 != image.len() {
+        return vec![Rule::LengthOrCheck];
+    }
+    for block in image.chunks(512) {
+        let sum: u64 = (0..508).map(|j| (j as u64 + 1) * u64::from(block[j])).sum();
+        let check: u64 = (0..4).map(|j| u64::from(block[508 + j]) << (8 * j)).sum();
+        if check != sum + 1 {
+            return vec![Rule::LengthOrCheck];
+        }
+    }
+    let (n, m, open) = (image[4] as usize, image[5] as usize, image[6] as usize);
+    if n == 0 || n > 8 || m == 0 || m > 64 || open > 64 {
+        return vec![Rule::HeadRange];
+    }
+    // Which block has to be of which kind.
+    let per_desk = m.div_ceil(25);
+    let mut kinds = vec![1];
+    kinds.extend(vec![2; n]);
+    kinds.extend(vec![3; n * per_desk]);
+    kinds.extend(vec![4; open.div_ceil(18)]);
+    if image.len() != 512 * kinds.len() {
+        return vec![Rule::Blocks];
+    }
+    for (place, block) in image.chunks(512).enumerate() {
+        if block[..4] != [kinds[place], 1, place as u8, 0] {
+            return vec![Rule::Blocks];
+        }
+    }
+
+    let mut found = Vec::new();
+    let mut named = vec![false; image.len()];
+    let mut name = |from: usize, count: usize| named[from..from + count].fill(true);
+    name(4, 3);
+    let desk_at = |i: usize| 512 * (1 + i) + 4;
+    let cell_at = |i: usize, x: usize| 512 * (1 + n + i * per_desk + x / 25) + 4 + 20 * (x % 25);
+    let open_at = |j: usize| 512 * (1 + n + n * per_desk + j / 18) + 4 + 28 * (j % 18);
+
+    let counts: Vec<Vector> = (0..n).map(|i| vector(&image[desk_at(i) + 4..])).collect();
+    let clocks: Vec<Vector> = (0..n).map(|i| vector(&image[desk_at(i) + 20..])).collect();
+    let own: Vec<u32> = (0..n).map(|u| counts[u][u]).collect();
+    for i in 0..n {
+        name(desk_at(i), 1);
+        name(desk_at(i) + 4, 32);
+        if usize::from(image[desk_at(i)]) != i + 1 {
+            found.push(Rule::DeskNumber);
+        }
+        if (n..8).any(|t| counts[i][t] > 0 || clocks[i][t] > 0) {
+            found.push(Rule::DeskPastN);
+        }
+        if (0..n).any(|u| counts[i][u] > own[u]) {
+            found.push(Rule::CountAboveOwn);
+        }
+        if (0..n).any(|t| clocks[i][t] > counts[i][t]) {
+            found.push(Rule::ClockAboveCount);
+        }
+        if clocks[i][i] != own[i] {
+            found.push(Rule::ClockOwnPlace);
+        }
+        for x in 0..m {
+            let cell = &image[cell_at(i, x)..][..20];
+            name(cell_at(i, x), 2);
+            name(cell_at(i, x) + 4, 16);
+            let (writer, v) = (cell[0] as usize, vector(&cell[4..]));
+            if writer == 0 {
+                if cell[1] > 0 || v.iter().any(|&p| p > 0) {
+                    found.push(Rule::UnsetNotZero);
+                }
+                continue;
+            }
+            if cell[1] > 2 {
+                found.push(Rule::CellStatus);
+            }
+            if (n..8).any(|t| v[t] > 0) {
+                found.push(Rule::VectorPastN);
+            }
+            if (0..n).any(|t| v[t] > counts[i][t]) {
+                found.push(Rule::CellAboveCount);
+            }
+            if (0..n).any(|t| v[t] > own[t]) {
+                found.push(Rule::VectorAboveOwn);
+            }
+            if writer > n {
+                found.push(Rule::CellWriter);
+            } else if v[writer - 1] == 0 {
+                found.push(Rule::CellWriterPlace);
+            }
+        }
+    }
+
+    let mut listed = Vec::new();
+    for j in 0..open {
+        let at = open_at(j);
+        name(at, 3);
+        name(at + 4, 24);
+        let write = &image[at..at + 28];
+        let (writer, v, marks) = (write[0] as usize, vector(&write[4..]), &write[20..]);
+        if write[1] > 2 {
+            found.push(Rule::OpenStatus);
+        }
+        if write[2] == 0 || write[2] as usize > m {
+            found.push(Rule::OpenCell);
+        }
+        if (n..8).any(|t| v[t] > 0) {
+            found.push(Rule::VectorPastN);
+        }
+        if (0..n).any(|t| v[t] > own[t]) {
+            found.push(Rule::VectorAboveOwn);
+        }
+        if marks[n..].iter().any(|&mark| mark > 0) {
+            found.push(Rule::MarkPastN);
+        }
+        if marks[..n].iter().any(|&mark| mark > 2) {
+            found.push(Rule::MarkRange);
+        }
+        if writer == 0 || writer > n {
+            found.push(Rule::OpenWriter);
+            continue;
+        }
+        let u = writer - 1;
+        let k = v[u];
+        listed.push((u, k));
+        for i in 0..n {
+            let at_most = (0..n).all(|t| v[t] <= counts[i][t]);
+            let ready = (0..n).all(|t| {
+                if t == u {
+                    counts[i][t] + 1 == k
+                } else {
+                    v[t] <= counts[i][t]
+                }
+            });
+            // A mark above 2 is told once, by its range.
+            if marks[i] <= 2 && (marks[i] == 2) != (k <= counts[i][u]) {
+                found.push(Rule::MarkTwo);
+            } else if marks[i] == 2 && !at_most {
+                found.push(Rule::AppliedAboveCount);
+            }
+            if marks[i] == 1 && ready {
+                found.push(Rule::HeldReady);
+            }
+        }
+    }
+    let mut asked = Vec::new();
+    for u in 0..n {
+        for k in 1..=own[u] {
+            if (0..n).any(|i| counts[i][u] < k) {
+                asked.push((u, k));
+            }
+        }
+    }
+    if listed != asked {
+        let mut sorted = listed.clone();
+        sorted.sort();
+        if sorted == asked {
+            found.push(Rule::OpenOrder);
+        } else if !found.contains(&Rule::OpenWriter) {
+            found.push(Rule::OpenSet);
+        }
+    }
+    for block in 0..kinds.len() {
+        if (4..508).any(|j| !named[512 * block + j] && image[512 * block + j] > 0) {
+            found.push(Rule::UnnamedByte);
+        }
+    }
+    found.sort();
+    found.dedup();
+    found
+}

@@ -1,0 +1,456 @@
+//! The saved image.
+
+mod common;
+
+use common::rules::{broken, Rule};
+use evidence::gen::{damage, damaged_image, odd_image, schedule, schedule_from};
+use evidence::gen::{table, worn_image, Damage, Kind, Rng};
+use evidence::image::{
+    block_count, check_of, image_len, keeps_rules, load, save, to_vec, BLOCK, MAX_BLOCKS,
+};
+use evidence::table::{Mark, Table};
+use evidence::text::{replay, replay_in, Reader, Session};
+use evidence::Refusal;
+use std::collections::{BTreeMap, BTreeSet};
+
+#[test]
+fn a_fresh_table_of_one_desk_and_one_cell() {
+    let image = to_vec(&Table::new(1, 1).unwrap()).unwrap();
+    assert_eq!(image.len(), 3 * BLOCK);
+    assert_eq!(image[508..512], [15, 0, 0, 0]);
+    let mut expect = vec![0; 3 * BLOCK];
+    expect[..7].copy_from_slice(&[1, 1, 0, 0, 1, 1, 0]);
+    expect[512..517].copy_from_slice(&[2, 1, 1, 0, 1]);
+    expect[1024..1028].copy_from_slice(&[3, 1, 2, 0]);
+    expect[508] = 15;
+    expect[1020] = 1 + 2 + 2 + 3 + 5;
+    expect[1532] = 1 + 3 + 2 + 2 * 3;
+    assert_eq!(image, expect);
+}
+
+#[test]
+fn the_largest_check() {
+    assert_eq!(check_of(&[255; BLOCK]), 32_967_931);
+    assert_eq!(1 + 255 * (508 * 509 / 2), 32_967_931);
+    assert_eq!(check_of(&[0; BLOCK]), 1);
+    // The check's own bytes do not count.
+    let mut block = [0; BLOCK];
+    block[508..].fill(255);
+    assert_eq!(check_of(&block), 1);
+    for j in 0..508 {
+        let mut block = [0; BLOCK];
+        block[j] = 3;
+        assert_eq!(check_of(&block), 1 + 3 * (j as u32 + 1));
+    }
+}
+
+#[test]
+fn the_largest_image() {
+    assert_eq!(block_count(8, 64, 64), MAX_BLOCKS);
+    let mut t = Table::new(8, 64).unwrap();
+    for step in 0..64 {
+        t.write(step % 8 + 1, step + 1, 2).unwrap();
+    }
+    let image = to_vec(&t).unwrap();
+    assert_eq!(image.len(), 37 * BLOCK);
+    assert_eq!(load(&image), Ok(t));
+    // Kinds and places.
+    let kinds: Vec<u8> = image.chunks(BLOCK).map(|b| b[0]).collect();
+    let expect = [vec![1], vec![2; 8], vec![3; 24], vec![4; 4]].concat();
+    assert_eq!(kinds, expect);
+    for (place, block) in image.chunks(BLOCK).enumerate() {
+        assert_eq!(block[1..4], [1, place as u8, 0]);
+    }
+}
+
+#[test]
+fn block_counts_at_their_edges() {
+    for (m, per_desk) in [(1, 1), (25, 1), (26, 2), (50, 2), (51, 3), (64, 3)] {
+        let t = Table::new(2, m).unwrap();
+        assert_eq!(image_len(&t), (1 + 2 + 2 * per_desk) * BLOCK);
+    }
+    let mut t = Table::new(2, 1).unwrap();
+    for open in 0..=64 {
+        assert_eq!(t.open_count(), open);
+        let image = to_vec(&t).unwrap();
+        assert_eq!(image.len(), (5 + open.div_ceil(18)) * BLOCK);
+        assert_eq!(load(&image), Ok(t.clone()));
+        let _ = t.write(1 + open as u16 % 2, 1, 1);
+    }
+}
+
+/// By hand: document 01's session up to its held write.
+#[test]
+fn an_image_by_hand() {
+    let text = b"N 3 2\nW 1 1 2\nD 2 1 1\nR 2 1\nW 1 1 1\nD 2 1 2\nW 2 2 1\nD 3 2 1\n";
+    let mut session = Session::new();
+    for line in Reader::new(text) {
+        session.answer(line, &mut Vec::new());
+    }
+    let image = to_vec(session.table().unwrap()).unwrap();
+    assert_eq!(image.len(), 8 * BLOCK);
+    let payload = |block: usize, count: usize| &image[block * BLOCK + 4..][..count];
+    assert_eq!(payload(0, 4), [3, 2, 3, 0]);
+    // Desk 2 has applied 1.1, 1.2 and 2.1; its clock is (1,1,0).
+    let mut desk = [0; 37];
+    desk[0] = 2;
+    desk[4] = 2;
+    desk[6] = 1;
+    desk[20] = 1;
+    desk[22] = 1;
+    assert_eq!(payload(2, 37), desk);
+    // Desk 2: cell 1 is 1 by 1.2 (2,0,0), cell 2 is 1 by 2.1 (1,1,0).
+    let mut cells = [0; 60];
+    cells[..6].copy_from_slice(&[1, 1, 0, 0, 2, 0]);
+    cells[20..28].copy_from_slice(&[2, 1, 0, 0, 1, 0, 1, 0]);
+    assert_eq!(payload(5, 60), cells);
+    assert_eq!(payload(6, 504), [0; 504]);
+    // Open: 1.1 (missing at 3), 1.2 (missing at 3), 2.1 (held at 3).
+    let mut open = [0; 84 + 28];
+    open[..5].copy_from_slice(&[1, 2, 1, 0, 1]);
+    open[20..23].copy_from_slice(&[2, 2, 0]);
+    open[28..33].copy_from_slice(&[1, 1, 1, 0, 2]);
+    open[48..51].copy_from_slice(&[2, 2, 0]);
+    open[56..63].copy_from_slice(&[2, 1, 2, 0, 1, 0, 1]);
+    open[76..79].copy_from_slice(&[0, 2, 1]);
+    assert_eq!(payload(7, 84 + 28), open);
+}
+
+/// Hundreds of tables that schedules gave: the image is that of the slow
+/// machine, loads to the same table, and saves to the same bytes.
+#[test]
+fn round_trip_and_the_slow_image() {
+    let mut seen = BTreeSet::new();
+    for seed in 0..400 {
+        let kind = [Kind::Traffic, Kind::Full, Kind::Single, Kind::Mixed][seed as usize % 4];
+        let text = schedule(seed, kind, 20 + (seed as usize * 7) % 160);
+        let mut session = Session::new();
+        for line in Reader::new(&text) {
+            session.answer(line, &mut Vec::new());
+        }
+        let slow = common::slow::replay(&text).1;
+        assert_eq!(session.table().is_some(), slow.is_some());
+        let (Some(t), Some(slow)) = (session.table(), slow) else {
+            continue;
+        };
+        let image = to_vec(t).unwrap();
+        assert!(image == slow.image(), "seed {seed}");
+        assert_eq!(broken(&image), []);
+        let back = load(&image).unwrap();
+        assert_eq!(&back, t);
+        assert!(keeps_rules(&back));
+        assert_eq!(to_vec(&back).unwrap(), image);
+        seen.insert(t.open_count().div_ceil(18));
+    }
+    assert_eq!(seen.len(), 5, "open blocks seen: {seen:?}");
+}
+
+/// Cut a schedule anywhere, save, load and go on: the same answers and the
+/// same image at the end.
+#[test]
+fn going_on_after_a_reload() {
+    let mut rng = Rng::new(5);
+    let mut runs = 0;
+    for seed in 0..300 {
+        let kind = [Kind::Traffic, Kind::Full, Kind::Single][seed as usize % 3];
+        let text = schedule(1_000 + seed, kind, 200);
+        let lines: Vec<&[u8]> = text.split_inclusive(|&b| b == b'\n').collect();
+        let cut = rng.range(1, lines.len());
+        let mut whole = Session::new();
+        for line in Reader::new(&lines[..cut].concat()) {
+            whole.answer(line, &mut Vec::new());
+        }
+        let Some(t) = whole.table() else {
+            continue;
+        };
+        let loaded = load(&to_vec(t).unwrap()).unwrap();
+        let rest = lines[cut..].concat();
+        let mut parted = Session::with_table(loaded);
+        let (mut a, mut b) = (Vec::new(), Vec::new());
+        for line in Reader::new(&rest) {
+            whole.answer(line, &mut a);
+            parted.answer(line, &mut b);
+        }
+        assert!(a == b, "seed {seed}, cut at {cut}");
+        assert_eq!(whole.table(), parted.table());
+        assert_eq!(
+            to_vec(whole.table().unwrap()),
+            to_vec(parted.table().unwrap())
+        );
+        runs += 1;
+    }
+    assert!(runs >= 290);
+}
+
+/// Tables near 65,535 that no schedule gives: they load, go on, and each step
+/// leaves a table that keeps the rules.
+#[test]
+fn worn_tables() {
+    let mut spent = 0;
+    let mut rng = Rng::new(77);
+    for seed in 0..150 {
+        let image = worn_image(seed);
+        assert_eq!(broken(&image), [], "seed {seed}");
+        let mut t = load(&image).unwrap();
+        assert_eq!(to_vec(&t).unwrap(), image);
+        let (n, m) = (u16::from(t.desks()), u16::from(t.cells()));
+        for _ in 0..60 {
+            let desk = rng.range(1, n.into()) as u16;
+            let cell = rng.range(1, m.into()) as u16;
+            match rng.below(4) {
+                0 => {
+                    let before = t.applied(desk).unwrap()[desk as usize - 1];
+                    match t.write(desk, cell, 1) {
+                        Ok(name) => assert_eq!(name.number, before + 1),
+                        Err(Refusal::WritesSpent) => {
+                            assert_eq!(before, 65_535);
+                            spent += 1;
+                        }
+                        Err(refusal) => assert_eq!(refusal, Refusal::OpenFull),
+                    }
+                }
+                1 => {
+                    t.read(desk, cell).unwrap();
+                }
+                _ => {
+                    let due: Vec<_> = (t.open_writes())
+                        .filter(|w| w.marks[desk as usize - 1] == Mark::Missing)
+                        .map(|w| w.name)
+                        .collect();
+                    if !due.is_empty() {
+                        let name = *rng.pick(&due);
+                        t.deliver(desk, name.desk.into(), name.number).unwrap();
+                    }
+                }
+            }
+            assert!(keeps_rules(&t));
+        }
+        let image = to_vec(&t).unwrap();
+        assert_eq!(broken(&image), []);
+        assert_eq!(load(&image), Ok(t));
+    }
+    assert!(spent > 50, "{spent}");
+}
+
+/// Only the written rules count: tables that no schedule gives load, and go on
+/// as the slow machine does from the same bytes.
+#[test]
+fn odd_and_worn_tables_go_on_as_the_slow_machine() {
+    for seed in 0..200 {
+        let image = if seed % 3 == 0 {
+            worn_image(seed)
+        } else {
+            odd_image(seed)
+        };
+        assert_eq!(broken(&image), [], "seed {seed}");
+        let t = load(&image).unwrap();
+        assert_eq!(to_vec(&t).unwrap(), image);
+        let text = schedule_from(&t, seed, 120);
+        let mut slow = common::slow::Slow::load(&image);
+        assert!(slow.image() == image, "seed {seed}");
+        let mut session = Session::with_table(t);
+        for (at, line) in Reader::new(&text).enumerate() {
+            let mut fast = Vec::new();
+            session.answer(line, &mut fast);
+            let slow = slow.answer(line.bytes);
+            assert_eq!(String::from_utf8(fast).unwrap(), slow, "seed {seed}, {at}");
+        }
+        let after = to_vec(session.table().unwrap()).unwrap();
+        assert!(after == slow.image(), "seed {seed}");
+        assert_eq!(broken(&after), []);
+    }
+}
+
+#[test]
+fn save_refuses_and_leaves_the_buffer() {
+    for seed in 0..60 {
+        let t = table(seed);
+        let length = image_len(&t);
+        let mut short = vec![7; length - 1];
+        assert_eq!(save(&t, &mut short), Err(Refusal::Length));
+        assert!(short.iter().all(|&b| b == 7));
+        let mut long = vec![7; length + 9];
+        assert_eq!(save(&t, &mut long), Ok(length));
+        assert_eq!(long[..length], to_vec(&t).unwrap());
+        assert_eq!(long[length..], [7; 9]);
+    }
+}
+
+#[test]
+fn wrong_lengths_are_12() {
+    let good = to_vec(&table(3)).unwrap();
+    assert_eq!(load(&[]), Err(Refusal::ImageDamaged));
+    for length in (1..good.len()).filter(|l| l % BLOCK != 0) {
+        assert_eq!(load(&good[..length]), Err(Refusal::ImageDamaged));
+    }
+    // Whole blocks cut off: the checks are right, the blocks too few.
+    for blocks in 1..good.len() / BLOCK {
+        assert_eq!(load(&good[..blocks * BLOCK]), Err(Refusal::RuleBroken));
+    }
+}
+
+#[test]
+fn every_damaged_bit_is_noticed() {
+    let good = to_vec(&table(8)).unwrap();
+    for at in 0..good.len() {
+        let mut image = good.clone();
+        image[at] ^= 1 << (at % 8);
+        assert_eq!(load(&image), Err(Refusal::ImageDamaged), "byte {at}");
+    }
+}
+
+/// Each written rule, broken in images of random tables, is refused by its
+/// number; and for each rule there are samples that break that rule alone.
+#[test]
+fn each_rule_broken_alone() {
+    let alone = [
+        (Damage::HeadByte, Rule::UnnamedByte),
+        (Damage::DeskNumber, Rule::DeskNumber),
+        (Damage::DesksSwapped, Rule::DeskNumber),
+        (Damage::DeskByte, Rule::UnnamedByte),
+        (Damage::CountPastN, Rule::DeskPastN),
+        (Damage::ClockPastN, Rule::DeskPastN),
+        (Damage::CountAboveOwn, Rule::CountAboveOwn),
+        (Damage::ClockAboveCount, Rule::ClockAboveCount),
+        (Damage::ClockOwnPlace, Rule::ClockOwnPlace),
+        (Damage::CellWriter, Rule::CellWriter),
+        (Damage::CellStatus, Rule::CellStatus),
+        (Damage::CellByte, Rule::UnnamedByte),
+        (Damage::CellPlacePastN, Rule::VectorPastN),
+        (Damage::CellPastM, Rule::UnnamedByte),
+        (Damage::UnsetNotZero, Rule::UnsetNotZero),
+        (Damage::CellAboveCount, Rule::CellAboveCount),
+        (Damage::CellWriterPlaceZero, Rule::CellWriterPlace),
+        (Damage::OpenWriter, Rule::OpenWriter),
+        (Damage::OpenStatus, Rule::OpenStatus),
+        (Damage::OpenCell, Rule::OpenCell),
+        (Damage::OpenByte, Rule::UnnamedByte),
+        (Damage::OpenPlacePastN, Rule::VectorPastN),
+        (Damage::OpenAboveCount, Rule::AppliedAboveCount),
+        (Damage::OpenTwice, Rule::OpenSet),
+        (Damage::OpenMissing, Rule::OpenSet),
+        (Damage::OpenClosed, Rule::OpenSet),
+        (Damage::OpenOrder, Rule::OpenOrder),
+        (Damage::OpenPastCount, Rule::UnnamedByte),
+        (Damage::MarkRange, Rule::MarkRange),
+        (Damage::MarkPastN, Rule::MarkPastN),
+        (Damage::MarkAppliedTooSoon, Rule::MarkTwo),
+        (Damage::MarkNotApplied, Rule::MarkTwo),
+        (Damage::MarkHeldReady, Rule::HeldReady),
+        (Damage::KindWrong, Rule::Blocks),
+        (Damage::EditionWrong, Rule::Blocks),
+        (Damage::PlaceWrong, Rule::Blocks),
+        (Damage::BlockCut, Rule::Blocks),
+        (Damage::BlockDropped, Rule::Blocks),
+        (Damage::BlockAdded, Rule::Blocks),
+        (Damage::ZeroBlockAdded, Rule::Blocks),
+        (Damage::KindsSwapped, Rule::Blocks),
+        (Damage::PlacesSwapped, Rule::Blocks),
+        (Damage::OpenCountWrong, Rule::Blocks),
+        (Damage::DesksRange, Rule::HeadRange),
+        (Damage::CellsRange, Rule::HeadRange),
+    ];
+    let goods: Vec<Vec<u8>> = (0..120).map(|seed| to_vec(&table(seed)).unwrap()).collect();
+    let mut rng = Rng::new(13);
+    let mut counts = BTreeMap::new();
+    for what in Damage::ALL {
+        for good in &goods {
+            let Some(image) = damage(good, what, &mut rng) else {
+                continue;
+            };
+            let rules = broken(&image);
+            let answer = load(&image).map(|t| to_vec(&t).unwrap());
+            let told = format!("{what:?} {rules:?}");
+            match &rules[..] {
+                [] => assert_eq!(answer.as_ref(), Ok(&image), "{told}"),
+                [Rule::LengthOrCheck] => assert_eq!(answer, Err(Refusal::ImageDamaged), "{told}"),
+                _ => assert_eq!(answer, Err(Refusal::RuleBroken), "{told}"),
+            }
+            if let Some(foretold) = what.foretold() {
+                assert_eq!(load(&image).map(drop), foretold, "{told}");
+            }
+            let (all, single) = counts.entry(format!("{what:?}")).or_insert((0, 0));
+            *all += 1;
+            *single += usize::from(rules.len() == 1 && alone.contains(&(what, rules[0])));
+        }
+    }
+    for (what, rule) in alone {
+        let (all, single) = counts[&format!("{what:?}")];
+        assert!(
+            all >= 10 && single >= 5,
+            "{what:?}, {rule:?}: {single} of {all}"
+        );
+    }
+    for what in Damage::ALL {
+        assert!(counts.contains_key(&format!("{what:?}")), "{what:?}");
+    }
+}
+
+/// Thousands of samples from seeds: load agrees with the rules one by one, and
+/// what it accepts is the image of what it gave.
+#[test]
+fn load_agrees_with_the_rules_one_by_one() {
+    let mut refusals = BTreeMap::new();
+    for seed in 0..1_500 {
+        let sample = damaged_image(seed);
+        let rules = broken(&sample.image);
+        let answer = load(&sample.image);
+        let expect = match &rules[..] {
+            [] => None,
+            [Rule::LengthOrCheck] => Some(Refusal::ImageDamaged),
+            _ => Some(Refusal::RuleBroken),
+        };
+        assert_eq!(answer.as_ref().err(), expect.as_ref(), "{seed} {rules:?}");
+        if let Some(foretold) = sample.damage.foretold() {
+            assert_eq!(expect, foretold.err(), "{seed} {:?}", sample.damage);
+        }
+        if let Ok(t) = answer {
+            assert_eq!(to_vec(&t).unwrap(), sample.image);
+        }
+        *refusals.entry(expect).or_insert(0) += 1;
+    }
+    assert!(
+        refusals.len() == 3 && refusals.values().all(|&c| c >= 25),
+        "{refusals:?}"
+    );
+}
+
+/// Small changes to images, many of them allowed: the same agreement.
+#[test]
+fn scribbles() {
+    let mut rng = Rng::new(99);
+    let (mut kept, mut refused) = (0, 0);
+    for seed in 0..60 {
+        let good = to_vec(&table(500 + seed)).unwrap();
+        for _ in 0..60 {
+            let what = *rng.pick(&[Damage::Scribble, Damage::Scribble, Damage::SameKindSwapped]);
+            let Some(image) = damage(&good, what, &mut rng) else {
+                continue;
+            };
+            match load(&image) {
+                Ok(t) => {
+                    assert_eq!(broken(&image), []);
+                    assert!(keeps_rules(&t));
+                    assert_eq!(to_vec(&t).unwrap(), image);
+                    kept += usize::from(image != good);
+                }
+                Err(refusal) => {
+                    assert_eq!(refusal, Refusal::RuleBroken);
+                    assert_ne!(broken(&image), []);
+                    refused += 1;
+                }
+            }
+        }
+    }
+    assert!(kept > 40 && refused > 1_000, "{kept} {refused}");
+}
+
+/// A loaded table goes on from text, and a fresh one does as `replay` does.
+#[test]
+fn a_loaded_fresh_table() {
+    let fresh = load(&to_vec(&Table::new(3, 2).unwrap()).unwrap()).unwrap();
+    let (input, output) = common::session();
+    let rest = &input[6..];
+    assert_eq!(replay_in(Session::with_table(fresh), rest), output[2..]);
+    assert_eq!(replay(&input), output);
+}

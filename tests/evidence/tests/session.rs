@@ -1,0 +1,73 @@
+//! Document 01's whole session, and what it says about it.
+
+mod common;
+
+use common::{session, SESSION};
+use evidence::causal;
+use evidence::table::{Delivery, Mark, Name, Table, Verdict};
+use evidence::text::replay;
+
+#[test]
+fn whole_session_byte_for_byte() {
+    let (input, output) = session();
+    assert_eq!(replay(&input), output);
+    assert_eq!(common::slow::replay(&input).0, output);
+}
+
+#[test]
+fn every_prefix_of_the_session() {
+    for count in 0..=SESSION.len() {
+        let input: String = SESSION[..count]
+            .iter()
+            .map(|s| format!("{}\n", s.0))
+            .collect();
+        let output: String = SESSION[..count]
+            .iter()
+            .map(|s| format!("{}\n", s.1))
+            .collect();
+        assert_eq!(replay(input.as_bytes()), output.as_bytes());
+    }
+}
+
+#[test]
+fn the_session_is_causal() {
+    let (input, output) = session();
+    let report = causal::check(&input, &output).unwrap();
+    assert_eq!((report.lines, report.refused), (18, 3));
+    assert_eq!((report.writes, report.reads, report.trips), (3, 3, 3));
+    assert_eq!((report.applied, report.held, report.released), (4, 1, 1));
+    assert_eq!((report.longest, report.left_held), (2, 0));
+}
+
+/// "The vector of 2.1 is (1,1,0): desk 2 had applied 1.2 but not read it."
+#[test]
+fn the_session_through_the_library() {
+    let mut t = Table::new(3, 2).unwrap();
+    let name = |desk, number| Name { desk, number };
+    assert_eq!(t.write(1, 1, 2), Ok(name(1, 1)));
+    assert_eq!(t.deliver(2, 1, 1), Ok(Delivery::Applied(&[name(1, 1)])));
+    assert_eq!(t.read(2, 1).unwrap().unwrap().write, name(1, 1));
+    assert_eq!(t.write(1, 1, 1), Ok(name(1, 2)));
+    assert_eq!(t.deliver(2, 1, 2), Ok(Delivery::Applied(&[name(1, 2)])));
+    assert_eq!(t.write(2, 2, 1), Ok(name(2, 1)));
+    assert_eq!(t.applied(2).unwrap()[..3], [2, 1, 0]);
+    assert_eq!(t.clock(2).unwrap()[..3], [1, 1, 0]);
+    let (reading, vector) = t.peek(2, 2).unwrap().unwrap();
+    assert_eq!((reading.status, reading.write), (1, name(2, 1)));
+    assert_eq!(vector, [1, 1, 0, 0, 0, 0, 0, 0]);
+    assert_eq!(t.deliver(3, 2, 1), Ok(Delivery::Held(1)));
+    let open: Vec<_> = t.open_writes().collect();
+    assert_eq!(open.len(), 3);
+    assert_eq!(open[2].name, name(2, 1));
+    assert_eq!(
+        open[2].marks[..4],
+        [Mark::Missing, Mark::Applied, Mark::Held, Mark::Missing]
+    );
+    assert_eq!(t.trip(3, &[1, 2]), Ok(Verdict::Unknown));
+    let both = [name(1, 1), name(2, 1)];
+    assert_eq!(t.deliver(3, 1, 1), Ok(Delivery::Applied(&both)));
+    // 1.1 is applied everywhere and open no more.
+    assert_eq!(t.open_count(), 2);
+    assert_eq!(t.trip(3, &[1, 2]), Ok(Verdict::No));
+    assert_eq!(t.clock(3).unwrap()[..3], [1, 1, 0]);
+}
