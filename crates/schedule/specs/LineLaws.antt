@@ -1,15 +1,15 @@
 -- Laws of the lines of a schedule.
-use Prim.Native.Nat.{ℕ, suc, _+_, _-_, _<_, _≤_}
+use Prim.Native.Nat.{ℕ, suc, _+_, _-_, _<_, _≤_, min}
 use mathlib.Core.Path.{_≡_, refl, sym, ap, _∙_}
-use mathlib.Core.List.{List, [], _∷_, _++_}
+use mathlib.Core.List.{List, [], _∷_, _++_, append-assoc}
 use native.Mathlib.Omega.{arith}
 use native.Mathlib.Numerals.{add-one}
 use borrow.Author.Tests.{eq-eqb, ne-eqb, lt-ltb, le-ltb, ltb-false}
 use lib.Dec.{eqb, ltb}
-use lib.ListN.{length, getD, take, drop, length-append, length-drop, drop-of-length-le}
-use lib.Seq.{drop-cons, take-at}
+use lib.ListN.{length, getD, take, drop, length-append, length-drop, drop-of-length-le, take-append-drop}
+use lib.Seq.{drop-cons, take-at, drop-at}
 use Rattle.laws.specs.Loop.{cases}
-use Rattle.schedule.specs.Lines.{LF, untilLF, fromLF, lineAt, endedAt, endAt, startAt}
+use Rattle.schedule.specs.Lines.{LF, untilLF, fromLF, lineAt, endedAt, endAt, nextAt, startAt}
 
 -- a line and what follows it are the list
 pub cut : (l : List ℕ) → untilLF l ++ fromLF l ≡ l
@@ -83,13 +83,43 @@ module _ (s : List ℕ) (at : ℕ) where
   unfolding lineAt
   line-within h = omega (arith, lengths)
 
+  -- where it ends
+  pub end-is : at ≤ length s → endAt s at ≡ at + length (lineAt s at)
+  unfolding endAt lineAt
+  end-is h = omega (arith, lengths)
+
   -- a LF ended the line exactly if bytes follow it
-  pub ended-is : at ≤ length s → ltb (at + length (lineAt s at)) (length s) ≡ endedAt s at
-  unfolding endedAt lineAt
-  ended-is h =
-      let e : at + length (untilLF (drop at s)) ≡ length s - length (fromLF (drop at s)) = omega (arith, lengths) in
-      rw e (go (fromLF (drop at s)) (length s) (omega (arith, lengths)))
+  pub ended-end : ltb (endAt s at) (length s) ≡ endedAt s at
+  unfolding endedAt endAt
+  ended-end = go (fromLF (drop at s)) (length s) (omega (arith, lengths))
     where
       go : (f : List ℕ) (n : ℕ) → length f ≤ n → ltb (n - length f) n ≡ ltb 0 (length f)
       go [] n h = le-ltb (n - 0) n (omega arith)
       go (b ∷ f) n h = lt-ltb (n - suc (length f)) n (omega arith) ∙ sym (lt-ltb 0 (suc (length f)) (omega arith))
+
+  pub ended-is : at ≤ length s → ltb (at + length (lineAt s at)) (length s) ≡ endedAt s at
+  ended-is h = rw (← end-is h) ended-end
+
+  -- the next place: behind the line's last byte and the LF, where there is one
+  pub next-is : at ≤ length s → nextAt s at ≡ min (at + length (lineAt s at) + 1) (length s)
+  unfolding nextAt endAt lineAt
+  next-is h = omega (arith, lengths)
+
+  -- it lies further on, and within the bytes
+  pub next-more : at < length s → at < nextAt s at
+  unfolding nextAt endAt
+  next-more h = omega (arith, lengths)
+
+  pub next-le : nextAt s at ≤ length s
+  unfolding nextAt
+  next-le = omega arith
+
+  -- what stands from it on is what follows the LF
+  pub next-drop : drop (nextAt s at) s ≡ drop 1 (fromLF (drop at s))
+  unfolding nextAt endAt
+  next-drop =
+      let f = fromLF (drop at s) in
+      let p = take at s ++ untilLF (drop at s) ++ take 1 f in
+      let e : p ++ drop 1 f ≡ s = rw (append-assoc (take at s ++ untilLF (drop at s)) (take 1 f) (drop 1 f), append-assoc (take at s) (untilLF (drop at s)) (take 1 f ++ drop 1 f), take-append-drop 1 f, cut (drop at s), take-append-drop at s) in
+      let n : length p ≡ min (length s - length f + 1) (length s) = omega (arith, sym (length-append p (drop 1 f)) ∙ ap length e, length-drop 1 f, lengths) in
+      ap (drop (min (length s - length f + 1) (length s))) (sym e) ∙ drop-at p (drop 1 f) _ n

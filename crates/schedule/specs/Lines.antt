@@ -1,5 +1,5 @@
 -- Document 01, "Schedule text": the lines of a schedule.
-use Prim.Native.Nat.{ℕ, _+_, _-_}
+use Prim.Native.Nat.{ℕ, _+_, _-_, min}
 use mathlib.Core.List.{List, [], _∷_}
 use mathlib.Core.Bool.{Bool}
 use denote.Ref.{RefT}
@@ -31,6 +31,10 @@ endedAt s at = ltb 0 (length (fromLF (drop at s)))
 -- where it ends: the place of that LF, or the end of all
 unfoldable pub endAt : List ℕ → ℕ → ℕ
 endAt s at = length s - length (fromLF (drop at s))
+
+-- behind it and its LF: where the next line begins, or the end of all
+unfoldable pub nextAt : List ℕ → ℕ → ℕ
+nextAt s at = min (endAt s at + 1) (length s)
 
 -- where it begins
 unfoldable pub startAt : List ℕ → ℕ → ℕ

@@ -1,0 +1,144 @@
+-- One line in, one line out; and how long an output line is.
+use Prim.Native.Nat.{ℕ, zero, suc, _+_, _*_, _/_, _%_, _^_, _<_, _≤_, max}
+use mathlib.Core.Path.{_≡_, refl, _∙_}
+use mathlib.Core.List.{List, [], _∷_, _++_}
+use mathlib.Core.Option.{none}
+use native.Mathlib.Omega.{arith}
+use native.Mathlib.Nat.{pow-suc}
+use borrow.Author.Tests.{ne-eqb, ltb-true, ltb-false}
+use lib.Dec.{eqb, ltb}
+use lib.ListN.{length, getD, length-append}
+use Rattle.laws.specs.Count.{count}
+use Rattle.laws.specs.Loop.{pick, cases}
+use Rattle.laws.specs.Text.{text}
+use Rattle.machine.specs.Table.{Name, most-open, most-writes}
+use Rattle.machine.specs.Answer.{Answer, began, shows, wrote, holds, applies, judged, refused, unset, shown, Yes, No, Unknown, numberOf, nameValues, valuesOf}
+use Rattle.schedule.specs.Lines.{LF}
+use Rattle.answer.specs.Bytes.{digits, decimal, nameBytes, namesBytes, answerBytes, answerLine}
+use Rattle.answer.specs.Decimal.{decimal-one, decimal-longer}
+use Rattle.answer.specs.Names.{name-length, shown-length}
+use Rattle.session.specs.Session.{Session, lineAnswer}
+use Rattle.session.specs.Transcript.{TextLine, onto, linesOf, answersOf, printed, transcriptFrom, most-text, transcript}
+use Rattle.session.specs.Laws.{transcript-run}
+
+-- how many LF a text has --
+
+unfoldable pub lfs : List ℕ → ℕ
+lfs l = count (λ b. eqb b LF) l
+
+lfs-append : (k l : List ℕ) → lfs (k ++ l) ≡ lfs k + lfs l
+unfolding lfs count
+lfs-append [] l = omega arith
+lfs-append (b ∷ k) l = omega (arith, lfs-append k l)
+
+-- 1 where bytes follow the last LF: a last line without LF
+unfoldable pub unended : List ℕ → ℕ
+unended [] = 0
+unended (b ∷ []) = pick (eqb b LF) 0 1
+unended (b ∷ c ∷ l) = unended (c ∷ l)
+
+onto-length : (b : ℕ) (ls : List TextLine) → length (onto b ls) ≡ max 1 (length ls)
+onto-length b [] = omega arith
+onto-length b (l ∷ ls) = omega arith
+
+lines-some : (b : ℕ) (l : List ℕ) → 0 < length (linesOf (b ∷ l))
+unfolding linesOf
+lines-some b l = cases (eqb b LF) (λ e. rw e (omega arith)) (λ e. rw e (omega (arith, onto-length b (linesOf l))))
+
+-- each LF ends a line
+pub lines-count : (l : List ℕ) → length (linesOf l) ≡ lfs l + unended l
+unfolding linesOf lfs count unended
+lines-count [] = omega arith
+lines-count (b ∷ []) = cases (eqb b LF) (λ e. rw e (omega arith)) (λ e. rw e (omega arith))
+lines-count (b ∷ c ∷ l) =
+    let ih : length (linesOf (c ∷ l)) ≡ lfs (c ∷ l) + unended (c ∷ l) = lines-count (c ∷ l) in
+    cases (eqb b LF) (λ e. rw e (omega arith)) (λ e. rw e (omega (arith, onto-length b (linesOf (c ∷ l)), lines-some c l)))
+
+-- an answer line has one, at its end: the others are digits, letters and marks --
+
+digit-lfs : (n : ℕ) → lfs ((48 + n) ∷ []) ≡ 0
+unfolding lfs count
+digit-lfs n = rw (ne-eqb (48 + n) 10 (λ e. (omega arith)))
+
+digits-lfs : (f n : ℕ) → lfs (digits f n) ≡ 0
+unfolding digits
+digits-lfs zero n = unfold lfs count in refl
+digits-lfs (suc f) zero = unfold lfs count in refl
+digits-lfs (suc f) (suc n) = rw (lfs-append, digits-lfs f (suc n / 10), digit-lfs (suc n % 10))
+
+decimal-lfs : (n : ℕ) → lfs (decimal n) ≡ 0
+unfolding decimal
+decimal-lfs n = rw (lfs-append, digits-lfs n (n / 10), digit-lfs (n % 10))
+
+name-lfs : (w : Name) → lfs (nameBytes w) ≡ 0
+unfolding nameBytes
+name-lfs w = simp (lfs-append, decimal-lfs) (unfold lfs count in refl)
+
+names-lfs : (l : List Name) → lfs (namesBytes l) ≡ 0
+unfolding namesBytes
+names-lfs [] = unfold lfs count in refl
+names-lfs (w ∷ l) = simp (lfs-append, name-lfs, names-lfs l) (unfold lfs count in refl)
+
+answer-lfs : (a : Answer) → lfs (answerBytes a) ≡ 0
+answer-lfs began = unfold lfs count in refl
+answer-lfs (shows unset) = unfold lfs count in refl
+answer-lfs (shows (shown v u k)) = simp (lfs-append, decimal-lfs, name-lfs) (unfold lfs count in refl)
+answer-lfs (wrote w) = simp (lfs-append, name-lfs) (unfold lfs count in refl)
+answer-lfs (holds t) = simp (lfs-append, decimal-lfs) (unfold lfs count in refl)
+answer-lfs (applies l) = simp (lfs-append, names-lfs) (unfold lfs count in refl)
+answer-lfs (judged Yes) = unfold lfs count in refl
+answer-lfs (judged No) = unfold lfs count in refl
+answer-lfs (judged Unknown) = unfold lfs count in refl
+answer-lfs (refused r) = simp (lfs-append, decimal-lfs) (unfold lfs count in refl)
+
+line-lfs : (a : Answer) → lfs (answerLine a) ≡ 1
+line-lfs a = rw (lfs-append, answer-lfs a) (unfold lfs count in refl)
+
+printed-lfs : (z : Session) (ls : List TextLine) → lfs (printed (answersOf z ls)) ≡ length ls
+unfolding printed answersOf
+printed-lfs z [] = unfold lfs count in refl
+printed-lfs z (l ∷ ls) =
+    let t = lineAnswer z (l .bytes) (l .ended) in
+    rw (lfs-append (answerLine (t .answer)), line-lfs (t .answer), printed-lfs (t .session) ls) (omega arith)
+
+pub one-for-one : (s : List ℕ) → length s ≤ most-text → lfs (transcript s) ≡ lfs s + unended s
+unfolding transcriptFrom
+one-for-one s h = rw (transcript-run s h) (printed-lfs none (linesOf s) ∙ lines-count s)
+
+-- how long an output line is --
+
+-- w + 1 digits at most
+decimal-short : (w n : ℕ) → n < 10 ^ suc w → length (decimal n) ≤ suc w
+decimal-short zero n h = rw (decimal-one n h) (omega arith)
+decimal-short (suc w) n h =
+    let q : 10 ^ suc (suc w) ≡ 10 ^ suc w * 10 = pow-suc 10 (suc w) in
+    cases (ltb n 10)
+    (λ e. rw (decimal-one n (ltb-true n 10 e)) (omega arith))
+    (λ e. let g : 10 ≤ n = ltb-false n 10 e in rw (decimal-longer n g) (omega (arith, decimal-short w (n / 10) (omega arith))))
+
+number-short : (n : ℕ) → n ≤ most-writes → length (decimal n) ≤ 5
+number-short n h = decimal-short 4 n (omega arith)
+
+name-short : (w : Name) → w .writer ≤ most-writes → w .number ≤ most-writes → length (nameBytes w) ≤ 11
+name-short w h g = omega (arith, name-length (w .writer) (w .number), number-short (w .writer) h, number-short (w .number) g)
+
+names-short : (l : List Name) → ((k : ℕ) → getD (nameValues l) k 0 ≤ most-writes) → length (namesBytes l) ≤ 6 * length (nameValues l)
+unfolding namesBytes
+names-short [] h = omega arith
+names-short (w ∷ l) h = simp length-append (omega (arith, name-short w (h 0) (h 1), names-short l (λ k. h (suc (suc k)))))
+
+-- no value above 65,535 and at most 64 names: 770 bytes with the LF
+pub answer-short : (a : Answer) → ((k : ℕ) → getD (valuesOf a) k 0 ≤ most-writes) → length (valuesOf a) ≤ 2 * most-open → length (answerLine a) ≤ 770
+answer-short a h n = rw length-append (omega (arith, go a h n))
+  where
+    go : (a : Answer) → ((k : ℕ) → getD (valuesOf a) k 0 ≤ most-writes) → length (valuesOf a) ≤ 2 * most-open → length (answerBytes a) ≤ 769
+    go began h n = omega arith
+    go (shows unset) h n = omega arith
+    go (shows (shown v u k)) h n = rw (shown-length v u k) (omega (arith, number-short v (h 0), name-short (record { writer = u; number = k }) (h 1) (h 2)))
+    go (wrote w) h n = simp length-append (omega (arith, name-short w (h 0) (h 1)))
+    go (holds t) h n = simp length-append (omega (arith, number-short t (h 0)))
+    go (applies l) h n = simp length-append (omega (arith, names-short l h))
+    go (judged Yes) h n = omega arith
+    go (judged No) h n = omega arith
+    go (judged Unknown) h n = omega arith
+    go (refused r) h n = simp length-append (omega (arith, number-short (numberOf r) (h 0)))

@@ -1,0 +1,5 @@
+pub mod Session
+pub mod Transcript
+pub mod Laws
+pub mod Bounds
+pub mod Examples
