@@ -254,7 +254,7 @@ pub fn all_applied(opens: &[u16; OPENS * OPEN], e: usize, n: usize) -> bool
     true
 }
 
-fn wide(x: u16) -> usize
+pub fn wide(x: u16) -> usize
     ensures { λ r. ⌜ (r ≡ x) × (r < 65536) ⌝ }
 {
     x as usize
@@ -343,7 +343,7 @@ fn fresh(n: usize, m: usize) -> Table
 }
 
 // Is i within 1 to n?
-fn inside(n: usize, i: usize) -> bool
+pub fn inside(n: usize, i: usize) -> bool
     ensures { λ r. ⌜ r ≡ within n i ⌝ }
 {
     if i == 0 {

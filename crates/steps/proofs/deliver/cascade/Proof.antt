@@ -1,0 +1,196 @@
+use Prim.Native.Nat.{ℕ, suc, _+_, _-_, _<_, _≤_}
+use mathlib.Core.Path.{_≡_, refl, sym, ap, subst, _∙_}
+use mathlib.Core.List.{List}
+use mathlib.Core.Logic.{inl, inr}
+use mathlib.Core.Bool.{true}
+use mathlib.Core.Option.{none, some}
+use native.Mathlib.Omega.{arith}
+use Rattle.laws.specs.Loop.{scan, scan-end, scan-here, scan-next}
+use Rattle.machine.specs.Table.{State, most-open}
+use Rattle.clock.specs.Vectors.{places}
+use Rattle.table.specs.Value.{openAt}
+use Rattle.table.specs.Model.{openM}
+use lib.ListN.{getD, set}
+use Rattle.steps.specs.Cascade.{midst, from, dueIn, due-at, due-not, Running, Next, Gone, Going, Safe, going-starts, going-safe, going-turn, gone-ends, gone-on}
+use Rattle.steps.specs.CascadeSearch.{Yields, yields-at, yields-none}
+use borrow.Author.Needs.{needs}
+use Rattle.steps.proofs.deliver.cascade.Statement.{statement}
+use Rattle.steps.proofs.deliver.cascade.Tie as tie
+
+abbrev Inv-search : tie.InvT-search
+Inv-search n own cells opens names i u e a w entry len k t₀ t =
+    (1 ≤ t) × ((t ≤ n + 1) × (scan (dueIn a own opens i) some none (n + 1 - t) t ≡ scan (dueIn a own opens i) some none n 1))
+
+abbrev μ-search : tie.MeasureT-search
+μ-search n own cells opens names i u e a w entry len k t₀ t = n + 1 - t
+
+abbrev Inv-apply : tie.InvT-apply
+Inv-apply n own cells₀ opens₀ names₀ i u e a₀ w₀ entry₀ len₀ cells opens names a w entry len =
+    (b : State) → Running b n i a₀ own cells₀ opens₀ → Next n a₀ opens₀ w₀ entry₀
+    → Going (from most-open (midst b n i a₀ cells₀ opens₀) i w₀ (openM (openAt opens₀ entry₀))) b n i a own cells opens names₀ names len w entry
+
+abbrev μ-apply : tie.MeasureT-apply
+μ-apply n own cells₀ opens₀ names₀ i u e a₀ w₀ entry₀ len₀ cells opens names a w entry len = most-open - len
+
+abbrev Head : Type 0
+Head = tie.At-apply Inv-search μ-search Inv-apply μ-apply
+
+safe : (c : Head) → (let A = c .apply in Safe (c .before .args .n) (c .before .args .i) (A .a) (A .opens) (A .len) (A .w) (A .entry))
+safe c = let p = c .before .pre in going-safe (c .apply .inv (p .0) (p .1) (p .2))
+
+-- a turn, for every state that the values are a part of
+gone : (c : tie.After-put-name Inv-search μ-search Inv-apply μ-apply)
+    → (let A = c .before .before .before .before .before .before .apply in
+    let g = c .before .before .before .before .before .before .before .args in
+    (b : State) → Running b (g .n) (g .i) (g .c) (g .own) (g .cells .now) (g .opens .now) → Next (g .n) (g .c) (g .opens .now) (g .u) (g .e)
+    → Gone (from most-open (midst b (g .n) (g .i) (g .c) (g .cells .now) (g .opens .now)) (g .i) (g .u) (openM (openAt (g .opens .now) (g .e))))
+    b (g .n) (g .i) (set (A .a) (A .w - 1) (getD (A .a) (A .w - 1) 0 + 1)) (g .own) (c .before .before .before .apply-at .last .0) (c .before .before .before .apply-at .last .1 .0)
+    (g .names .now) (c .put-name .last .0) (A .len + 1))
+gone c b r d =
+    going-turn (c .before .before .before .before .before .before .apply .inv b r d) (c .before .small .ensures) (c .before .before .before .apply-at .ensures)
+    (c .put-name .ensures)
+
+apply-holds : tie.Need-apply-holds Inv-search μ-search Inv-apply μ-apply
+apply-holds c b r d = going-starts (c .args .names .now) r d
+
+apply-at-requires : tie.Need-apply-at-requires Inv-search μ-search Inv-apply μ-apply
+apply-at-requires c κs = let h = safe (c .before .before) in (h .count, (h .desk, (h .small, h .cell)))
+
+sub-k : tie.Need-sub-k Inv-search μ-search Inv-apply μ-apply
+sub-k c = safe (c .before .before .before) .writer .0
+
+mul-k : tie.Need-mul-k Inv-search μ-search Inv-apply μ-apply
+mul-k c = omega (arith, safe (c .before .before .before) .writer .1)
+
+array-read-k : tie.Need-array-read-k Inv-search μ-search Inv-apply μ-apply
+array-read-k c = omega (arith, safe (c .before .before .before) .writer)
+
+add-k : tie.Need-add-k Inv-search μ-search Inv-apply μ-apply
+add-k c = omega (arith, safe (c .before .before .before) .number)
+
+sub-a : tie.Need-sub-a Inv-search μ-search Inv-apply μ-apply
+sub-a c = safe (c .before .before .before) .writer .0
+
+mul-a : tie.Need-mul-a Inv-search μ-search Inv-apply μ-apply
+mul-a c = omega (arith, safe (c .before .before .before) .writer .1)
+
+array-write-a : tie.Need-array-write-a Inv-search μ-search Inv-apply μ-apply
+array-write-a c = omega (arith, safe (c .before .before .before) .writer)
+
+small-requires : tie.Need-small-requires Inv-search μ-search Inv-apply μ-apply
+small-requires c κs = omega (arith, safe (c .before .before .before .before) .writer .1)
+
+put-name-requires : tie.Need-put-name-requires Inv-search μ-search Inv-apply μ-apply
+put-name-requires c κs = safe (c .before .before .before .before .before) .room
+
+add-len : tie.Need-add-len Inv-search μ-search Inv-apply μ-apply
+add-len c = omega (arith, safe (c .before .before .before .before .before .before) .room)
+
+search-holds : tie.Need-search-holds Inv-search μ-search Inv-apply μ-apply
+search-holds c =
+    let n = c .before .before .before .before .before .before .before .args .n in
+    let z : n + 1 - 1 ≡ n = omega arith in
+    (search needs, (search needs, rw z))
+
+due-of-requires : tie.Need-due-of-requires Inv-search μ-search Inv-apply μ-apply
+due-of-requires c κs =
+    let s = c .before .before in
+    let p = s .before .before .before .before .before .before .before .before .pre in
+    let h = safe (s .before .before .before .before .before .before .before) in
+    (h .desk, ((s .search .inv .0, omega (arith, c .before .if1 .left, h .count)), gone (s .before) (p .0) (p .1) (p .2) .now .unique))
+
+enum-known-x : tie.Need-enum-known-x Inv-search μ-search Inv-apply μ-apply
+enum-known-x c = search needs
+
+enum-told : tie.Need-enum-told Inv-search μ-search Inv-apply μ-apply
+enum-told c = search needs
+
+add-t : tie.Need-add-t Inv-search μ-search Inv-apply μ-apply
+add-t c =
+    let s = c .before .before .before .before .before in
+    omega (arith, c .before .before .before .before .if1 .left, safe (s .before .before .before .before .before .before .before) .count)
+
+search-less : tie.Need-search-less Inv-search μ-search Inv-apply μ-apply
+search-less c = omega (arith, c .before .before .before .before .if1 .left)
+
+search-again : tie.Need-search-again Inv-search μ-search Inv-apply μ-apply
+search-again c =
+    let d = c .before .before in
+    let s = d .before .before .before in
+    let L = s .search in
+    let n = s .before .before .before .before .before .before .before .before .args .n in (
+      search needs,
+      (
+        omega (arith, d .before .before .if1 .left),
+        sym (scan-next _ some none (n + 1) (L .t) (omega (arith, d .before .before .if1 .left)) (due-not _ _ _ _ (L .t) (d .due-of .result) (d .due-of .ensures) (c .enum-told .given .1))) ∙ L .inv .1 .1,
+      ),
+    )
+
+enum-known-found : tie.Need-enum-known-found Inv-search μ-search Inv-apply μ-apply
+enum-known-found c = search needs
+
+enum-told-2 : tie.Need-enum-told-2 Inv-search μ-search Inv-apply μ-apply
+enum-told-2 c = search needs
+
+apply-less : tie.Need-apply-less Inv-search μ-search Inv-apply μ-apply
+apply-less c = omega (arith, safe (c .before .before .before .before .before .before .before .before .before .before .before) .room)
+
+-- what the search yields: the first writer with a write that is due, and its entry
+yields : (c : tie.Joined1 Inv-search μ-search Inv-apply μ-apply)
+    → (let q = c .before .before .before .before .before in
+    let A = q .before .before .before .apply in
+    let g = q .before .before .before .before .args in
+    let a = set (A .a) (A .w - 1) (getD (A .a) (A .w - 1) 0 + 1) in
+    Yields (g .n) (g .i) a (g .own) (q .apply-at .last .1 .0) (c .if1 .found))
+yields c =
+    let s = c .before .search in
+    let n = c .before .before .before .before .before .before .before .before .before .args .n in
+    elim (c .if1 .came) [
+      | inl w ↦ rw (w .1) (sym (s .inv .1 .1) ∙ scan-end _ some none (n + 1) (s .t) (omega (arith, w .0 .taken)))
+      | inr w ↦ (let d = due-at _ _ _ _ _ (w .2 .result) _ (w .2 .ensures) (w .4 .given .1) in
+          rw (w .6) (s .inv .0, w .0 .left, sym (s .inv .1 .1) ∙ scan-here _ some none (n + 1) (s .t) (omega (arith, w .0 .left)) (d .is-due), d))
+    ]
+
+apply-again : tie.Need-apply-again Inv-search μ-search Inv-apply μ-apply
+apply-again c b r d =
+    let J = c .before .before .before in
+    let y = yields-at _ _ _ _ _ (J .if1 .found) (yields J) (c .before .found .given .1) in
+    gone-on (gone (J .before .before) b r d) (y .0, y .1) (y .2) (y .3)
+
+returns : tie.Need-returns Inv-search μ-search Inv-apply μ-apply
+returns c b r d =
+    let J = c .before .before in
+    gone-ends (gone (J .before .before) b r d) (yields-none _ _ _ _ _ (J .if1 .found) (yields J) (c .enum-told2 .given .1))
+
+pub cascade-spec : {M : Type 1} → statement M
+cascade-spec =
+    tie.close
+    (tie.spec
+    Inv-search
+    μ-search
+    Inv-apply
+    μ-apply
+    apply-holds
+    apply-at-requires
+    sub-k
+    mul-k
+    array-read-k
+    add-k
+    sub-a
+    mul-a
+    array-write-a
+    small-requires
+    put-name-requires
+    add-len
+    search-holds
+    due-of-requires
+    enum-known-x
+    enum-told
+    add-t
+    search-less
+    search-again
+    enum-known-found
+    enum-told-2
+    apply-less
+    apply-again
+    returns)

@@ -1,0 +1,145 @@
+use Prim.Native.Nat.{ℕ, _≤_, _<_}
+use mathlib.Core.Path.{_≡_, sym, subst, _∙_}
+use mathlib.Core.Bool.{true}
+use native.Mathlib.Omega.{arith}
+use Rattle.clock.specs.Vectors.{place, place-at}
+use Rattle.answer.specs.declared.Refusal.the-variants.{Received}
+use Rattle.table.specs.Value.{entries, openAt}
+use Rattle.table.specs.Names.{namedAt, FoundIn, found-at}
+use Rattle.table.specs.Opens.{found-none}
+use Rattle.steps.specs.Deliver.{Passes, passes, few-desks, small-number, failed, passed, none-open, known-open, meets-refused, arrival, meets-received}
+use borrow.Author.Needs.{needs}
+use Rattle.steps.proofs.deliver.deliver_at.Statement.{statement}
+use Rattle.steps.proofs.deliver.deliver_at.Tie as tie
+
+tests-requires : tie.Need-tests-requires
+tests-requires c κs = few-desks (c .pre .2)
+
+enum-known-test : tie.Need-enum-known-test
+enum-known-test c = search needs
+
+turned-away-requires : tie.Need-turned-away-requires
+turned-away-requires c κs = search needs
+
+returns : tie.Need-returns
+returns c m ds p =
+    let q = c .before .before in
+    let t = q .before .before in
+    let g = t .before .args in
+    rw (c .turned-away .ensures) (meets-refused p (g .u) (g .k) _ (g .names .now) (failed p (g .u) (g .k) _ (sym (t .tests .ensures) ∙ q .test .given .1)))
+
+enum-told : tie.Need-enum-told
+enum-told c = search needs
+
+past : (c : tie.After-enum-told) → (let g = c .before .before .before .args in Passes (g .n) (g .own) (g .i) (g .u) (g .k))
+past c = passes _ _ _ _ _ (sym (c .before .before .tests .ensures) ∙ c .enum-told .given .1)
+
+small-requires : tie.Need-small-requires
+small-requires c κs = small-number (c .before .before .before .before .pre .2) (past (c .before))
+
+find-requires : tie.Need-find-requires
+find-requires c κs =
+    let t = c .before .before in
+    let h = past t .writer in
+    (h .0, omega (arith, h .1, few-desks (t .before .before .before .pre .2)))
+
+enum-known-e : tie.Need-enum-known-e
+enum-known-e c = search needs
+
+enum-told-2 : tie.Need-enum-told-2
+enum-told-2 c = search needs
+
+turned-away-requires-2 : tie.Need-turned-away-requires-2
+turned-away-requires-2 c κs = search needs
+
+found : (c : tie.After-find) → (let g = c .before .before .before .before .before .before .args in FoundIn (namedAt (g .opens .now) (g .u) (g .k)) (c .find .result))
+found c =
+    let g = c .before .before .before .before .before .before .args in
+    subst (λ (k : ℕ). FoundIn (namedAt (g .opens .now) (g .u) k) (c .find .result)) (c .before .small .ensures) (c .find .ensures)
+
+returns-2 : tie.Need-returns-2
+returns-2 c m ds p =
+    let f = c .before .before .before in
+    let t = f .before .before .before in
+    let g = t .before .before .before .args in
+    rw (c .turned-away2 .ensures)
+    (meets-refused p (g .u) (g .k) Received (g .names .now)
+    (passed p (g .u) (g .k) (past t) ∙ none-open p (g .u) (g .k) (found-none (g .opens .now) (g .u) (g .k) (f .find .result) (found f) (c .before .enum-told2 .given .1))))
+
+entry : (c : tie.After-known-told2)
+    → (let g = c .before .before .before .before .before .before .before .before .before .args in
+    let e = c .before .e .given .0 .0 in (e < entries) × (namedAt (g .opens .now) (g .u) (g .k) e ≡ true))
+entry c = found-at _ (c .before .before .before .find .result) _ (found (c .before .before .before)) (c .before .e .given .1)
+
+sub-mark-at : tie.Need-sub-mark-at
+sub-mark-at c = past (c .before .before .before .before .before .before .before) .desk .0
+
+mark-at-requires : tie.Need-mark-at-requires
+mark-at-requires c κs =
+    let t = c .before .before .before .before .before .before .before in
+    let h = past t .desk in
+    (entry (c .before) .0, omega (arith, h .0, h .1, few-desks (t .before .before .before .pre .2)))
+
+turned-away-requires-3 : tie.Need-turned-away-requires-3
+turned-away-requires-3 c κs = search needs
+
+mark-is : (c : tie.After-mark-at)
+    → (let g = c .before .before .before .before .before .before .before .before .before .before .before .args in
+    c .mark-at .result ≡ place (openAt (g .opens .now) (c .before .before .before .e .given .0 .0) .marks) (g .i))
+mark-is c =
+    let t = c .before .before .before .before .before .before .before .before in
+    let g = t .before .before .before .args in
+    c .mark-at .ensures ∙ sym (place-at (openAt (g .opens .now) (c .before .before .before .e .given .0 .0) .marks) (g .i) (past t .desk .0))
+
+returns-3 : tie.Need-returns-3
+returns-3 c m ds p =
+    let a = c .before .before in
+    let h = entry (a .before .before) in
+    let t = a .before .before .before .before .before .before .before .before in
+    let g = t .before .before .before .args in
+    rw (c .turned-away3 .ensures)
+    (meets-refused p (g .u) (g .k) Received (g .names .now)
+    (passed p (g .u) (g .k) (past t) ∙ known-open p (g .u) (g .k) _ (h .0) (h .1) (λ q. c .before .if1 .taken (mark-is a ∙ q))))
+
+receive-requires : tie.Need-receive-requires
+receive-requires c κs =
+    let e = c .before .before .before in
+    let a = e .before in
+    let h = entry (a .before .before) in
+    let t = a .before .before .before .before .before .before .before .before in
+    let g = t .before .before .before .args in
+    let p = t .before .before .before .pre in
+    (_, _, arrival (p .2) (past t .desk) (g .u) (g .k) _ (h .0) (h .1) (sym (mark-is a) ∙ e .if1 .left))
+
+returns-4 : tie.Need-returns-4
+returns-4 c m ds p =
+    let e = c .before .before .before .before in
+    let a = e .before in
+    let h = entry (a .before .before) in
+    let t = a .before .before .before .before .before .before .before .before in
+    let g = t .before .before .before .args in
+    let q = sym (mark-is a) ∙ e .if1 .left in
+    meets-received p (past t .desk) (g .u) (g .k) _ (past t) (h .0) (h .1) q
+    (c .receive .ensures _ _ (arrival p (past t .desk) (g .u) (g .k) _ (h .0) (h .1) q))
+
+pub deliver-at-spec : {M : Type 1} → statement M
+deliver-at-spec =
+    tie.close
+    (tie.spec
+    tests-requires
+    enum-known-test
+    turned-away-requires
+    returns
+    enum-told
+    small-requires
+    find-requires
+    enum-known-e
+    enum-told-2
+    turned-away-requires-2
+    returns-2
+    sub-mark-at
+    mark-at-requires
+    turned-away-requires-3
+    returns-3
+    receive-requires
+    returns-4)

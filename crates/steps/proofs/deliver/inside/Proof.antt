@@ -1,0 +1,13 @@
+use borrow.Author.Tests.{le-leb}
+use borrow.Author.Needs.{needs}
+use Rattle.steps.proofs.deliver.inside.Statement.{statement}
+use Rattle.steps.proofs.deliver.inside.Tie as tie
+
+returns : tie.Need-returns
+returns c = rw (c .if1 .taken)
+
+returns-2 : tie.Need-returns-2
+returns-2 c = let g = c .before .args in rw (le-leb 1 (g .i) (search needs))
+
+pub inside-spec : {M : Type 1} → statement M
+inside-spec = tie.close (tie.spec returns returns-2)

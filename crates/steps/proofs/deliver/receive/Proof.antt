@@ -1,0 +1,69 @@
+use Prim.Native.Nat.{ℕ, _≤_}
+use mathlib.Core.Path.{_≡_, sym, subst, _∙_}
+use mathlib.Core.List.{List}
+use mathlib.Core.Option.{some}
+use native.Mathlib.Omega.{arith}
+use Rattle.machine.specs.Steps.{failing}
+use Rattle.clock.specs.Vectors.{places, place}
+use Rattle.clock.specs.Readiness.{readyAt}
+use Rattle.table.specs.Value.{openAt}
+use Rattle.steps.specs.Cascade.{in-places}
+use Rattle.steps.specs.DeliverReceive.{next-of-arrival, received-ready, received-held}
+use borrow.Author.Needs.{needs}
+use Rattle.steps.proofs.deliver.receive.Statement.{statement}
+use Rattle.steps.proofs.deliver.receive.Tie as tie
+
+vector-at-requires : tie.Need-vector-at-requires
+vector-at-requires c κs = c .before .pre .2 .small
+
+ready-requires : tie.Need-ready-requires
+ready-requires c κs = search needs
+
+ready-is : (c : tie.After-ready)
+    → (let g = c .before .before .before .before .before .args in c .ready .result ≡ readyAt (g .d .applied) (openAt (g .opens .now) (g .e) .vector) (g .u))
+ready-is c = c .ready .ensures ∙ rw (c .before .before .before .vector-at .ensures)
+
+cascade-requires : tie.Need-cascade-requires
+cascade-requires c κs =
+    let t = c .before .before .before in
+    let p = t .before .before .before .before .before .before .pre in
+    (p .0, p .2 .running, next-of-arrival (p .2) (sym (ready-is (t .before)) ∙ t .if1 .taken))
+
+returns : tie.Need-returns
+returns c b k r =
+    let t = c .before .before .before .before .before in
+    let g = t .before .before .before .before .before .before .args in
+    received-ready (g .d) r (sym (ready-is (t .before)) ∙ t .if1 .taken) (c .before .cascade .ensures)
+
+sub-put-mark : tie.Need-sub-put-mark
+sub-put-mark c = c .before .before .before .before .before .before .before .pre .2 .running .desk .0
+
+put-mark-requires : tie.Need-put-mark-requires
+put-mark-requires c κs =
+    let p = c .before .before .before .before .before .before .before .pre .2 in
+    (p .small, omega (arith, in-places (p .running) _ (p .running .desk)))
+
+waits-for-requires : tie.Need-waits-for-requires
+waits-for-requires c κs = let e = c .before .before in sym (e .before .ready .ensures) ∙ e .if1 .left
+
+returns-2 : tie.Need-returns-2
+returns-2 c b k r =
+    let m = c .before in
+    let q = m .before .before .before in
+    let g = q .before .before .before .before .before .args in
+    let f : failing places (place (g .d .applied)) (g .u) (place (openAt (g .opens .now) (g .e) .vector)) ≡ some (c .waits-for .result) =
+    subst (λ (v : List ℕ). failing places (place (g .d .applied)) (g .u) (place v) ≡ some (c .waits-for .result)) (q .before .before .before .vector-at .ensures) (c .waits-for .ensures) in
+    received-held (g .names .now) (g .d) r f (m .put-mark .ensures .is)
+
+pub receive-spec : {M : Type 1} → statement M
+receive-spec =
+    tie.close
+    (tie.spec
+    vector-at-requires
+    ready-requires
+    cascade-requires
+    returns
+    sub-put-mark
+    put-mark-requires
+    waits-for-requires
+    returns-2)

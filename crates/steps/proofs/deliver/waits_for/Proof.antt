@@ -1,0 +1,42 @@
+use Prim.Native.Nat.{ℕ, _≤_}
+use mathlib.Core.Path.{_≡_, sym, ap, _∙_}
+use mathlib.Core.Option.{none, some}
+use native.Mathlib.Omega.{arith}
+use Rattle.laws.specs.Says.{apart}
+use Rattle.machine.specs.Steps.{failing, isNone}
+use Rattle.machine.specs.Proofs.Ready.{failing-at}
+use Rattle.clock.specs.Vectors.{places, place}
+use Rattle.clock.specs.Readiness.{wait-ready, wait-fails}
+use borrow.Author.Needs.{needs}
+use Rattle.steps.proofs.deliver.waits_for.Statement.{statement}
+use Rattle.steps.proofs.deliver.waits_for.Tie as tie
+
+readiness-requires : tie.Need-readiness-requires
+readiness-requires c κs = search needs
+
+enum-known-t : tie.Need-enum-known-t
+enum-known-t c = search needs
+
+enum-told : tie.Need-enum-told
+enum-told c = search needs
+
+returns : tie.Need-returns
+returns c =
+    let q = c .before .before in
+    let g = q .before .args in
+    let z : failing places (place (g .a)) (g .u) (place (g .v)) ≡ none = wait-ready _ (sym (q .readiness .ensures) ∙ c .enum-told .given .1) in
+    apart (isNone (failing places (place (g .a)) (g .u) (place (g .v)))) (rw z) (q .before .pre)
+
+fails : (c : tie.After-known-told)
+    → (let g = c .before .before .before .before .args in failing places (place (g .a)) (g .u) (place (g .v)) ≡ some (c .before .t .given .0 .0))
+fails c = wait-fails _ _ (sym (c .before .before .before .readiness .ensures) ∙ c .before .t .given .1)
+
+small-requires : tie.Need-small-requires
+small-requires c κs = omega (arith, failing-at places _ _ _ _ (fails c) .0 .1)
+
+returns-2 : tie.Need-returns-2
+returns-2 c = fails (c .before) ∙ ap some (sym (c .small .ensures))
+
+pub waits-for-spec : {M : Type 1} → statement M
+waits-for-spec =
+    tie.close (tie.spec readiness-requires enum-known-t enum-told returns small-requires returns-2)

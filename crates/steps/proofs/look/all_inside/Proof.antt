@@ -1,0 +1,67 @@
+use borrow.Author.Tests.{not-true, not-false}
+use Rattle.steps.specs.LookTrip.{every-left, every-stop, every-end}
+use Prim.Native.Nat.{_≤_, _-_}
+use mathlib.Core.Path.{_≡_, refl, sym, _∙_}
+use lib.ListN.{length, drop}
+use Rattle.laws.specs.Lists.{every}
+use Rattle.machine.specs.Steps.{within}
+use borrow.Author.Needs.{needs}
+use Rattle.steps.proofs.look.all_inside.Statement.{statement}
+use Rattle.steps.proofs.look.all_inside.Tie as tie
+
+abbrev Inv-loop : tie.InvT-loop
+Inv-loop m list j₀ j = (j ≤ length list) × (every (within m) (drop j list) ≡ every (within m) list)
+
+abbrev μ-loop : tie.MeasureT-loop
+μ-loop m list j₀ j = length list - j
+
+loop-holds : tie.Need-loop-holds Inv-loop μ-loop
+loop-holds c = (search needs, refl)
+
+mul-wide : tie.Need-mul-wide Inv-loop μ-loop
+mul-wide c = search needs
+
+shared-slice-read-wide : tie.Need-shared-slice-read-wide Inv-loop μ-loop
+shared-slice-read-wide c = search needs
+
+wide-requires : tie.Need-wide-requires Inv-loop μ-loop
+wide-requires c κs = search needs
+
+inside-requires : tie.Need-inside-requires Inv-loop μ-loop
+inside-requires c κs = search needs
+
+returns : tie.Need-returns Inv-loop μ-loop
+returns c = let L = c .before .before .before .before .before .loop in
+    let a = c .before .before .before .before .before .before .before .args in
+    every-stop (within (a .m)) (a .list .now) (L .j) (L .inv .1) (search needs) (rw (← c .before .before .wide .ensures .0) (sym (c .before .inside .ensures) ∙ not-true _ (c .if1 .taken)))
+
+add-j : tie.Need-add-j Inv-loop μ-loop
+add-j c = search needs
+
+loop-less : tie.Need-loop-less Inv-loop μ-loop
+loop-less c = search needs
+
+loop-again : tie.Need-loop-again Inv-loop μ-loop
+loop-again c = let L = c .before .before .before .before .before .loop in
+    let a = c .before .before .before .before .before .before .before .args in
+    (search needs, every-left (within (a .m)) (a .list .now) (L .j) (L .inv .1) (search needs) (rw (← c .before .before .wide .ensures .0) (sym (c .before .inside .ensures) ∙ not-false _ (c .if1 .left))))
+
+returns-2 : tie.Need-returns-2 Inv-loop μ-loop
+returns-2 c = let a = c .before .before .before .args in every-end (within (a .m)) (a .list .now) (c .before .loop .j) (c .before .loop .inv .1) (search needs)
+
+pub all-inside-spec : {M : Type 1} → statement M
+all-inside-spec =
+    tie.close
+    (tie.spec
+    Inv-loop
+    μ-loop
+    loop-holds
+    mul-wide
+    shared-slice-read-wide
+    wide-requires
+    inside-requires
+    returns
+    add-j
+    loop-less
+    loop-again
+    returns-2)

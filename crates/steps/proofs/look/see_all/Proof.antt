@@ -1,0 +1,75 @@
+use Rattle.machine.specs.Steps.{within}
+use Rattle.machine.specs.Proofs.Refusals.{says-within}
+use Rattle.table.specs.Value.{desk-cells}
+use Prim.Native.Nat.{_≤_, _-_}
+use mathlib.Core.Path.{_≡_, refl, sym, _∙_}
+use lib.ListN.{length, drop}
+use Rattle.steps.specs.LookTrip.{seeAll, every-at, see-next, see-end}
+use borrow.Author.Needs.{needs}
+use Rattle.steps.proofs.look.see_all.Statement.{statement}
+use Rattle.steps.proofs.look.see_all.Tie as tie
+
+abbrev Inv-loop : tie.InvT-loop
+Inv-loop cells i list s₀ j₀ s j = (j ≤ length list) × (seeAll cells i s (drop j list) ≡ seeAll cells i s₀ list)
+
+abbrev μ-loop : tie.MeasureT-loop
+μ-loop cells i list s₀ j₀ s j = length list - j
+
+loop-holds : tie.Need-loop-holds Inv-loop μ-loop
+loop-holds c = (search needs, refl)
+
+mul-wide : tie.Need-mul-wide Inv-loop μ-loop
+mul-wide c = search needs
+
+shared-slice-read-wide : tie.Need-shared-slice-read-wide Inv-loop μ-loop
+shared-slice-read-wide c = search needs
+
+wide-requires : tie.Need-wide-requires Inv-loop μ-loop
+wide-requires c κs = search needs
+
+slot-of-requires : tie.Need-slot-of-requires Inv-loop μ-loop
+slot-of-requires c κs =
+    let a = c .before .before .before .before .before .args in
+    let L = c .before .before .before .loop in
+    let pre = c .before .before .before .before .before .pre in
+    (pre .0, rw (c .wide .ensures .0) (says-within _ _ .to (every-at (within desk-cells) (a .list .now) (L .j) (search needs) (pre .1))))
+
+cell-at-requires : tie.Need-cell-at-requires Inv-loop μ-loop
+cell-at-requires c κs = search needs
+
+see-requires : tie.Need-see-requires Inv-loop μ-loop
+see-requires c κs = search needs
+
+add-j : tie.Need-add-j Inv-loop μ-loop
+add-j c = search needs
+
+loop-less : tie.Need-loop-less Inv-loop μ-loop
+loop-less c = search needs
+
+loop-again : tie.Need-loop-again Inv-loop μ-loop
+loop-again c =
+    let a = c .before .before .before .before .before .before .before .before .args in
+    let L = c .before .before .before .before .before .before .loop in
+    (search needs, rw (c .see .ensures, c .before .cell-at .ensures, c .before .before .slot-of .ensures .0, c .before .before .before .wide .ensures .0) (sym (see-next (a .cells .now) (a .i) (L .s) (a .list .now) (L .j) (search needs)) ∙ L .inv .1))
+
+returns : tie.Need-returns Inv-loop μ-loop
+returns c = let a = c .before .before .before .args in let L = c .before .loop in
+    sym (see-end (a .cells .now) (a .i) (L .s) (a .list .now) (L .j) (search needs)) ∙ L .inv .1
+
+pub see-all-spec : {M : Type 1} → statement M
+see-all-spec =
+    tie.close
+    (tie.spec
+    Inv-loop
+    μ-loop
+    loop-holds
+    mul-wide
+    shared-slice-read-wide
+    wide-requires
+    slot-of-requires
+    cell-at-requires
+    see-requires
+    add-j
+    loop-less
+    loop-again
+    returns)

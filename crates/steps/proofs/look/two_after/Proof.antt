@@ -1,0 +1,12 @@
+use borrow.Author.Tests.{eq-eqb, ne-eqb}
+use Rattle.steps.proofs.look.two_after.Statement.{statement}
+use Rattle.steps.proofs.look.two_after.Tie as tie
+
+returns : tie.Need-returns
+returns c = rw (eq-eqb _ _ (c .if1 .taken))
+
+returns-2 : tie.Need-returns-2
+returns-2 c = rw (ne-eqb _ _ (c .if1 .left))
+
+pub two-after-spec : {M : Type 1} → statement M
+two-after-spec = tie.close (tie.spec returns returns-2)

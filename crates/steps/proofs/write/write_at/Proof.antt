@@ -1,0 +1,160 @@
+use mathlib.Core.Path.{_≡_, refl}
+use mathlib.Core.Logic.{inl, inr, ⊎-elim}
+use Prim.Native.Nat.{_<_}
+use native.Mathlib.Omega.{arith}
+use Rattle.answer.specs.declared.Refusal.{Refusal}
+use Rattle.answer.specs.declared.Refusal.the-variants.{NoDesk, NoCell, NoStatus, Spent}
+use Rattle.machine.specs.Rules.{In}
+use Rattle.machine.specs.Proofs.Refusals.{says-within}
+use Rattle.clock.specs.Vectors.{place, place-at}
+use Rattle.steps.specs.declared.write.Spot.the-variants.{Full}
+use Rattle.steps.specs.LookStepped.{stops, passes, in-places, in-cells, refused-turn}
+use Rattle.steps.specs.WriteTurn.{spot-in}
+use Rattle.steps.specs.WriteCount.{full-many}
+use Rattle.steps.specs.WriteLink.{written-start, write-stepped}
+use borrow.Author.Needs.{needs}
+use Rattle.steps.proofs.write.write_at.Statement.{statement}
+use Rattle.steps.proofs.write.write_at.Tie as tie
+
+desk-in : (k : tie.Else1) → In (k .before .before .args .n) (k .before .before .args .i)
+desk-in k = passes (says-within _ _) (k .before .inside .ensures) (k .if1 .left)
+
+cell-in : (k : tie.Else2) → In (k .before .before .before .before .args .m) (k .before .before .before .before .args .x)
+cell-in k = passes (says-within _ _) (k .before .inside2 .ensures) (k .if2 .left)
+
+-- the desk has written less than 65,535 times
+unspent : (k : tie.Else4) → place (k .before .before .before .before .before .before .before .before .args .d .applied) (k .before .before .before .before .before .before .before .before .args .i) < 65535
+unspent k = omega (arith, k .before .at-place .ensures)
+
+not-full : (k : tie.At-match-keys2) → k .before .spot-for .result ≡ Full → ⊥
+not-full k e = ⊎-elim (λ q. omega arith) (λ q. omega arith) (rw e at (k .match .keys2))
+
+inside-requires : tie.Need-inside-requires
+inside-requires c κs = search needs
+
+refused-requires : tie.Need-refused-requires
+refused-requires c κs = search needs
+
+returns : tie.Need-returns
+returns c ds own p =
+    refused-turn p _ NoDesk (c .refused .ensures) (inl (stops (says-within _ _) (c .before .before .inside .ensures) (c .before .if1 .taken), refl))
+
+inside-requires-2 : tie.Need-inside-requires-2
+inside-requires-2 c κs = search needs
+
+refused-requires-2 : tie.Need-refused-requires-2
+refused-requires-2 c κs = search needs
+
+returns-2 : tie.Need-returns-2
+returns-2 c ds own p =
+    refused-turn p _ NoCell (c .refused2 .ensures)
+    (inr (desk-in (c .before .before .before), inl (stops (says-within _ _) (c .before .before .inside2 .ensures) (c .before .if2 .taken), refl)))
+
+refused-requires-3 : tie.Need-refused-requires-3
+refused-requires-3 c κs = search needs
+
+returns-3 : tie.Need-returns-3
+returns-3 c ds own p =
+    let k = c .before .before in
+    refused-turn p _ NoStatus (c .refused3 .ensures) (inr (desk-in (k .before .before), inr (cell-in k, inl ((λ h. omega (arith, c .before .if3 .taken)), refl))))
+
+at-place-requires : tie.Need-at-place-requires
+at-place-requires c κs = search needs
+
+refused-requires-4 : tie.Need-refused-requires-4
+refused-requires-4 c κs = search needs
+
+returns-4 : tie.Need-returns-4
+returns-4 c ds own p =
+    let k = c .before .before .before .before in
+    let hi = desk-in (k .before .before .before) in
+    refused-turn p _ Spent (c .refused4 .ensures)
+    (inr (
+      hi,
+      inr (
+        cell-in (k .before),
+        inr (
+          omega (arith, k .if3 .left),
+          inl ((λ h. omega (arith, c .before .if4 .taken, c .before .before .at-place .ensures, written-start p hi)), refl),
+        ),
+      ),
+    ))
+
+add-spot-for : tie.Need-add-spot-for
+add-spot-for c = search needs
+
+spot-for-requires : tie.Need-spot-for-requires
+spot-for-requires c κs = search needs
+
+enum-told : tie.Need-enum-told
+enum-told c = search needs
+
+refused-requires-5 : tie.Need-refused-requires-5
+refused-requires-5 c κs = search needs
+
+returns-5 : tie.Need-returns-5
+returns-5 c ds own p =
+    let t = c .before .before .before in
+    let k = t .before .before .before .before .before in
+    let hi = desk-in (k .before .before .before) in
+    refused-turn p _ Refusal.Full (c .refused5 .ensures)
+    (inr (
+      hi,
+      inr (
+        cell-in (k .before),
+        inr (
+          omega (arith, k .if3 .left),
+          inr (
+            rw (written-start p hi) (unspent (t .before .before)),
+            inl (full-many (p .sound) ((rw (c .before .enum-told .given .1) at (t .spot-for .ensures)) .1), refl),
+          ),
+        ),
+      ),
+    ))
+
+small-requires : tie.Need-small-requires
+small-requires c κs = search needs
+
+written-requires : tie.Need-written-requires
+written-requires c κs =
+    let t = c .before .before .before .before in
+    let k = t .before .before .before .before .before in
+    let p = k .before .before .before .before .before .pre .placed in
+    let hi = desk-in (k .before .before .before) in
+    let g = k .before .before .before .before .before .args in (
+      (in-places p hi, (in-cells p (cell-in (k .before)), spot-in (g .n) (g .opens .now) (t .spot-for .result) (t .spot-for .ensures))),
+      rw (← place-at (g .d .applied) (g .i) (hi .0)) (unspent (t .before .before)),
+    )
+
+returns-6 : tie.Need-returns-6
+returns-6 c ds own p =
+    let t = c .before .before .before .before .before in
+    let k = t .before .before .before .before .before in
+    let w = c .written .ensures in
+    rw (w .turn, w .cells, w .opens, c .before .small .ensures)
+    (write-stepped p (desk-in (k .before .before .before)) (unspent (t .before .before)) _ _ (cell-in (k .before)) _ (omega (arith, k .if3 .left)) (t .spot-for .ensures)
+    (not-full (c .before .before .before .before)))
+
+pub write-at-spec : {M : Type 1} → statement M
+write-at-spec =
+    tie.close
+    (tie.spec
+    inside-requires
+    refused-requires
+    returns
+    inside-requires-2
+    refused-requires-2
+    returns-2
+    refused-requires-3
+    returns-3
+    at-place-requires
+    refused-requires-4
+    returns-4
+    add-spot-for
+    spot-for-requires
+    enum-told
+    refused-requires-5
+    returns-5
+    small-requires
+    written-requires
+    returns-6)

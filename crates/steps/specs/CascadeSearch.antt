@@ -1,0 +1,21 @@
+-- What the cascade's search yields.
+use Prim.Native.Nat.{ℕ, _≤_}
+use mathlib.Core.Path.{_≡_}
+use mathlib.Core.List.{List}
+use mathlib.Core.Option.{none, some}
+use Rattle.laws.specs.Loop.{scan}
+use Rattle.steps.specs.declared.deliver.Due.{Due}
+use Rattle.steps.specs.declared.deliver.Due.the-variants.{At, Nothing}
+use Rattle.steps.specs.Cascade.{dueIn, DueAt}
+
+-- the first writer with a write that is due, and the write's entry; or that there is none
+abbrev pub Yields : (n i : ℕ) (a own os : List ℕ) → Due → Type 0
+Yields n i a own os (At u e) = (1 ≤ u) × (u ≤ n) × (scan (dueIn a own os i) some none n 1 ≡ some u) × DueAt a own os i u e
+Yields n i a own os Nothing = scan (dueIn a own os i) some none n 1 ≡ none
+
+module _ (n i : ℕ) (a own os : List ℕ) (r : Due) (y : Yields n i a own os r) where
+  pub yields-at : {u e : ℕ} → r ≡ At u e → Yields n i a own os (At u e)
+  yields-at q = rw q at y
+
+  pub yields-none : r ≡ Nothing → Yields n i a own os Nothing
+  yields-none q = rw q at y

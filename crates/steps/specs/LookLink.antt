@@ -1,0 +1,79 @@
+-- What a desk reads joins its clock as the machine says, for one cell and for the cells of a trip.
+use Prim.Native.Nat.{ℕ, _-_}
+use mathlib.Core.Path.{_≡_, sym, ap, _∙_, fun-ext}
+use mathlib.Core.List.{List, []}
+use native.Mathlib.Omega.{arith}
+use borrow.Author.Tests.{eqb-true}
+use lib.Dec.{eqb}
+use lib.ListN.{length, set}
+use Rattle.laws.specs.Loop.{cases}
+use Rattle.machine.specs.Table as states
+use Rattle.machine.specs.Answer as machine
+use Rattle.machine.specs.Rules.{In}
+use Rattle.machine.specs.Steps.{Step, Read, join, readClock, withClock}
+use Rattle.machine.specs.Refusals.{rowsOf, AllPass}
+use Rattle.machine.specs.Proofs.Refusals.{effectOf}
+use Rattle.clock.specs.declared.Clock.{Clock}
+use Rattle.clock.specs.Vectors.{places, place, joined, joinClock, place-joined}
+use Rattle.table.specs.declared.Cell.{Cell}
+use Rattle.table.specs.declared.Desk.{Desk}
+use Rattle.table.specs.Value.{cellAt, full-cellAt, FullCell}
+use Rattle.table.specs.Model.{cellM, slot, clockM, cellsM, opensM, model, clockVec, cell-in, clock-at, clock-put, applied-keep}
+use Rattle.table.specs.Sound.{AllZero}
+use Rattle.answer.specs.Meaning.{answerOf}
+use Rattle.steps.specs.Stepped.{Placed, Stepped}
+use Rattle.steps.specs.LookStepped.{in-places, in-cells, in-desks, desk-shape, taken-stepped}
+use Rattle.steps.specs.LookTurn.{clocked, shownCell, lookTurn}
+
+-- a cell that is all zero where it is unset
+abbrev pub Blank0 : Cell → Type 0
+Blank0 c = c .writer ≡ 0 → AllZero c
+
+-- "unset, which leaves the clock": the zeros of an unset cell join without effect
+pub join-cell : (a : List ℕ) (c : Cell) → length a ≡ places → FullCell c → Blank0 c → place (joined a (c .vector)) ≡ readClock (place a) (cellM c)
+join-cell a c la f z =
+    place-joined a (c .vector) (f .vector ∙ sym la)
+    ∙ cases (eqb (c .writer) 0)
+    (λ t. rw t (fun-ext (λ u. let e = z (eqb-true _ _ t) .vector u in rw e (omega arith))))
+    (λ t. rw t)
+
+pub shown-cell : (c : Cell) → answerOf (shownCell c) [] ≡ machine.shows (machine.shownOf (cellM c))
+unfolding shownCell
+shown-cell c = cases (eqb (c .writer) 0) (λ t. rw t) (λ t. rw t)
+
+module _ {n m : ℕ} {ds : List Desk} {cs os own : List ℕ} {i : ℕ} {d : Desk} (p : Placed n m ds cs os own i d) (hi : In n i) where
+  abbrev at-start : states.State
+  at-start = model n m ds cs os
+
+  pub clock-start : clockM ds i ≡ place (d .clock .at)
+  clock-start = clock-at ds i (in-desks p hi) ∙ ap clockVec (p .desk hi)
+
+  pub cell-here : {x : ℕ} → In m x → cellsM cs i x ≡ cellM (cellAt cs (slot i x))
+  cell-here {x} hx = cell-in cs i x (in-places p hi) (in-cells p hx)
+
+  pub blank-here : {x : ℕ} → In m x → Blank0 (cellAt cs (slot i x))
+  blank-here {x} hx = p .sound .blanks (slot i x) (omega (arith, in-places p hi, in-cells p hx))
+
+  -- only the clock changes
+  pub clock-stepped : (a : Step) (k : Clock) (answer : machine.Answer) → AllPass (rowsOf (model n m ds cs os) a)
+      → answer ≡ effectOf (model n m ds cs os) a .answer → withClock (model n m ds cs os) i (place (k .at)) ≡ effectOf (model n m ds cs os) a .state
+      → Stepped n m ds cs os i d a (clocked d k) cs os answer
+  clock-stepped a k answer h ea es = taken-stepped p a hi h ea (moved ∙ es) (p .sound .blanks) (p .sound .unique)
+    where
+      moved : model n m (set ds (i - 1) (clocked d k)) cs os ≡ withClock (model n m ds cs os) i (place (k .at))
+      moved = λ j. record {
+        desks = n;
+        cells = m;
+        applied = applied-keep ds i (in-desks p hi) (clocked d k) (ap (λ (b : Desk). place (b .applied)) (sym (p .desk hi))) j;
+        clock = clock-put ds i (in-desks p hi) (clocked d k) j;
+        cell = cellsM cs;
+        opens = opensM os;
+      }
+
+  pub read-stepped : (x : ℕ) → In m x → Stepped n m ds cs os i d (Read i x) (lookTurn d (cellAt cs (slot i x)) .desk) cs os (answerOf (lookTurn d (cellAt cs (slot i x)) .answer) [])
+  read-stepped x hx =
+      let c = cellAt cs (slot i x) in
+      clock-stepped (Read i x) (joinClock (d .clock) (c .vector)) (answerOf (shownCell c) []) (hi, (hx, tt))
+      (shown-cell c ∙ rw (cell-here hx))
+      (ap (λ (v : states.Vec). withClock (model n m ds cs os) i v)
+      (join-cell (d .clock .at) c (desk-shape p hi .clock) (full-cellAt cs (slot i x)) (blank-here hx) ∙ rw (clock-start, cell-here hx)))

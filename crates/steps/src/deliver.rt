@@ -1,0 +1,302 @@
+// Deliver: a write is held or applied, and then every held write that becomes ready.
+ghost use mathlib.Core.Path.{_≡_};
+ghost use Prim.Native.Nat.{ℕ, _+_, _-_, _*_, _<_, _≤_};
+ghost use lib.ListN.{getD, set, length};
+ghost use Rattle.clock.specs.Vectors.{places};
+ghost use mathlib.Core.Bool.{true, false};
+ghost use mathlib.Core.Option.{some};
+ghost use Rattle.clock.specs.Vectors.{place};
+ghost use Rattle.clock.specs.Readiness.{readyAt};
+ghost use Rattle.machine.specs.Rules.{In};
+ghost use Rattle.machine.specs.Steps.{within, failing};
+ghost use Rattle.table.specs.Value.{desk-cells, entries, openAt};
+ghost use Rattle.table.specs.Opens.{Unique};
+ghost use Rattle.steps.specs.Cascade.{AppliedAt, DueSays, NamePut, Starts, Cascades};
+ghost use Rattle.steps.specs.DeliverReceive.{Arrives, Received};
+ghost use Rattle.steps.specs.Deliver.{Part, Delivers, testsOf, turnedAway};
+use crate::Turn;
+use answer::Answer;
+use answer::Refusal;
+use clock::PLACES;
+use clock::Wait;
+use table::CELL;
+use table::CELLS;
+use table::Cell;
+use table::Desk;
+use table::Found;
+use table::OPEN;
+use table::OPENS;
+
+// The numbers of the names that an answer lists: writer and number by turns.
+pub const NAMES: usize = 2 * OPENS;
+
+// What the search finds: a writer and the entry of its write that is due.
+pub enum Due {
+    At(usize, usize),
+    Nothing,
+}
+
+// The tests before an entry is looked for.
+pub enum Test {
+    Passed,
+    Failed(Refusal),
+}
+
+pub struct Applied {
+    pub counts: [u16; PLACES],
+    pub len: usize,
+}
+
+fn wide(x: u16) -> usize
+    ensures { λ r. ⌜ (r ≡ x) × (r < 65536) ⌝ }
+{
+    x as usize
+}
+
+fn small(x: usize) -> u16
+    requires { ⌜ x < 65536 ⌝ }
+    ensures { λ r. ⌜ r ≡ x ⌝ }
+{
+    x as u16
+}
+
+fn one_more(k: u16, most: u16) -> u16
+    requires { ⌜ k < most ⌝ }
+    ensures { λ r. ⌜ r ≡ k + 1 ⌝ }
+{
+    k + 1
+}
+
+// Entry e applied at desk i of n, and handed back when all have applied it.
+fn apply_at(
+    cells: &mut [u16; PLACES * CELLS * CELL],
+    opens: &mut [u16; OPENS * OPEN],
+    n: usize,
+    i: usize,
+    e: usize,
+)
+    requires { ⌜ (n ≤ places) × ((In places i) × ((e < entries) × (In desk-cells (openAt (now opens) e .cell)))) ⌝ }
+    ensures { λ _. ⌜ AppliedAt n i e (now (cells .entry)) (now (opens .entry)) (now (cells .exit)) (now (opens .exit)) ⌝ }
+{
+    let o = table::open_at(opens, e);
+    let v = o.vector;
+    let s = table::slot_of(i, wide(o.cell));
+    let c = Cell {
+        writer: o.writer,
+        status: o.status,
+        vector: v,
+    };
+    table::put_cell(cells, s, c);
+    table::put_mark(opens, e, i - 1, 2);
+    if table::all_applied(opens, e, n) {
+        table::set_free(opens, e);
+    }
+}
+
+// The entry of the write of desk u that is held at desk i and ready there. Only the next in order can be.
+fn due_of(
+    a: [u16; PLACES],
+    own: [u16; PLACES],
+    opens: &[u16; OPENS * OPEN],
+    i: usize,
+    u: usize,
+) -> Found
+    requires { ⌜ (In places i) × ((In places u) × (Unique (now opens))) ⌝ }
+    ensures { λ r. ⌜ DueSays a own (now (opens .entry)) i u r ⌝ }
+{
+    let k = a[u - 1];
+    let most = own[u - 1];
+    if most <= k {
+        return Found::Nothing;
+    }
+    let Found::At(e) = table::find(opens, u, one_more(k, most)) else {
+        return Found::Nothing;
+    };
+    if table::mark_at(opens, e, i - 1) != 1 {
+        return Found::Nothing;
+    }
+    let v = table::vector_at(opens, e);
+    if clock::ready(a, v, u) {
+        return Found::At(e);
+    }
+    Found::Nothing
+}
+
+// Two numbers from a place on. (A lent array tells its length where it goes on as a slice.)
+fn put_pair(l: &mut [u16], at: usize, x: u16, y: u16)
+    requires { ⌜ at + 1 < length (now l) ⌝ }
+    ensures { λ _. ⌜ now (l .exit) ≡ set (set (now (l .entry)) at x) (at + 1) y ⌝ }
+{
+    l[at] = x;
+    l[at + 1] = y;
+}
+
+// Name j of the answer.
+fn put_name(names: &mut [u16; NAMES], j: usize, u: u16, k: u16)
+    requires { ⌜ j < entries ⌝ }
+    ensures { λ _. ⌜ NamePut (now (names .entry)) j u k (now (names .exit)) ⌝ }
+{
+    put_pair(names, 2 * j, u, k);
+}
+
+// Entry e, a ready write of desk u, applied at desk i where the counts are c, and then every held write that becomes ready,
+// smallest writer first.
+fn cascade(
+    n: usize,
+    c: [u16; PLACES],
+    own: [u16; PLACES],
+    cells: &mut [u16; PLACES * CELLS * CELL],
+    opens: &mut [u16; OPENS * OPEN],
+    names: &mut [u16; NAMES],
+    i: usize,
+    u: usize,
+    e: usize,
+) -> Applied
+    requires { ⌜ Starts n i u e c own (now cells) (now opens) ⌝ }
+    ensures { λ r. ⌜ Cascades n i u e c own (now (cells .entry)) (now (opens .entry)) (now (names .entry)) (r .counts) (r .len) (now (cells .exit)) (now (opens .exit)) (now (names .exit)) ⌝ }
+{
+    let mut a = c;
+    let mut w = u;
+    let mut entry = e;
+    let mut len: usize = 0;
+    'apply: loop {
+        apply_at(cells, opens, n, i, entry);
+        let k = a[w - 1] + 1;
+        a[w - 1] = k;
+        put_name(names, len, small(w), k);
+        len += 1;
+        let mut t = 1;
+        let found = 'search: loop {
+            if n < t {
+                break 'search Due::Nothing;
+            }
+            if let Found::At(x) = due_of(a, own, opens, i, t) {
+                break 'search Due::At(t, x);
+            }
+            t += 1;
+        };
+        let Due::At(next, x) = found else {
+            break 'apply;
+        };
+        w = next;
+        entry = x;
+    }
+    Applied {
+        counts: a,
+        len: len,
+    }
+}
+
+// The smallest desk whose place fails, of a write that is not ready.
+fn waits_for(a: [u16; PLACES], v: [u16; PLACES], u: usize) -> u16
+    requires { ⌜ readyAt a v u ≡ false ⌝ }
+    ensures { λ r. ⌜ failing places (place a) u (place v) ≡ some r ⌝ }
+{
+    let Wait::Fails(t) = clock::readiness(a, v, u) else {
+        return 0;
+    };
+    small(t)
+}
+
+// Entry e, a write of desk u that desk i has not received: held or applied.
+fn receive(
+    n: usize,
+    d: Desk,
+    own: [u16; PLACES],
+    cells: &mut [u16; PLACES * CELLS * CELL],
+    opens: &mut [u16; OPENS * OPEN],
+    names: &mut [u16; NAMES],
+    i: usize,
+    u: usize,
+    e: usize,
+) -> Turn
+    requires { ⌜ Arrives n i u e (d .applied) own (now cells) (now opens) ⌝ }
+    ensures { λ r. ⌜ Received n i u e d own (now (cells .entry)) (now (opens .entry)) (now (names .entry)) r (now (cells .exit)) (now (opens .exit)) (now (names .exit)) ⌝ }
+{
+    let v = table::vector_at(opens, e);
+    let a = d.applied;
+    let k = d.clock;
+    if clock::ready(a, v, u) {
+        let r = cascade(n, a, own, cells, opens, names, i, u, e);
+        let b = r.counts;
+        let changed = Desk {
+            applied: b,
+            clock: k,
+        };
+        return Turn {
+            desk: changed,
+            answer: Answer::Applied(r.len),
+        };
+    }
+    table::put_mark(opens, e, i - 1, 1);
+    Turn {
+        desk: d,
+        answer: Answer::Held(waits_for(a, v, u)),
+    }
+}
+
+// Is i within 1 to n?
+fn inside(n: usize, i: usize) -> bool
+    ensures { λ r. ⌜ r ≡ within n i ⌝ }
+{
+    if i == 0 {
+        return false;
+    }
+    i <= n
+}
+
+fn turned_away(d: Desk, r: Refusal) -> Turn
+    ensures { λ t. ⌜ t ≡ turnedAway d r ⌝ }
+{
+    Turn {
+        desk: d,
+        answer: Answer::Refused(r),
+    }
+}
+
+fn tests(n: usize, own: [u16; PLACES], i: usize, u: usize, k: usize) -> Test
+    requires { ⌜ n ≤ places ⌝ }
+    ensures { λ r. ⌜ r ≡ testsOf n own i u k ⌝ }
+{
+    if !inside(n, i) {
+        return Test::Failed(Refusal::NoDesk);
+    }
+    if !inside(n, u) {
+        return Test::Failed(Refusal::NoDesk);
+    }
+    if i == u {
+        return Test::Failed(Refusal::OwnWrite);
+    }
+    if inside(wide(own[u - 1]), k) {
+        return Test::Passed;
+    }
+    Test::Failed(Refusal::NoWrite)
+}
+
+// Write k of desk u delivered to desk i of n: d is that desk, own each desk's own count; the names of an answer stand in names.
+pub fn deliver_at(
+    n: usize,
+    d: Desk,
+    own: [u16; PLACES],
+    cells: &mut [u16; PLACES * CELLS * CELL],
+    opens: &mut [u16; OPENS * OPEN],
+    names: &mut [u16; NAMES],
+    i: usize,
+    u: usize,
+    k: usize,
+) -> Turn
+    requires { ⌜ Part n d own (now cells) (now opens) i ⌝ }
+    ensures { λ r. ⌜ Delivers n d own (now (cells .entry)) (now (opens .entry)) (now (names .entry)) i u k r (now (cells .exit)) (now (opens .exit)) (now (names .exit)) ⌝ }
+{
+    let test = tests(n, own, i, u, k);
+    if let Test::Failed(r) = test {
+        return turned_away(d, r);
+    }
+    let Found::At(e) = table::find(opens, u, small(k)) else {
+        return turned_away(d, Refusal::Received);
+    };
+    if table::mark_at(opens, e, i - 1) != 0 {
+        return turned_away(d, Refusal::Received);
+    }
+    receive(n, d, own, cells, opens, names, i, u, e)
+}
