@@ -1,0 +1,4 @@
+pub mod Test
+pub mod Few
+pub mod Gap
+pub mod Parts

@@ -1,0 +1,1 @@
+// Whether a table value keeps the rules of the image.
