@@ -71,7 +71,7 @@ no-set q = absurd (let z : _≡_ {A = ℕ} 0 1 = cc in omega arith)
 -- what holds of each row in use, as a set cell, holds of each set cell of the model
 module _ (cs : List ℕ) (P : ℕ → ℕ → ℕ → ℕ → Vec → Type 0)
     (at : (i x : ℕ) → i < places → x < desk-cells → (cellAt cs (i * desk-cells + x) .writer ≡ 0 → ⊥)
-        → P (suc i) (suc x) (cellAt cs (i * desk-cells + x) .status) (cellAt cs (i * desk-cells + x) .writer) (place (cellAt cs (i * desk-cells + x) .vector))) where
+    → P (suc i) (suc x) (cellAt cs (i * desk-cells + x) .status) (cellAt cs (i * desk-cells + x) .writer) (place (cellAt cs (i * desk-cells + x) .vector))) where
   pub set-each : (i x v u : ℕ) (w : Vec) → cellsM cs i x ≡ set v u w → P i x v u w
   unfolding cellsM
   set-each zero x v u w e = no-set e

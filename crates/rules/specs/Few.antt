@@ -47,11 +47,11 @@ names-few [] n w =
 names-few (x ∷ l) n w =
     let ih = names-few l n w in
     let s : names (x ∷ l) n w ≤ suc (names l n w) =
-        sum-one-le n (λ u. tally (w u) (found l u)) (λ u. tally (w u) (found (x ∷ l) u)) (x .writer)
-        (sum-one-le (w (x .writer)) (λ k. one (found l (x .writer) k)) (λ k. one (found (x ∷ l) (x .writer) k)) (number x)
-        (one-more x l (x .writer) (number x))
-        (λ k ne. other-name x l (x .writer) k (λ _ q. ne (sym q))))
-        (λ u ne. sum-le (w u) (λ k. one (found (x ∷ l) u k)) (λ k. one (found l u k)) (λ k _ _. other-name x l u k (λ p _. ne (sym p)))) in
+    sum-one-le n (λ u. tally (w u) (found l u)) (λ u. tally (w u) (found (x ∷ l) u)) (x .writer)
+    (sum-one-le (w (x .writer)) (λ k. one (found l (x .writer) k)) (λ k. one (found (x ∷ l) (x .writer) k)) (number x)
+    (one-more x l (x .writer) (number x))
+    (λ k ne. other-name x l (x .writer) k (λ _ q. ne (sym q))))
+    (λ u ne. sum-le (w u) (λ k. one (found (x ∷ l) u k)) (λ k. one (found l u k)) (λ k _ _. other-name x l u k (λ p _. ne (sym p)))) in
     omega arith
 
 -- "at most 64 are open"

@@ -6,3 +6,4 @@ pub mod Box
 pub mod To
 pub mod From
 pub mod Whole
+pub mod Walk

@@ -27,7 +27,7 @@ use Rattle.table.specs.Names.{number, namedAt}
 use Rattle.table.specs.Model.{openM}
 use Rattle.table.specs.Sound.{AllZero}
 use Rattle.table.specs.Begin.{zeros-at}
-use Rattle.rules.specs.Test.{noughts, owns, gaps, gapAt, lastOf, usedTest, entryTest, entriesTest, countsTest, setTest, cellTest, cellsTest, waitTest, liveTest, markTest, marksTest, deskTest, desksTest}
+use Rattle.rules.specs.Test.{noughts, owns, gaps, gapAt, lastOf, rangesTest, usedTest, entryTest, entriesTest, countsTest, setTest, cellTest, cellsTest, waitTest, liveTest, markTest, marksTest, deskTest, desksTest}
 
 -- a vector at most another --
 
@@ -80,27 +80,24 @@ says-last os u k e h =
     }
 
 says-used : (n m : ℕ) (own os : List ℕ) (e : ℕ) (o : Open) → e < entries → length (o .vector) ≡ places → Says (usedTest n m own os e o) (UsedGood n m own os e o)
-unfolding usedTest
+unfolding usedTest rangesTest
 says-used n m own os e o h lv =
     says-as (usedTest n m own os e o)
-    (says-and _ _ (says-leb _ _)
-    (says-and _ _ (says-leb _ _)
-    (says-and _ _ (says-leb _ _)
-    (says-and _ _ (says-leb _ _)
+    (says-and _ _ (says-and _ _ (says-leb _ _) (says-and _ _ (says-leb _ _) (says-and _ _ (says-leb _ _) (says-leb _ _))))
     (says-and _ _ (says-leb _ _)
     (says-and _ _ (says-covers own (o .vector) lv)
     (says-and _ _ (says-false _)
-    (says-last os (o .writer) (number o) e h))))))))
+    (says-last os (o .writer) (number o) e h)))))
     (λ g. record {
-      writer = g .0;
-      cell = (g .1 .0, g .1 .1 .0);
-      status = g .1 .1 .1 .0;
-      first = g .1 .1 .1 .1 .0;
-      vector = g .1 .1 .1 .1 .1 .0;
-      lacks = g .1 .1 .1 .1 .1 .1 .0;
-      last = g .1 .1 .1 .1 .1 .1 .1;
+      writer = g .0 .0;
+      cell = (g .0 .1 .0, g .0 .1 .1 .0);
+      status = g .0 .1 .1 .1;
+      first = g .1 .0;
+      vector = g .1 .1 .0;
+      lacks = g .1 .1 .1 .0;
+      last = g .1 .1 .1 .1;
     })
-    (λ g. (g .writer, (g .cell .0, (g .cell .1, (g .status, (g .first, (g .vector, (g .lacks, g .last))))))))
+    (λ g. ((g .writer, (g .cell .0, (g .cell .1, g .status))), (g .first, (g .vector, (g .lacks, g .last)))))
 
 abbrev pub EntriesGood : ℕ → ℕ → List ℕ → List ℕ → Type 0
 EntriesGood n m own os = (e : ℕ) → e < entries → isFree (openAt os e) ≡ false → UsedGood n m own os e (openAt os e)

@@ -23,6 +23,9 @@ use Rattle.table.specs.Model.{openM, opensM}
 abbrev pub noughts : List ℕ
 noughts = replicate places 0
 
+abbrev pub zeroTest : List ℕ → Bool
+zeroTest v = coversAll noughts v
+
 -- each desk's count of its own writes
 abbrev pub ownAt : List Desk → ℕ → ℕ
 ownAt ds t = getD (getD ds t desk0 .applied) t 0
@@ -51,16 +54,16 @@ unfoldable pub lastOf : List ℕ → ℕ → ℕ → ℕ → Bool
 lastOf os u k e = all (λ j. not (namedAt os u k j)) (entries - (e + 1)) (e + 1)
 
 -- entry e, where its write is o: ranges, vector, that some desk lacks it, and that it stands once
+unfoldable pub rangesTest : ℕ → ℕ → Open → Bool
+rangesTest n m o = and (leb (o .writer) n) (and (leb 1 (o .cell)) (and (leb (o .cell) m) (leb (o .status) most-status)))
+
 unfoldable pub usedTest : ℕ → ℕ → List ℕ → List ℕ → ℕ → Open → Bool
 usedTest n m own os e o =
-    and (leb (o .writer) n)
-    (and (leb 1 (o .cell))
-    (and (leb (o .cell) m)
-    (and (leb (o .status) most-status)
+    and (rangesTest n m o)
     (and (leb 1 (number o))
     (and (coversAll own (o .vector))
     (and (not (everywhere n (openM o)))
-    (lastOf os (o .writer) (number o) e)))))))
+    (lastOf os (o .writer) (number o) e))))
 
 unfoldable pub entryTest : ℕ → ℕ → List ℕ → List ℕ → ℕ → Bool
 entryTest n m own os e = pick (isFree (openAt os e)) true (usedTest n m own os e (openAt os e))
@@ -74,7 +77,7 @@ countsTest n own gap i d =
     and (coversAll own (d .applied))
     (and (coversAll (d .applied) (d .clock .at))
     (and (eqb (getD (d .clock .at) i 0) (getD (d .applied) i 0))
-    (pick (ltb i n) (coversAll (d .applied) gap) (coversAll noughts (d .applied)))))
+    (pick (ltb i n) (coversAll (d .applied) gap) (zeroTest (d .applied)))))
 
 -- cell x of a desk with the counts a
 unfoldable pub setTest : ℕ → ℕ → List ℕ → ℕ → Cell → Bool
@@ -88,7 +91,7 @@ setTest n m a x c =
 unfoldable pub cellTest : ℕ → ℕ → List ℕ → ℕ → Cell → Bool
 cellTest n m a x c =
     pick (eqb (c .writer) 0)
-    (and (eqb (c .status) 0) (coversAll noughts (c .vector)))
+    (and (eqb (c .status) 0) (zeroTest (c .vector)))
     (setTest n m a x c)
 
 unfoldable pub cellsTest : ℕ → ℕ → List ℕ → ℕ → List ℕ → Bool
@@ -119,9 +122,10 @@ deskTest n m own gap i d cs os =
 unfoldable pub desksTest : ℕ → ℕ → List ℕ → List ℕ → List Desk → List ℕ → List ℕ → Bool
 desksTest n m own gap ds cs os = all (λ i. deskTest n m own gap i (getD ds i desk0) cs os) places 0
 
--- the whole
-unfoldable pub keepsTest : ℕ → ℕ → List Desk → List ℕ → List ℕ → Bool
-keepsTest n m ds cs os =
-    and (begins n m)
-    (and (entriesTest n m (owns ds) os)
-    (desksTest n m (owns ds) (gaps (owns ds) os) ds cs os))
+-- the whole, where own are the own counts
+unfoldable pub ownTest : ℕ → ℕ → List ℕ → List Desk → List ℕ → List ℕ → Bool
+ownTest n m own ds cs os =
+    and (begins n m) (and (entriesTest n m own os) (desksTest n m own (gaps own os) ds cs os))
+
+abbrev pub keepsTest : ℕ → ℕ → List Desk → List ℕ → List ℕ → Bool
+keepsTest n m ds cs os = ownTest n m (owns ds) ds cs os

@@ -188,8 +188,7 @@ module _ (n m : ℕ) (ds : List Desk) (cs os : List ℕ) (sh : DesksShape ds) (f
   unfolding appliedM clockM
   desk-good zero a b = absurd (omega arith)
   desk-good (suc i) a b =
-      let k = counts-of i (omega (arith, hn .1)) in
-      (
+      let k = counts-of i (omega (arith, hn .1)) in (
         omega (arith, fit (suc i), own-is ds sh (suc i)),
         (
           k .same,

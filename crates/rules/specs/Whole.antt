@@ -9,7 +9,7 @@ use Rattle.clock.specs.Vectors.{places}
 use Rattle.table.specs.declared.Desk.{Desk}
 use Rattle.table.specs.Shape.{DesksShape}
 use Rattle.table.specs.Sound.{Sound}
-use Rattle.rules.specs.Test.{owns, gapAt, gaps, keepsTest}
+use Rattle.rules.specs.Test.{owns, gapAt, gaps, ownTest, keepsTest}
 use Rattle.rules.specs.Parts.{says-begins, says-entries, says-desks}
 use Rattle.rules.specs.To.{Fit, to-sound}
 use Rattle.rules.specs.From.{entries-from, desks-from}
@@ -19,7 +19,7 @@ unfolding gaps
 length-gaps own os = length-tab (gapAt own os) places
 
 pub keeps-says : (n m : ℕ) (ds : List Desk) (cs os : List ℕ) → DesksShape ds → Fit ds → Says (keepsTest n m ds cs os) (Sound n m ds cs os)
-unfolding keepsTest
+unfolding ownTest
 keeps-says n m ds cs os sh fit =
     says-as (keepsTest n m ds cs os)
     (says-and _ _ (says-begins n m)
