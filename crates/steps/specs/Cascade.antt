@@ -7,22 +7,22 @@ use mathlib.Core.Option.{Option, none, some}
 use native.Mathlib.Omega.{arith}
 use native.Mathlib.Numerals.{add-one}
 use borrow.Author.Tests.{lt-ltb, le-ltb, ne-eqb}
-use lib.ListN.{length, getD, set, length-set, length-append}
+use lib.ListN.{length, getD, set, length-set}
 use lib.Dec.{ltb, eqb}
 use lib.Seq.{sets}
 use Rattle.laws.specs.Loop.{pick, cases, scan, scan-same}
 use Rattle.laws.specs.Tab.{length-tab}
 use Rattle.laws.specs.Stores.{sets-append}
-use Rattle.laws.specs.Update.{upd, upd2, upd-same, upd-other, upd-is, upd2-is, same-or}
+use Rattle.laws.specs.Update.{upd, upd2, upd-same, upd-other, upd2-is, same-or}
 use Rattle.clock.specs.Vectors.{places, place, place-at, raised, place-raised}
 use Rattle.clock.specs.Readiness.{readyAt, ready-narrow}
 use Rattle.machine.specs.Table as machine
 use Rattle.machine.specs.Table.{Vec, State, most-open, done, held, Name, name, written}
 use Rattle.machine.specs.Answer.{nameValues}
 use Rattle.machine.specs.Steps.{ready, everywhere, stillOpen, mark, apply, dueOpen, due, firstDue, Settled, applyNext, settleBy, settle}
-use Rattle.machine.specs.Rules.{In, Flat, Quiet, Rules}
+use Rattle.machine.specs.Rules.{In, Flat, Rules}
 use Rattle.machine.specs.Proofs.Apply.{to-be-open, apply-written}
-use Rattle.machine.specs.Proofs.Kept.{Midway, ReadyAt, ready-next, apply-midway, left, apply-left, left-few, none-due, settle-rules}
+use Rattle.machine.specs.Proofs.Kept.{Midway, ReadyAt, ready-next, apply-midway, left, apply-left, left-few, settle-rules}
 use Rattle.answer.specs.Meaning.{namesOf, nameAt}
 use Rattle.answer.specs.Names.{names-none, names-more}
 use Rattle.table.specs.declared.Cell.{Cell}
@@ -30,8 +30,8 @@ use Rattle.table.specs.declared.Open.{Open}
 use Rattle.table.specs.declared.Found.{Found}
 use Rattle.table.specs.declared.Found.the-variants.{At, Nothing}
 use Rattle.table.specs.Value.{desk-cells, all-cells, cell-width, entries, open-width, cellAt, putCell, cellAt-put, cellAt-other, length-putCell, FullCell, openAt, putMark, freeEntry, full-openAt, length-putMark, length-freeEntry}
-use Rattle.table.specs.Names.{namedAt, named-is, FoundIn}
-use Rattle.table.specs.Model.{cellM, openM, slot, cellsM, opensM, cell-put}
+use Rattle.table.specs.Names.{namedAt, named-is}
+use Rattle.table.specs.Model.{openM, slot, cellsM, opensM, cell-put}
 use Rattle.table.specs.Opens.{Unique, opens-at, opens-mark, unique-mark, openM-mark, opens-mark-free, unique-mark-free}
 use Rattle.table.specs.Sound.{AllZero}
 

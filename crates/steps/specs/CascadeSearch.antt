@@ -1,6 +1,8 @@
 -- What the cascade's search yields.
-use Prim.Native.Nat.{ℕ, _≤_}
-use mathlib.Core.Path.{_≡_}
+use Prim.Native.Nat.{ℕ, _+_, _-_, _≤_}
+use mathlib.Core.Path.{_≡_, ap}
+use mathlib.Core.Bool.{Bool}
+use native.Mathlib.Omega.{arith}
 use mathlib.Core.List.{List}
 use mathlib.Core.Option.{none, some}
 use Rattle.laws.specs.Loop.{scan}
@@ -12,6 +14,10 @@ use Rattle.steps.specs.Cascade.{dueIn, DueAt}
 abbrev pub Yields : (n i : ℕ) (a own os : List ℕ) → Due → Type 0
 Yields n i a own os (At u e) = (1 ≤ u) × (u ≤ n) × (scan (dueIn a own os i) some none n 1 ≡ some u) × DueAt a own os i u e
 Yields n i a own os Nothing = scan (dueIn a own os i) some none n 1 ≡ none
+
+-- the search begins at writer 1
+pub scan-whole : (p : ℕ → Bool) (n : ℕ) → scan p some none (n + 1 - 1) 1 ≡ scan p some none n 1
+scan-whole p n = ap (λ (x : ℕ). scan p some none x 1) (omega arith)
 
 module _ (n i : ℕ) (a own os : List ℕ) (r : Due) (y : Yields n i a own os r) where
   pub yields-at : {u e : ℕ} → r ≡ At u e → Yields n i a own os (At u e)

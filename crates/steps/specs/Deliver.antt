@@ -1,26 +1,26 @@
 -- Deliver: the refusals in their order, and the step as the machine's.
-use Prim.Native.Nat.{ℕ, suc, _-_, _*_, _<_, _≤_}
+use Prim.Native.Nat.{ℕ, _-_, _<_, _≤_}
 use mathlib.Core.Path.{_≡_, refl, sym, ap, subst, _∙_}
 use mathlib.Core.List.{List}
-use mathlib.Core.Bool.{Bool, true, false, not, _&&_}
+use mathlib.Core.Bool.{true, false}
 use mathlib.Core.Option.{Option, none, some}
 use native.Mathlib.Omega.{arith}
-use borrow.Author.Tests.{eqb-false, eq-eqb, ne-eqb}
-use lib.ListN.{length, getD, set}
+use borrow.Author.Tests.{eqb-false, eq-eqb, ne-eqb, leb-true}
+use lib.ListN.{length}
 use lib.Seq.{sets, set-getD}
-use lib.Dec.{eqb}
+use lib.Dec.{eqb, leb}
 use Rattle.laws.specs.Loop.{pick, cases}
-use Rattle.laws.specs.Says.{apart}
-use Rattle.laws.specs.Update.{upd, upd-is}
-use Rattle.clock.specs.Vectors.{places, place, place-at}
+use Rattle.laws.specs.Update.{upd-is}
+use Rattle.clock.specs.Vectors.{places, place}
 use Rattle.machine.specs.Table as machine
-use Rattle.machine.specs.Table.{State, away, written}
+use Rattle.machine.specs.Table.{State, away, done, written, placeOf}
 use Rattle.machine.specs.Answer as machineAnswer
 use Rattle.machine.specs.Answer.{received, refused}
 use Rattle.machine.specs.Steps.{Out, refuse, within, failing, deliverOpen, deliverBy, Deliver, step}
-use Rattle.machine.specs.Rules.{In, Quiet, Rules}
+use Rattle.machine.specs.Rules.{In, Quiet}
 use Rattle.machine.specs.Proofs.Ready.{says-within}
 use Rattle.machine.specs.Refusals.{Accepted}
+use Rattle.machine.specs.Proofs.Kept.{done-counted}
 use Rattle.machine.specs.Proofs.Refusals.{not-refused}
 use Rattle.answer.specs.declared.Refusal.{Refusal}
 use Rattle.answer.specs.declared.Refusal.the-variants.{NoDesk, OwnWrite, NoWrite, Received}
@@ -29,14 +29,13 @@ use Rattle.answer.specs.Meaning.{refusalOf, answerOf}
 use Rattle.table.specs.declared.Desk.{Desk}
 use Rattle.table.specs.Value.{desk0, entries, openAt}
 use Rattle.table.specs.Names.{namedAt}
-use Rattle.table.specs.Model.{appliedVec, clockVec, appliedM, openM, opensM, model, applied-at, applied-put, clock-keep}
+use Rattle.table.specs.Model.{appliedVec, appliedM, openM, opensM, model, applied-at, applied-put, clock-keep}
 use Rattle.table.specs.Opens.{opens-at}
-use Rattle.table.specs.Sound.{Sound}
 use Rattle.steps.specs.declared.Turn.{Turn}
 use Rattle.steps.specs.declared.deliver.Test.{Test}
 use Rattle.steps.specs.declared.deliver.Test.the-variants.{Passed, Failed}
 use Rattle.steps.specs.Stepped.{Placed, putDesk, namesBeside, Stepped}
-use Rattle.steps.specs.Cascade.{midst, Running}
+use Rattle.steps.specs.Cascade.{midst}
 use Rattle.steps.specs.DeliverReceive.{Arrival, Receives, effect}
 
 -- the part of a table that a delivery is handed
@@ -53,13 +52,15 @@ abbrev pub Delivers : (n : ℕ) (d : Desk) (own cs os names : List ℕ) (i u k :
 Delivers n d own cs os names i u k r cs′ os′ names′ =
     (m : ℕ) (ds : List Desk) → Placed n m ds cs os own i d → Meets n m ds d cs os names i u k r cs′ os′ names′
 
--- the refusals that no entry is looked at for: 1 (either desk), 6, 7
-abbrev pub testsOf : ℕ → List ℕ → ℕ → ℕ → ℕ → Test
-testsOf n own i u k =
+-- the refusals that no entry is looked at for: 1 (either desk), 6, 7, and 8 of what the desk has applied
+unfoldable pub testsOf : ℕ → List ℕ → List ℕ → ℕ → ℕ → ℕ → Test
+testsOf n a own i u k =
     pick (within n i)
     (pick (within n u)
     (pick (eqb i u) (Failed OwnWrite)
-    (pick (within (place own u) k) Passed (Failed NoWrite)))
+    (pick (within (place own u) k)
+    (pick (leb k (place a u)) (Failed Received) Passed)
+    (Failed NoWrite)))
     (Failed NoDesk))
     (Failed NoDesk)
 
@@ -75,15 +76,30 @@ pub record Passes (n : ℕ) (own : List ℕ) (i u k : ℕ) : Type 0 where
 no-fail : {R : Type 0} {r : Refusal} → Failed r ≡ Passed → R
 no-fail e = absurd (let z : _≡_ {A = ℕ} 0 1 = cc in omega arith)
 
-pub passes : (n : ℕ) (own : List ℕ) (i u k : ℕ) → testsOf n own i u k ≡ Passed → Passes n own i u k
-passes n own i u k e =
-    cases (within n i) (λ a. cases (within n u) (λ b. cases (eqb i u)
-    (λ c. no-fail (rw (a, b, c) at e))
-    (λ c. cases (within (place own u) k)
-    (λ t. record { desk = says-within n i .to a; writer = says-within n u .to b; other = eqb-false i u c; number = says-within (place own u) k .to t })
-    (λ t. no-fail (rw (a, b, c, t) at e))))
-    (λ b. no-fail (rw (a, b) at e)))
-    (λ a. no-fail (rw a at e))
+-- by the test that fails, or all pass
+test-cases : {R : Type 0} (n : ℕ) (a own : List ℕ) (i u k : ℕ) (r : Test) → testsOf n a own i u k ≡ r
+    → (within n i ≡ false → Failed NoDesk ≡ r → R)
+    → (within n i ≡ true → within n u ≡ false → Failed NoDesk ≡ r → R)
+    → (within n i ≡ true → within n u ≡ true → eqb i u ≡ true → Failed OwnWrite ≡ r → R)
+    → (within n i ≡ true → within n u ≡ true → eqb i u ≡ false → within (place own u) k ≡ false → Failed NoWrite ≡ r → R)
+    → (Passes n own i u k → leb k (place a u) ≡ true → Failed Received ≡ r → R)
+    → (Passes n own i u k → Passed ≡ r → R) → R
+unfolding testsOf
+test-cases n a own i u k r e f1 f2 f3 f4 f5 g =
+    cases (within n i) (λ p. cases (within n u) (λ q. cases (eqb i u)
+    (λ t. f3 p q t (rw (p, q, t) at e))
+    (λ t. cases (within (place own u) k)
+    (λ v. let h : Passes n own i u k = record { desk = says-within n i .to p; writer = says-within n u .to q; other = eqb-false i u t; number = says-within (place own u) k .to v } in
+    cases (leb k (place a u))
+    (λ w. f5 h w (rw (p, q, t, v, w) at e))
+    (λ w. g h (rw (p, q, t, v, w) at e)))
+    (λ v. f4 p q t v (rw (p, q, t, v) at e))))
+    (λ q. f2 p q (rw (p, q) at e)))
+    (λ p. f1 p (rw p at e))
+
+pub passes : (n : ℕ) (a own : List ℕ) (i u k : ℕ) (r : Test) → r ≡ testsOf n a own i u k → r ≡ Passed → Passes n own i u k
+passes n a own i u k r e f =
+    test-cases n a own i u k Passed (sym e ∙ f) (λ _. no-fail) (λ _ _. no-fail) (λ _ _ _. no-fail) (λ _ _ _ _. no-fail) (λ _ _. no-fail) (λ h _. h)
 
 module _ {n m : ℕ} {ds : List Desk} {cs os own : List ℕ} {i : ℕ} {d : Desk} (p : Placed n m ds cs os own i d) where
   abbrev s : State
@@ -97,21 +113,6 @@ module _ {n m : ℕ} {ds : List Desk} {cs os own : List ℕ} {i : ℕ} {d : Desk
 
   pub small-number : {u k : ℕ} → Passes n own i u k → k < 65536
   small-number {u} h = omega (arith, h .number .1, own-is u (h .writer), p .sound .rules .frame .ranges .written u)
-
-  -- the tests fail as the machine's do
-  pub failed : (u k : ℕ) (r : Refusal) → testsOf n own i u k ≡ Failed r → step s (Deliver i u k) ≡ refuse (refusalOf r) s
-  unfolding step
-  failed u k r e =
-      cases (within n i) (λ a. cases (within n u) (λ b. cases (eqb i u)
-      (λ c. rw (a, b, c, ← said (rw (a, b, c) at e)))
-      (λ c. cases (within (place own u) k)
-      (λ t. no-fail (sym (rw (a, b, c, t) at e)))
-      (λ t. rw (a, b, c, ← own-is u (says-within n u .to b), t, ← said (rw (a, b, c, t) at e)))))
-      (λ b. rw (a, b, ← said (rw (a, b) at e))))
-      (λ a. rw (a, ← said (rw a at e)))
-    where
-      said : {x y : Refusal} → Failed x ≡ Failed y → x ≡ y
-      said q = cc
 
   pub passed : (u k : ℕ) → Passes n own i u k → step s (Deliver i u k) ≡ deliverOpen s i u k (opensM os u k)
   unfolding step
@@ -152,7 +153,7 @@ module _ {n m : ℕ} {ds : List Desk} {cs os own : List ℕ} {i : ℕ} {d : Desk
     names-are = rw e;
   }
 
-  -- the acting desk, and the model with another in its place --
+  -- the acting desk --
 
   module _ (hi : In n i) where
     in-list : In (length ds) i
@@ -160,6 +161,18 @@ module _ {n m : ℕ} {ds : List Desk} {cs os own : List ℕ} {i : ℕ} {d : Desk
 
     counts-here : appliedM ds i ≡ place (d .applied)
     counts-here = applied-at ds i in-list ∙ ap appliedVec (p .desk hi)
+
+    -- what the desk has applied it has received
+    pub old-open : {u k : ℕ} → Passes n own i u k → k ≤ place (d .applied) u → deliverOpen s i u k (opensM os u k) ≡ refuse received s
+    old-open {u} {k} h l =
+        go (opensM os u k)
+        (done-counted (p .sound .rules .frame) i u k hi (h .writer) (rw (own-is u (h .writer)) at (h .number)) .1 (omega (arith, ap (λ (v : machine.Vec). v u) counts-here)))
+      where
+        go : (o : Option machine.Open) → placeOf o i ≡ done → deliverOpen s i u k o ≡ refuse received s
+        go none e = refl
+        go (some w) e = rw e
+
+    -- the model with another desk in its place --
 
     pub midst-is : midst s n i (d .applied) cs os ≡ s
     midst-is = λ j. record {
@@ -224,3 +237,18 @@ module _ {n m : ℕ} {ds : List Desk} {cs os own : List ℕ} {i : ℕ} {d : Desk
         taken : (y : Option ℕ) → Accepted (deliverBy (midst s n i (d .applied) cs os) i u k (openM (openAt os e)) y .answer)
         taken none = not-refused _ refl
         taken (some t) = not-refused _ refl
+
+  -- the tests fail as the machine's do
+  pub failed : (u k : ℕ) (t : Test) (r : Refusal) → t ≡ testsOf n (d .applied) own i u k → t ≡ Failed r → step s (Deliver i u k) ≡ refuse (refusalOf r) s
+  unfolding step
+  failed u k t r e f =
+      test-cases n (d .applied) own i u k (Failed r) (sym e ∙ f)
+      (λ a q. rw (a, ← said q))
+      (λ a b q. rw (a, b, ← said q))
+      (λ a b c q. rw (a, b, c, ← said q))
+      (λ a b c t q. rw (a, b, c, ← own-is u (says-within n u .to b), t, ← said q))
+      (λ h l q. passed u k h ∙ old-open (h .desk) h (leb-true k (place (d .applied) u) l) ∙ rw (← said q))
+      (λ h q. no-fail (sym q))
+    where
+      said : {x y : Refusal} → Failed x ≡ Failed y → x ≡ y
+      said q = cc

@@ -2,19 +2,17 @@
 use Prim.Native.Nat.{ℕ, suc, _-_, _<_}
 use mathlib.Core.Path.{_≡_, refl, sym, ap, subst, _∙_}
 use mathlib.Core.List.{List}
-use mathlib.Core.Bool.{true, false}
-use mathlib.Core.Option.{Option, none, some}
-use native.Mathlib.Omega.{arith}
-use lib.ListN.{length}
+use mathlib.Core.Bool.{true}
+use mathlib.Core.Option.{Option, some}
 use lib.Seq.{sets}
 use Rattle.laws.specs.Update.{upd-same, same-or}
 use Rattle.clock.specs.Vectors.{places, place}
 use Rattle.clock.specs.Readiness.{readyAt, failing-narrow}
 use Rattle.machine.specs.Table as machine
-use Rattle.machine.specs.Table.{Vec, State, most-open, away, held}
+use Rattle.machine.specs.Table.{State, most-open, away, held}
 use Rattle.machine.specs.Answer as machineAnswer
 use Rattle.machine.specs.Answer.{holds, applies}
-use Rattle.machine.specs.Steps.{Out, Settled, failing, ready, mark, hold, apply, settle, deliverBy, withOpens}
+use Rattle.machine.specs.Steps.{Out, Settled, failing, ready, hold, deliverBy, withOpens}
 use Rattle.machine.specs.Rules.{In, Quiet, Rules}
 use Rattle.machine.specs.Proofs.Ready.{is-none}
 use Rattle.machine.specs.Proofs.Kept.{ReadyAt, ready-next, hold-rules}
@@ -29,7 +27,7 @@ use Rattle.table.specs.Opens.{Unique, opens-at, opens-mark, unique-mark}
 use Rattle.table.specs.Sound.{AllZero}
 use Rattle.steps.specs.declared.Turn.{Turn}
 use Rattle.steps.specs.Stepped.{namesBeside}
-use Rattle.steps.specs.Cascade.{midst, Running, Next, Cascades, Ended, from, ended-rules, in-places, small-n, narrow, flat, here}
+use Rattle.steps.specs.Cascade.{midst, Running, Next, Cascades, from, ended-rules, in-places, small-n, narrow, flat, here}
 
 -- entry e holds u.k, which desk i has not received; nothing held there is ready
 pub record Arrival (b : State) (n i u k e : ℕ) (a own cs os : List ℕ) : Type 0 where

@@ -1,14 +1,13 @@
 // Deliver: a write is held or applied, and then every held write that becomes ready.
 ghost use mathlib.Core.Path.{_≡_};
-ghost use Prim.Native.Nat.{ℕ, _+_, _-_, _*_, _<_, _≤_};
-ghost use lib.ListN.{getD, set, length};
-ghost use Rattle.clock.specs.Vectors.{places};
-ghost use mathlib.Core.Bool.{true, false};
+ghost use mathlib.Core.Bool.{false};
 ghost use mathlib.Core.Option.{some};
-ghost use Rattle.clock.specs.Vectors.{place};
+ghost use Prim.Native.Nat.{_+_, _<_, _≤_};
+ghost use lib.ListN.{set, length};
+ghost use Rattle.clock.specs.Vectors.{places, place};
 ghost use Rattle.clock.specs.Readiness.{readyAt};
 ghost use Rattle.machine.specs.Rules.{In};
-ghost use Rattle.machine.specs.Steps.{within, failing};
+ghost use Rattle.machine.specs.Steps.{failing};
 ghost use Rattle.table.specs.Value.{desk-cells, entries, openAt};
 ghost use Rattle.table.specs.Opens.{Unique};
 ghost use Rattle.steps.specs.Cascade.{AppliedAt, DueSays, NamePut, Starts, Cascades};
@@ -42,6 +41,7 @@ pub enum Test {
     Failed(Refusal),
 }
 
+// The counts after a cascade, and how many names it listed.
 pub struct Applied {
     pub counts: [u16; PLACES],
     pub len: usize,
@@ -235,16 +235,6 @@ fn receive(
     }
 }
 
-// Is i within 1 to n?
-fn inside(n: usize, i: usize) -> bool
-    ensures { λ r. ⌜ r ≡ within n i ⌝ }
-{
-    if i == 0 {
-        return false;
-    }
-    i <= n
-}
-
 fn turned_away(d: Desk, r: Refusal) -> Turn
     ensures { λ t. ⌜ t ≡ turnedAway d r ⌝ }
 {
@@ -254,23 +244,28 @@ fn turned_away(d: Desk, r: Refusal) -> Turn
     }
 }
 
-fn tests(n: usize, own: [u16; PLACES], i: usize, u: usize, k: usize) -> Test
+// Refusals 1, 6, 7, and 8 of a write that is applied at the desk: no entry is looked at.
+fn tests(n: usize, d: Desk, own: [u16; PLACES], i: usize, u: usize, k: usize) -> Test
     requires { ⌜ n ≤ places ⌝ }
-    ensures { λ r. ⌜ r ≡ testsOf n own i u k ⌝ }
+    ensures { λ r. ⌜ r ≡ testsOf n (d .applied) own i u k ⌝ }
 {
-    if !inside(n, i) {
+    let a = d.applied;
+    if !table::inside(n, i) {
         return Test::Failed(Refusal::NoDesk);
     }
-    if !inside(n, u) {
+    if !table::inside(n, u) {
         return Test::Failed(Refusal::NoDesk);
     }
     if i == u {
         return Test::Failed(Refusal::OwnWrite);
     }
-    if inside(wide(own[u - 1]), k) {
-        return Test::Passed;
+    if !table::inside(wide(own[u - 1]), k) {
+        return Test::Failed(Refusal::NoWrite);
     }
-    Test::Failed(Refusal::NoWrite)
+    if k <= wide(a[u - 1]) {
+        return Test::Failed(Refusal::Received);
+    }
+    Test::Passed
 }
 
 // Write k of desk u delivered to desk i of n: d is that desk, own each desk's own count; the names of an answer stand in names.
@@ -288,7 +283,7 @@ pub fn deliver_at(
     requires { ⌜ Part n d own (now cells) (now opens) i ⌝ }
     ensures { λ r. ⌜ Delivers n d own (now (cells .entry)) (now (opens .entry)) (now (names .entry)) i u k r (now (cells .exit)) (now (opens .exit)) (now (names .exit)) ⌝ }
 {
-    let test = tests(n, own, i, u, k);
+    let test = tests(n, d, own, i, u, k);
     if let Test::Failed(r) = test {
         return turned_away(d, r);
     }

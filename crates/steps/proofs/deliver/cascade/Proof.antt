@@ -1,25 +1,22 @@
-use Prim.Native.Nat.{ℕ, suc, _+_, _-_, _<_, _≤_}
-use mathlib.Core.Path.{_≡_, refl, sym, ap, subst, _∙_}
-use mathlib.Core.List.{List}
+use Prim.Native.Nat.{_+_, _-_, _≤_}
+use mathlib.Core.Path.{_≡_, sym, _∙_}
 use mathlib.Core.Logic.{inl, inr}
-use mathlib.Core.Bool.{true}
 use mathlib.Core.Option.{none, some}
 use native.Mathlib.Omega.{arith}
 use Rattle.laws.specs.Loop.{scan, scan-end, scan-here, scan-next}
 use Rattle.machine.specs.Table.{State, most-open}
-use Rattle.clock.specs.Vectors.{places}
 use Rattle.table.specs.Value.{openAt}
 use Rattle.table.specs.Model.{openM}
 use lib.ListN.{getD, set}
 use Rattle.steps.specs.Cascade.{midst, from, dueIn, due-at, due-not, Running, Next, Gone, Going, Safe, going-starts, going-safe, going-turn, gone-ends, gone-on}
-use Rattle.steps.specs.CascadeSearch.{Yields, yields-at, yields-none}
+use Rattle.steps.specs.CascadeSearch.{scan-whole, Yields, yields-at, yields-none}
 use borrow.Author.Needs.{needs}
 use Rattle.steps.proofs.deliver.cascade.Statement.{statement}
 use Rattle.steps.proofs.deliver.cascade.Tie as tie
 
 abbrev Inv-search : tie.InvT-search
 Inv-search n own cells opens names i u e a w entry len k t₀ t =
-    (1 ≤ t) × ((t ≤ n + 1) × (scan (dueIn a own opens i) some none (n + 1 - t) t ≡ scan (dueIn a own opens i) some none n 1))
+    (scan (dueIn a own opens i) some none (n + 1 - t) t ≡ scan (dueIn a own opens i) some none n 1) × ((1 ≤ t) × (t ≤ n + 1))
 
 abbrev μ-search : tie.MeasureT-search
 μ-search n own cells opens names i u e a w entry len k t₀ t = n + 1 - t
@@ -87,17 +84,14 @@ add-len : tie.Need-add-len Inv-search μ-search Inv-apply μ-apply
 add-len c = omega (arith, safe (c .before .before .before .before .before .before) .room)
 
 search-holds : tie.Need-search-holds Inv-search μ-search Inv-apply μ-apply
-search-holds c =
-    let n = c .before .before .before .before .before .before .before .args .n in
-    let z : n + 1 - 1 ≡ n = omega arith in
-    (search needs, (search needs, rw z))
+search-holds c = (scan-whole _ _, (search needs, search needs))
 
 due-of-requires : tie.Need-due-of-requires Inv-search μ-search Inv-apply μ-apply
 due-of-requires c κs =
     let s = c .before .before in
     let p = s .before .before .before .before .before .before .before .before .pre in
     let h = safe (s .before .before .before .before .before .before .before) in
-    (h .desk, ((s .search .inv .0, omega (arith, c .before .if1 .left, h .count)), gone (s .before) (p .0) (p .1) (p .2) .now .unique))
+    (h .desk, ((s .search .inv .1 .0, omega (arith, c .before .if1 .left, h .count)), gone (s .before) (p .0) (p .1) (p .2) .now .unique))
 
 enum-known-x : tie.Need-enum-known-x Inv-search μ-search Inv-apply μ-apply
 enum-known-x c = search needs
@@ -118,12 +112,10 @@ search-again c =
     let d = c .before .before in
     let s = d .before .before .before in
     let L = s .search in
-    let n = s .before .before .before .before .before .before .before .before .args .n in (
-      search needs,
-      (
-        omega (arith, d .before .before .if1 .left),
-        sym (scan-next _ some none (n + 1) (L .t) (omega (arith, d .before .before .if1 .left)) (due-not _ _ _ _ (L .t) (d .due-of .result) (d .due-of .ensures) (c .enum-told .given .1))) ∙ L .inv .1 .1,
-      ),
+    let n = s .before .before .before .before .before .before .before .before .args .n in
+    let h = d .before .before .if1 .left in (
+      sym (scan-next _ some none (n + 1) (L .t) (omega arith) (due-not _ _ _ _ (L .t) (d .due-of .result) (d .due-of .ensures) (c .enum-told .given .1))) ∙ L .inv .0,
+      (search needs, omega arith),
     )
 
 enum-known-found : tie.Need-enum-known-found Inv-search μ-search Inv-apply μ-apply
@@ -146,9 +138,9 @@ yields c =
     let s = c .before .search in
     let n = c .before .before .before .before .before .before .before .before .before .args .n in
     elim (c .if1 .came) [
-      | inl w ↦ rw (w .1) (sym (s .inv .1 .1) ∙ scan-end _ some none (n + 1) (s .t) (omega (arith, w .0 .taken)))
+      | inl w ↦ rw (w .1) (sym (s .inv .0) ∙ scan-end _ some none (n + 1) (s .t) (omega (arith, w .0 .taken)))
       | inr w ↦ (let d = due-at _ _ _ _ _ (w .2 .result) _ (w .2 .ensures) (w .4 .given .1) in
-          rw (w .6) (s .inv .0, w .0 .left, sym (s .inv .1 .1) ∙ scan-here _ some none (n + 1) (s .t) (omega (arith, w .0 .left)) (d .is-due), d))
+          rw (w .6) (s .inv .1 .0, w .0 .left, sym (s .inv .0) ∙ scan-here _ some none (n + 1) (s .t) (omega (arith, w .0 .left)) (d .is-due), d))
     ]
 
 apply-again : tie.Need-apply-again Inv-search μ-search Inv-apply μ-apply

@@ -1,4 +1,4 @@
-use Prim.Native.Nat.{ℕ, _≤_, _<_}
+use Prim.Native.Nat.{ℕ, _<_}
 use mathlib.Core.Path.{_≡_, sym, subst, _∙_}
 use mathlib.Core.Bool.{true}
 use native.Mathlib.Omega.{arith}
@@ -26,13 +26,16 @@ returns c m ds p =
     let q = c .before .before in
     let t = q .before .before in
     let g = t .before .args in
-    rw (c .turned-away .ensures) (meets-refused p (g .u) (g .k) _ (g .names .now) (failed p (g .u) (g .k) _ (sym (t .tests .ensures) ∙ q .test .given .1)))
+    rw (c .turned-away .ensures) (meets-refused p (g .u) (g .k) _ (g .names .now) (failed p (g .u) (g .k) (t .tests .result) _ (t .tests .ensures) (q .test .given .1)))
 
 enum-told : tie.Need-enum-told
 enum-told c = search needs
 
 past : (c : tie.After-enum-told) → (let g = c .before .before .before .args in Passes (g .n) (g .own) (g .i) (g .u) (g .k))
-past c = passes _ _ _ _ _ (sym (c .before .before .tests .ensures) ∙ c .enum-told .given .1)
+past c =
+    let t = c .before .before in
+    let g = t .before .args in
+    passes (g .n) (g .d .applied) (g .own) (g .i) (g .u) (g .k) (t .tests .result) (t .tests .ensures) (c .enum-told .given .1)
 
 small-requires : tie.Need-small-requires
 small-requires c κs = small-number (c .before .before .before .before .pre .2) (past (c .before))

@@ -1,4 +1,4 @@
-use Prim.Native.Nat.{ℕ, _≤_}
+use Prim.Native.Nat.{ℕ}
 use mathlib.Core.Path.{_≡_, sym, subst, _∙_}
 use mathlib.Core.List.{List}
 use mathlib.Core.Option.{some}
