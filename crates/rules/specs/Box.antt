@@ -1,6 +1,6 @@
 -- What the arrays tell of the model: nothing stands outside them.
 use Prim.Native.Nat.{ℕ, zero, suc, _+_, _*_, _<_, _≤_}
-use mathlib.Core.Path.{_≡_, refl, sym, ap, _∙_}
+use mathlib.Core.Path.{_≡_, refl, _∙_}
 use mathlib.Core.List.{List, [], _∷_}
 use mathlib.Core.Bool.{true, false}
 use mathlib.Core.Option.{some}
@@ -8,7 +8,7 @@ use native.Mathlib.Omega.{arith}
 use borrow.Author.Tests.{ltb-true, ltb-false, lt-ltb, ne-eqb, eqb-false}
 use lib.ListN.{length, getD, List·getD-eq-default}
 use lib.Dec.{ltb, eqb}
-use Rattle.laws.specs.Loop.{pick, cases}
+use Rattle.laws.specs.Loop.{cases}
 use Rattle.laws.specs.Tab.{getD-tab, getD-tab-out}
 use Rattle.machine.specs.Table.{Vec, blank, set}
 use Rattle.machine.specs.Table as machine

@@ -1,16 +1,13 @@
 -- At most as many writes are open as there are entries: each entry has one name.
-use Prim.Native.Nat.{ℕ, zero, suc, _≤_}
-use mathlib.Core.Path.{_≡_, refl, sym, ap, _∙_}
+use Prim.Native.Nat.{ℕ, suc, _≤_}
+use mathlib.Core.Path.{_≡_, sym, _∙_}
 use mathlib.Core.List.{List, [], _∷_}
-use mathlib.Core.Option.{Option, none, some}
 use mathlib.Core.Bool.{Bool, true, false, not}
 use native.Mathlib.Omega.{arith}
 use lib.ListN.{length}
-use Rattle.laws.specs.Loop.{pick, cases}
 use Rattle.laws.specs.Sum.{sum, one, tally, sum-le, sum-same, sum-zero, sum-one-le}
 use Rattle.laws.specs.Find.{firstOf}
 use Rattle.machine.specs.Table.{most-open}
-use Rattle.machine.specs.Table as machine
 use Rattle.machine.specs.Steps.{isNone, openCount}
 use Rattle.table.specs.declared.Desk.{Desk}
 use Rattle.table.specs.declared.Open.{Open}

@@ -1,22 +1,22 @@
 -- A table value that keeps the rules passes the test.
 use Prim.Native.Nat.{ℕ, zero, suc, _+_, _*_, _<_, _≤_}
-use mathlib.Core.Path.{_≡_, refl, sym, ap, _∙_}
+use mathlib.Core.Path.{_≡_, ap, _∙_}
 use mathlib.Core.List.{List}
-use mathlib.Core.Option.{Option, none, some}
-use mathlib.Core.Bool.{Bool, true, false, not}
+use mathlib.Core.Option.{Option, some}
+use mathlib.Core.Bool.{true, false, not}
 use native.Mathlib.Omega.{arith}
-use borrow.Author.Tests.{ltb-true, ltb-false, eqb-true, ne-eqb}
-use lib.ListN.{length, getD}
+use borrow.Author.Tests.{ltb-true, ltb-false, ne-eqb}
+use lib.ListN.{getD}
 use lib.Dec.{eqb, ltb}
 use Rattle.laws.specs.Loop.{cases}
 use Rattle.laws.specs.All.{all-fails-at}
 use Rattle.laws.specs.Tab.{getD-tab, getD-tab-out}
 use Rattle.laws.specs.Update.{same-or}
 use Rattle.laws.specs.Says.{apart}
-use Rattle.machine.specs.Table.{away, held, done, State}
+use Rattle.machine.specs.Table.{held, done, State}
 use Rattle.machine.specs.Table as machine
 use Rattle.machine.specs.Steps.{isNone, everywhere, ready}
-use Rattle.machine.specs.Rules.{In, Flat, ToBeOpen, OpenWrite, SetCell}
+use Rattle.machine.specs.Rules.{Flat, ToBeOpen, OpenWrite}
 use Rattle.clock.specs.Vectors.{places, place}
 use Rattle.clock.specs.Readiness.{readyAt, ready-narrow}
 use Rattle.table.specs.declared.Desk.{Desk}
@@ -27,9 +27,9 @@ use Rattle.table.specs.Names.{number, namedAt, own-named}
 use Rattle.table.specs.Model.{appliedM, clockM, openM, opensM, model}
 use Rattle.table.specs.Opens.{lone, opens-at}
 use Rattle.table.specs.Sound.{Sound}
-use Rattle.rules.specs.Test.{owns, has, gapOf, gapAt, gaps}
+use Rattle.rules.specs.Test.{owns, has, gapAt, gaps}
 use Rattle.rules.specs.Gap.{gap-most, gap-not}
-use Rattle.rules.specs.Parts.{UsedGood, EntriesGood, CountsGood, SetGood, CellGood, MarkGood, DeskGood, DesksGood}
+use Rattle.rules.specs.Parts.{UsedGood, EntriesGood, CountsGood, CellGood, MarkGood, DesksGood}
 use Rattle.rules.specs.Box.{own-is, at-set}
 
 module _ (n m : ℕ) (ds : List Desk) (cs os : List ℕ) (sh : DesksShape ds) (so : Sound n m ds cs os) where

@@ -1,19 +1,18 @@
 -- What each part of the test says.
 use Prim.Native.Nat.{ℕ, zero, suc, _+_, _-_, _*_, _<_, _≤_}
-use mathlib.Core.Path.{_≡_, refl, sym, ap, _∙_}
+use mathlib.Core.Path.{_≡_}
 use mathlib.Core.List.{List}
-use mathlib.Core.Bool.{Bool, true, false, not}
+use mathlib.Core.Bool.{false, not}
 use native.Mathlib.Omega.{arith}
-use borrow.Author.Tests.{ltb-true, ltb-false, not-true, eqb-false}
+use borrow.Author.Tests.{ltb-true, ltb-false, not-true}
 use lib.ListN.{length, getD, List·getD-eq-default}
-use lib.Dec.{eqb, leb, ltb}
-use Rattle.laws.specs.Loop.{pick, cases}
-use Rattle.laws.specs.All.{all, all-at, all-true}
-use Rattle.laws.specs.Tab.{tab, length-tab}
-use Rattle.laws.specs.Says.{Says, and, says-leb, says-eqb, says-ltb, says-and, says-both, says-if, says-not, says-all, says-as}
+use lib.Dec.{ltb}
+use Rattle.laws.specs.Loop.{cases}
+use Rattle.laws.specs.All.{all-at, all-true}
+use Rattle.laws.specs.Says.{Says, says-leb, says-eqb, says-ltb, says-and, says-both, says-if, says-not, says-all, says-as}
 use Rattle.laws.specs.Tests.{says-yes, says-false, says-unless}
 use Rattle.machine.specs.Table.{most-desks, most-cells, most-status, away, held, done}
-use Rattle.machine.specs.Steps.{begins, within, everywhere}
+use Rattle.machine.specs.Steps.{begins, everywhere}
 use Rattle.machine.specs.Rules.{In, Below}
 use Rattle.machine.specs.Within.{says-within}
 use Rattle.clock.specs.Vectors.{places, place}
@@ -27,7 +26,7 @@ use Rattle.table.specs.Names.{number, namedAt}
 use Rattle.table.specs.Model.{openM}
 use Rattle.table.specs.Sound.{AllZero}
 use Rattle.table.specs.Begin.{zeros-at}
-use Rattle.rules.specs.Test.{noughts, owns, gaps, gapAt, lastOf, rangesTest, usedTest, entryTest, entriesTest, countsTest, setTest, cellTest, cellsTest, waitTest, liveTest, markTest, marksTest, deskTest, desksTest}
+use Rattle.rules.specs.Test.{noughts, lastOf, rangesTest, usedTest, entryTest, entriesTest, countsTest, setTest, cellTest, cellsTest, waitTest, liveTest, markTest, marksTest, deskTest, desksTest}
 
 -- a vector at most another --
 

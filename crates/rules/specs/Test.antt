@@ -2,7 +2,7 @@
 -- its marks. Desks, places and cells count from 0 here, writers and write numbers from 1.
 use Prim.Native.Nat.{ℕ, zero, suc, _+_, _-_, _*_}
 use mathlib.Core.List.{List}
-use mathlib.Core.Bool.{Bool, true, false, not}
+use mathlib.Core.Bool.{Bool, true, not}
 use lib.ListN.{getD, replicate}
 use lib.Dec.{eqb, leb, ltb}
 use Rattle.laws.specs.Loop.{pick}

@@ -1,23 +1,21 @@
 -- A table value that passes the test keeps the rules.
-use Prim.Native.Nat.{ℕ, zero, suc, _+_, _-_, _*_, _<_, _≤_, _/_, _%_}
+use Prim.Native.Nat.{ℕ, zero, suc, _+_, _*_, _<_, _≤_, _/_, _%_}
 use mathlib.Core.Path.{_≡_, refl, sym, ap, _∙_}
 use mathlib.Core.List.{List}
 use mathlib.Core.Option.{Option, none, some}
 use mathlib.Core.Bool.{Bool, true, false, not}
 use native.Mathlib.Omega.{arith}
-use borrow.Author.Tests.{ltb-true, ltb-false, leb-true, leb-false, eqb-true, eqb-false, eq-eqb, ne-eqb}
-use lib.ListN.{length, getD}
+use borrow.Author.Tests.{ltb-true, ltb-false, leb-true, leb-false, eqb-true, eqb-false}
+use lib.ListN.{getD}
 use lib.Dec.{eqb, leb, ltb}
-use Rattle.laws.specs.Loop.{pick, cases}
-use Rattle.laws.specs.All.{all-fails-at}
-use Rattle.laws.specs.Tab.{getD-tab, getD-tab-out, length-tab}
-use Rattle.laws.specs.Update.{same-or}
-use Rattle.laws.specs.Says.{Says, says-and, says-as, all-not, apart, clash}
-use Rattle.machine.specs.Table.{most-desks, most-cells, most-writes, Vec, Cell, blank, set, held, done, State, written}
+use Rattle.laws.specs.Loop.{cases}
+use Rattle.laws.specs.Tab.{getD-tab}
+use Rattle.laws.specs.Says.{all-not, apart}
+use Rattle.machine.specs.Table.{most-desks, most-cells, most-writes, Vec, Cell, blank, set, done, State, written}
 use Rattle.machine.specs.Table as machine
 use Rattle.machine.specs.Steps.{isNone, everywhere, ready}
-use Rattle.machine.specs.Rules.{In, Flat, Below, Lacks, ToBeOpen, OpenWrite, Rules}
-use Rattle.machine.specs.Keeps.{BelowAt, CellAt, MarkAt, WriteAt, OpenAt, Kept, Shaped}
+use Rattle.machine.specs.Rules.{In, Flat, Lacks}
+use Rattle.machine.specs.Keeps.{CellAt, MarkAt, WriteAt, OpenAt, Kept, Shaped}
 use Rattle.machine.specs.Tells.{to-rules}
 use Rattle.clock.specs.Vectors.{places, place}
 use Rattle.clock.specs.Readiness.{readyAt, ready-narrow}
@@ -25,15 +23,15 @@ use Rattle.table.specs.declared.Desk.{Desk}
 use Rattle.table.specs.declared.Open.{Open}
 use Rattle.table.specs.Value.{desk0, desk-cells, all-cells, entries, cellAt, full-cellAt, openAt, full-openAt, isFree}
 use Rattle.table.specs.Shape.{DesksShape}
-use Rattle.table.specs.Names.{number, namedAt, own-named, named-is}
-use Rattle.table.specs.Model.{appliedM, clockM, openM, cellsM, opensM, model}
-use Rattle.table.specs.Opens.{Unique, opens-at, opens-some}
+use Rattle.table.specs.Names.{number, namedAt, named-is}
+use Rattle.table.specs.Model.{appliedM, clockM, openM, model}
+use Rattle.table.specs.Opens.{Unique}
 use Rattle.table.specs.Sound.{AllZero, Sound}
-use Rattle.rules.specs.Test.{owns, has, gapOf, gapAt, gaps, keepsTest}
+use Rattle.rules.specs.Test.{owns, has, gapAt, gaps}
 use Rattle.rules.specs.Few.{few}
-use Rattle.rules.specs.Gap.{gap-most, gap-above, gap-not}
-use Rattle.rules.specs.Parts.{says-begins, UsedGood, EntriesGood, says-entries, CountsGood, SetGood, CellGood, MarkGood, DeskGood, DesksGood, says-desks}
-use Rattle.rules.specs.Box.{flat-place, applied-in, clock-in, own-is, set-each, at-set, open-each}
+use Rattle.rules.specs.Gap.{gap-above}
+use Rattle.rules.specs.Parts.{UsedGood, EntriesGood, CountsGood, DesksGood}
+use Rattle.rules.specs.Box.{flat-place, applied-in, clock-in, own-is, set-each, open-each}
 
 -- the test's numbers within the arrays
 abbrev pub Fit : List Desk → Type 0

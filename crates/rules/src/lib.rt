@@ -9,7 +9,7 @@ ghost use Rattle.machine.specs.Table.{most-writes};
 ghost use Rattle.machine.specs.Rules.{In};
 ghost use Rattle.clock.specs.Vectors.{places, place};
 ghost use Rattle.table.specs.Value.{entries, openAt, isFree};
-ghost use Rattle.table.specs.Sound.{Sound};
+ghost use Rattle.table.specs.Sound.{Sound, SoundTable};
 ghost use Rattle.rules.specs.Test.{zeroTest, has, owns, gapOf, gaps, lastOf, rangesTest, usedTest, entryTest, entriesTest, countsTest, setTest, cellTest, cellsTest, waitTest, liveTest, markTest, marksTest, deskTest, desksTest, ownTest};
 use clock::PLACES;
 use table::CELL;
@@ -21,6 +21,7 @@ use table::Found;
 use table::OPEN;
 use table::OPENS;
 use table::Open;
+use table::Table;
 
 fn wide(x: u16) -> usize
     ensures { λ r. ⌜ r ≡ x ⌝ }
@@ -420,4 +421,14 @@ pub fn keeps_rules(
     let own = own_counts(desks);
     numbers(&own);
     passes(core.n, core.m, own, desks, cells, opens)
+}
+
+// The same of a whole table, by value.
+pub fn table_keeps_rules(t: Table) -> bool
+    ensures { λ r. ⌜ Says r (SoundTable t) ⌝ }
+{
+    let core = t.core;
+    let cells = t.cells;
+    let opens = t.opens;
+    keeps_rules(core, &cells, &opens)
 }

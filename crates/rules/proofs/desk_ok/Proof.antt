@@ -1,4 +1,4 @@
-use mathlib.Core.Path.{_≡_, refl, sym, ap, _∙_}
+use mathlib.Core.Path.{sym, _∙_}
 use borrow.Author.Tests.{not-true, not-false}
 use Rattle.rules.specs.Test.{deskTest}
 use borrow.Author.Needs.{needs}
@@ -24,7 +24,11 @@ marks-ok-requires c κs = search needs
 
 returns-3 : tie.Need-returns-3
 unfolding deskTest
-returns-3 c = rw (sym (c .before .before .before .before .before .counts-ok .ensures) ∙ not-false _ (c .before .before .before .before .if1 .left), sym (c .before .before .cells-ok .ensures) ∙ not-false _ (c .before .if2 .left)) (c .marks-ok .ensures)
+returns-3 c = rw (
+  sym (c .before .before .before .before .before .counts-ok .ensures) ∙ not-false _ (c .before .before .before .before .if1 .left),
+  sym (c .before .before .cells-ok .ensures) ∙ not-false _ (c .before .if2 .left),
+)
+    (c .marks-ok .ensures)
 
 pub desk-ok-spec : {M : Type 1} → statement M
 desk-ok-spec =

@@ -1,7 +1,7 @@
-use mathlib.Core.Path.{_≡_, refl, sym, ap, _∙_}
-use Prim.Native.Nat.{ℕ, suc, _≤_, _<_, _-_, _+_, _*_}
+use mathlib.Core.Path.{_≡_, ap, _∙_}
+use Prim.Native.Nat.{ℕ, _≤_, _-_}
 use native.Mathlib.Omega.{arith}
-use Rattle.clock.specs.Vectors.{places, place, place-at, place-out}
+use Rattle.clock.specs.Vectors.{places}
 use Rattle.laws.specs.Tab.{tab, fill-start, fill-more, fill-end}
 use lib.ListN.{length, getD, drop}
 use mathlib.Core.List.{_++_}
@@ -45,11 +45,15 @@ loop-less : tie.Need-loop-less Inv-loop μ-loop
 loop-less c = search needs
 
 loop-again : tie.Need-loop-again Inv-loop μ-loop
-loop-again c = let L = c .before .before .loop in let g = c .before .before .before .args in (search needs, (rw (L .inv .1 .0, c .gap .ensures ∙ ap (λ (u : ℕ). gapOf (has (g .opens .now) u) (getD (g .t1) (L .t) 0)) (add-one (L .t))) (fill-more (gapAt (g .t1) (g .opens .now)) _ 0 (L .t) (search needs)), search needs))
+loop-again c = let L = c .before .before .loop in
+    let g = c .before .before .before .args in
+    (search needs, (rw (L .inv .1 .0, c .gap .ensures ∙ ap (λ (u : ℕ). gapOf (has (g .opens .now) u) (getD (g .t1) (L .t) 0)) (add-one (L .t))) (fill-more (gapAt (g .t1) (g .opens .now)) _ 0 (L .t) (search needs)), search needs))
 
 returns : tie.Need-returns Inv-loop μ-loop
 unfolding gaps
-returns c = let L = c .before .loop in let e : L .t ≡ places = omega arith in L .inv .1 .0 ∙ fill-end _ _ places _ (L .inv .1 .1) (search needs) ∙ rw e
+returns c = let L = c .before .loop in
+    let e : L .t ≡ places = omega arith in
+    L .inv .1 .0 ∙ fill-end _ _ places _ (L .inv .1 .1) (search needs) ∙ rw e
 
 pub gap-counts-spec : {M : Type 1} → statement M
 gap-counts-spec =

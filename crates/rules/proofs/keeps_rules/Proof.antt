@@ -1,4 +1,3 @@
-use mathlib.Core.Path.{_≡_, refl, sym, ap, _∙_}
 use Rattle.rules.specs.Walk.{fit-of}
 use Rattle.rules.specs.Whole.{keeps-says}
 use borrow.Author.Needs.{needs}
@@ -21,7 +20,8 @@ passes-requires : tie.Need-passes-requires
 passes-requires c κs = search needs
 
 returns : tie.Need-returns
-returns c = let e = c .before .before .before .own-counts .ensures in rw (c .passes .ensures, e) (keeps-says _ _ _ _ _ (c .before .before .before .before .desks-shape .ensures) (fit-of _ _ e (c .before .numbers .ensures)))
+returns c = let e = c .before .before .before .own-counts .ensures in
+    rw (c .passes .ensures, e) (keeps-says _ _ _ _ _ (c .before .before .before .before .desks-shape .ensures) (fit-of _ _ e (c .before .numbers .ensures)))
 
 pub keeps-rules-spec : {M : Type 1} → statement M
 keeps-rules-spec =

@@ -1,10 +1,8 @@
 use mathlib.Core.Path.{_≡_, refl, sym, ap, _∙_}
-use Prim.Native.Nat.{ℕ, suc, _≤_, _<_, _-_, _+_, _*_}
-use native.Mathlib.Omega.{arith}
+use Prim.Native.Nat.{_≤_, _-_}
 use Rattle.laws.specs.All.{all, all-fails, all-next, all-end}
-use mathlib.Core.Bool.{true, false, not}
-use borrow.Author.Tests.{not-true, not-false}
-use Rattle.table.specs.Value.{entries, desk-cells, cellAt, openAt, desk0}
+use mathlib.Core.Bool.{not}
+use Rattle.table.specs.Value.{entries}
 use Rattle.table.specs.Names.{namedAt}
 use Rattle.rules.specs.Test.{lastOf}
 use borrow.Author.Needs.{needs}
@@ -28,7 +26,8 @@ holds-requires : tie.Need-holds-requires Inv-loop μ-loop
 holds-requires c κs = search needs
 
 returns : tie.Need-returns Inv-loop μ-loop
-returns c = let L = c .before .before .before .loop in sym (all-fails _ entries (L .j) (search needs) (ap not (sym (c .before .holds .ensures) ∙ c .if1 .taken))) ∙ L .inv .1
+returns c = let L = c .before .before .before .loop in
+    sym (all-fails _ entries (L .j) (search needs) (ap not (sym (c .before .holds .ensures) ∙ c .if1 .taken))) ∙ L .inv .1
 
 add-j-2 : tie.Need-add-j-2 Inv-loop μ-loop
 add-j-2 c = search needs
@@ -37,10 +36,12 @@ loop-less : tie.Need-loop-less Inv-loop μ-loop
 loop-less c = search needs
 
 loop-again : tie.Need-loop-again Inv-loop μ-loop
-loop-again c = let L = c .before .before .before .loop in (search needs, sym (all-next _ entries (L .j) (search needs) (ap not (sym (c .before .holds .ensures) ∙ c .if1 .left))) ∙ L .inv .1)
+loop-again c = let L = c .before .before .before .loop in
+    (search needs, sym (all-next _ entries (L .j) (search needs) (ap not (sym (c .before .holds .ensures) ∙ c .if1 .left))) ∙ L .inv .1)
 
 returns-2 : tie.Need-returns-2 Inv-loop μ-loop
-returns-2 c = let L = c .before .loop in sym (all-end _ entries (L .j) (search needs)) ∙ L .inv .1
+returns-2 c = let L = c .before .loop in
+    sym (all-end _ entries (L .j) (search needs)) ∙ L .inv .1
 
 pub last-of-spec : {M : Type 1} → statement M
 last-of-spec =

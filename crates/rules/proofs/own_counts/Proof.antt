@@ -1,9 +1,9 @@
-use mathlib.Core.Path.{_≡_, refl, sym, ap, _∙_}
-use Prim.Native.Nat.{ℕ, suc, _≤_, _<_, _-_, _+_, _*_}
+use mathlib.Core.Path.{_≡_, _∙_}
+use Prim.Native.Nat.{_≤_, _-_}
 use native.Mathlib.Omega.{arith}
-use Rattle.clock.specs.Vectors.{places, place, place-at, place-out}
+use Rattle.clock.specs.Vectors.{places}
 use Rattle.laws.specs.Tab.{tab, fill-start, fill-more, fill-end}
-use lib.ListN.{length, getD, drop}
+use lib.ListN.{length, drop}
 use mathlib.Core.List.{_++_}
 use Rattle.rules.specs.Test.{ownAt, owns}
 use borrow.Author.Needs.{needs}
@@ -44,11 +44,15 @@ loop-less : tie.Need-loop-less Inv-loop μ-loop
 loop-less c = search needs
 
 loop-again : tie.Need-loop-again Inv-loop μ-loop
-loop-again c = let L = c .before .before .before .loop in let g = c .before .before .before .before .args in (search needs, (rw (L .inv .1 .0) (fill-more (ownAt (g .t1)) _ 0 (L .t) (search needs)), search needs))
+loop-again c = let L = c .before .before .before .loop in
+    let g = c .before .before .before .before .args in
+    (search needs, (rw (L .inv .1 .0) (fill-more (ownAt (g .t1)) _ 0 (L .t) (search needs)), search needs))
 
 returns : tie.Need-returns Inv-loop μ-loop
 unfolding owns
-returns c = let L = c .before .loop in let e : L .t ≡ places = omega arith in L .inv .1 .0 ∙ fill-end _ _ places _ (L .inv .1 .1) (search needs) ∙ rw e
+returns c = let L = c .before .loop in
+    let e : L .t ≡ places = omega arith in
+    L .inv .1 .0 ∙ fill-end _ _ places _ (L .inv .1 .1) (search needs) ∙ rw e
 
 pub own-counts-spec : {M : Type 1} → statement M
 own-counts-spec =

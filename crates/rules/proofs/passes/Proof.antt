@@ -1,4 +1,4 @@
-use mathlib.Core.Path.{_≡_, refl, sym, ap, _∙_}
+use mathlib.Core.Path.{sym, _∙_}
 use borrow.Author.Tests.{not-true, not-false}
 use Rattle.rules.specs.Test.{ownTest}
 use Rattle.rules.specs.Walk.{desks-within}
@@ -28,7 +28,12 @@ desks-ok-requires c κs = search needs
 
 returns-3 : tie.Need-returns-3
 unfolding ownTest
-returns-3 c = rw (sym (c .before .before .before .before .before .begins .ensures) ∙ not-false _ (c .before .before .before .before .if1 .left), sym (c .before .before .before .entries-ok .ensures) ∙ not-false _ (c .before .before .if2 .left), ← c .before .gap-counts .ensures) (c .desks-ok .ensures)
+returns-3 c = rw (
+  sym (c .before .before .before .before .before .begins .ensures) ∙ not-false _ (c .before .before .before .before .if1 .left),
+  sym (c .before .before .before .entries-ok .ensures) ∙ not-false _ (c .before .before .if2 .left),
+  ← c .before .gap-counts .ensures,
+)
+    (c .desks-ok .ensures)
 
 pub passes-spec : {M : Type 1} → statement M
 passes-spec =

@@ -1,5 +1,5 @@
-use mathlib.Core.Path.{_≡_, refl, sym, ap, _∙_}
-use Prim.Native.Nat.{ℕ, suc, _≤_, _<_, _-_, _+_, _*_}
+use mathlib.Core.Bool.{not}
+use mathlib.Core.Path.{ap}
 use borrow.Author.Tests.{eq-eqb, ne-eqb}
 use Rattle.rules.specs.Test.{waitTest}
 use borrow.Author.Needs.{needs}
@@ -22,7 +22,7 @@ ready-requires c κs = search needs
 
 returns-3 : tie.Need-returns-3
 unfolding waitTest
-returns-3 c = rw (ne-eqb _ _ (c .before .before .if1 .left), eq-eqb _ _ (c .before .if2 .left), ← c .before .before .before .before .wide .ensures, ← c .ready .ensures)
+returns-3 c = rw (ne-eqb _ _ (c .before .before .if1 .left), eq-eqb _ _ (c .before .if2 .left), ← c .before .before .before .before .wide .ensures) (ap not (c .ready .ensures))
 
 pub wait-ok-spec : {M : Type 1} → statement M
 wait-ok-spec = tie.close (tie.spec wide-requires returns returns-2 ready-requires returns-3)
