@@ -63,7 +63,7 @@ fn zero(v: [u16; PLACES]) -> bool
 }
 
 // Each desk's count of its own writes.
-fn own_counts(desks: [Desk; PLACES]) -> [u16; PLACES]
+pub fn own_counts(desks: [Desk; PLACES]) -> [u16; PLACES]
     ensures { λ r. ⌜ r ≡ owns desks ⌝ }
 {
     let mut v = [0u16; PLACES];

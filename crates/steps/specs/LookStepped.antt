@@ -53,7 +53,7 @@ module _ {n m : ℕ} {ds : List Desk} {cs os own : List ℕ} {i : ℕ} {d : Desk
   put-in d′ h = ap (λ (b : Bool). pick b (set ds (i - 1) d′) ds) (says-within n i .from h)
 
   -- the desk as it came
-  put-same : putDesk n ds i d ≡ ds
+  pub put-same : putDesk n ds i d ≡ ds
   put-same =
       cases (within n i)
       (λ t. let h = says-within n i .to t in put-in d h ∙ rw (← p .desk h) (set-getD ds (i - 1) desk0))

@@ -1,0 +1,49 @@
+use mathlib.Core.Path.{refl}
+use Rattle.access.specs.Met.{few-desks, met-broken, placed, brought, PlacedIn}
+use borrow.Author.Needs.{needs}
+use Rattle.access.proofs.deliver.Statement.{statement}
+use Rattle.access.proofs.deliver.Tie as tie
+
+abbrev start : (c : tie.After-acting) → tie.Start
+start c = c .before .before .before .before .before .before .before .before .before .before .before
+
+here : (c : tie.After-acting) → PlacedIn (start c .args .t) (c .before .own-counts .result) (start c .args .i) (c .acting .result)
+here c =
+    placed (c .before .before .before .before .keeps-rules .ensures) (c .before .before .before .if1 .left) (c .before .before .before .before .before .before .before .table-shape .ensures) (c .before .own-counts .ensures) (c .acting .ensures)
+
+table-shape-requires : tie.Need-table-shape-requires
+table-shape-requires c κs = search needs
+
+keeps-rules-requires : tie.Need-keeps-rules-requires
+keeps-rules-requires c κs = search needs
+
+returns : tie.Need-returns
+returns c = record { met = met-broken (c .before .keeps-rules .ensures) _ (c .if1 .taken); names-are = refl }
+
+own-counts-requires : tie.Need-own-counts-requires
+own-counts-requires c κs = search needs
+
+acting-requires : tie.Need-acting-requires
+acting-requires c κs = search needs
+
+deliver-at-requires : tie.Need-deliver-at-requires
+deliver-at-requires c κs = (_, _, here (c .before .before .before))
+
+together-requires : tie.Need-together-requires
+together-requires c κs = few-desks (here (c .before .before .before .before .before) .sound)
+
+returns-2 : tie.Need-returns-2
+returns-2 c = let p = here (c .before .before .before .before .before .before) in rw (c .together .ensures) (brought p (c .before .before .deliver-at .ensures _ _ p))
+
+pub deliver-spec : {M : Type 1} → statement M
+deliver-spec =
+    tie.close
+    (tie.spec
+    table-shape-requires
+    keeps-rules-requires
+    returns
+    own-counts-requires
+    acting-requires
+    deliver-at-requires
+    together-requires
+    returns-2)

@@ -1,0 +1,35 @@
+use mathlib.Core.Path.{sym, _∙_}
+use native.Mathlib.Omega.{arith}
+use Rattle.clock.specs.Vectors.{places}
+use Rattle.machine.specs.Rules.{In}
+use Rattle.machine.specs.Proofs.Refusals.{says-within}
+use borrow.Author.Needs.{needs}
+use Rattle.access.proofs.together.Statement.{statement}
+use Rattle.access.proofs.together.Tie as tie
+
+inside-n : (c : tie.Then1) → In places (c .before .before .before .args .i)
+inside-n c =
+    let h = says-within _ _ .to (sym (c .before .inside .ensures) ∙ c .if1 .taken) in
+    (h .0, omega (arith, h .1, c .before .before .before .pre))
+
+inside-requires : tie.Need-inside-requires
+inside-requires c κs = search needs
+
+sub-desks : tie.Need-sub-desks
+sub-desks c = omega (arith, inside-n c)
+
+mul-desks : tie.Need-mul-desks
+mul-desks c = omega (arith, inside-n c)
+
+array-set-from-desks : tie.Need-array-set-from-desks
+array-set-from-desks c = omega (arith, inside-n c)
+
+returns : tie.Need-returns
+returns c = rw (sym (c .before .inside .ensures) ∙ c .if1 .taken)
+
+returns-2 : tie.Need-returns-2
+returns-2 c = rw (sym (c .before .inside .ensures) ∙ c .if1 .left)
+
+pub together-spec : {M : Type 1} → statement M
+together-spec =
+    tie.close (tie.spec inside-requires sub-desks mul-desks array-set-from-desks returns returns-2)

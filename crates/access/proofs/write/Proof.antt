@@ -1,0 +1,50 @@
+use mathlib.Core.Path.{refl}
+use Rattle.rules.specs.Test.{owns}
+use Rattle.access.specs.Met.{few-desks, met-broken, placed, met-stepped, PlacedIn}
+use borrow.Author.Needs.{needs}
+use Rattle.access.proofs.write.Statement.{statement}
+use Rattle.access.proofs.write.Tie as tie
+
+abbrev start : (c : tie.After-acting) → tie.Start
+start c = c .before .before .before .before .before .before .before .before .before .before
+
+here : (c : tie.After-acting) → PlacedIn (start c .args .t) (owns (start c .args .t .core .desks)) (start c .args .i) (c .acting .result)
+here c =
+    placed (c .before .before .before .keeps-rules .ensures) (c .before .before .if1 .left) (c .before .before .before .before .before .before .table-shape .ensures) refl (c .acting .ensures)
+
+table-shape-requires : tie.Need-table-shape-requires
+table-shape-requires c κs = search needs
+
+keeps-rules-requires : tie.Need-keeps-rules-requires
+keeps-rules-requires c κs = search needs
+
+broken-requires : tie.Need-broken-requires
+broken-requires c κs = search needs
+
+returns : tie.Need-returns
+returns c = rw (c .broken .ensures) (met-broken (c .before .before .keeps-rules .ensures) _ (c .before .if1 .taken))
+
+acting-requires : tie.Need-acting-requires
+acting-requires c κs = search needs
+
+write-at-requires : tie.Need-write-at-requires
+write-at-requires c κs = record { desks = _; own = _; placed = here (c .before .before) }
+
+together-requires : tie.Need-together-requires
+together-requires c κs = few-desks (here (c .before .before .before .before) .sound)
+
+returns-2 : tie.Need-returns-2
+returns-2 c = let p = here (c .before .before .before .before .before) in rw (c .together .ensures) (met-stepped p (c .before .before .write-at .ensures _ _ p))
+
+pub write-spec : {M : Type 1} → statement M
+write-spec =
+    tie.close
+    (tie.spec
+    table-shape-requires
+    keeps-rules-requires
+    broken-requires
+    returns
+    acting-requires
+    write-at-requires
+    together-requires
+    returns-2)
