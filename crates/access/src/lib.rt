@@ -3,11 +3,13 @@ ghost use mathlib.Core.Path.{_≡_};
 ghost use mathlib.Core.List.{[]};
 ghost use Prim.Native.Nat.{_-_, _<_, _≤_};
 ghost use lib.ListN.{getD, length};
+ghost use Rattle.laws.specs.Says.{Says};
 ghost use Rattle.clock.specs.Vectors.{places};
 ghost use Rattle.machine.specs.Rules.{In};
 ghost use Rattle.machine.specs.Steps.{Read, Write, Trip};
 ghost use Rattle.answer.specs.Meaning.{answerOf};
 ghost use Rattle.table.specs.Value.{desk0};
+ghost use Rattle.table.specs.Sound.{SoundTable};
 ghost use Rattle.access.specs.Met.{tableOf, brokenDone, Met, Brought};
 use answer::Answer;
 use answer::Refusal;
@@ -72,6 +74,16 @@ fn together(
     }
 }
 
+// Does the value keep the rules?
+fn kept(t: Table) -> bool
+    ensures { λ r. ⌜ Says r (SoundTable t) ⌝ }
+{
+    let core = t.core;
+    let cells = t.cells;
+    let opens = t.opens;
+    rules::keeps_rules(core, &cells, &opens)
+}
+
 fn broken(t: Table) -> Done
     ensures { λ r. ⌜ r ≡ brokenDone t ⌝ }
 {
@@ -84,13 +96,13 @@ fn broken(t: Table) -> Done
 pub fn read(t: Table, i: usize, x: usize) -> Done
     ensures { λ r. ⌜ Met t (Read i x) (r .table) (answerOf (r .answer) []) ⌝ }
 {
+    table::table_shape(t);
+    if !kept(t) {
+        return broken(t);
+    }
     let core = t.core;
     let cells = t.cells;
     let opens = t.opens;
-    table::table_shape(t);
-    if !rules::keeps_rules(core, &cells, &opens) {
-        return broken(t);
-    }
     let desks = core.desks;
     let d = acting(desks, i);
     let turn = steps::look::read_at(core.n, core.m, d, &cells, i, x);
@@ -106,13 +118,13 @@ pub fn read(t: Table, i: usize, x: usize) -> Done
 pub fn write(t: Table, i: usize, x: usize, v: usize) -> Done
     ensures { λ r. ⌜ Met t (Write i x v) (r .table) (answerOf (r .answer) []) ⌝ }
 {
+    table::table_shape(t);
+    if !kept(t) {
+        return broken(t);
+    }
     let core = t.core;
     let mut cells = t.cells;
     let mut opens = t.opens;
-    table::table_shape(t);
-    if !rules::keeps_rules(core, &cells, &opens) {
-        return broken(t);
-    }
     let desks = core.desks;
     let d = acting(desks, i);
     let turn = steps::write::write_at(core.n, core.m, d, &mut cells, &mut opens, i, x, v);
@@ -128,22 +140,32 @@ pub fn write(t: Table, i: usize, x: usize, v: usize) -> Done
 pub fn deliver(t: Table, i: usize, u: usize, k: usize) -> Delivered
     ensures { λ r. ⌜ Brought t i u k (r .table) (r .answer) (r .names) ⌝ }
 {
-    let core = t.core;
-    let mut cells = t.cells;
-    let mut opens = t.opens;
     let mut names = [0u16; NAMES];
     table::table_shape(t);
-    if !rules::keeps_rules(core, &cells, &opens) {
+    if !kept(t) {
         return Delivered {
             table: t,
             answer: Answer::Refused(Refusal::Broken),
             names: names,
         };
     }
+    let core = t.core;
+    let mut cells = t.cells;
+    let mut opens = t.opens;
     let desks = core.desks;
     let own = rules::own_counts(desks);
     let d = acting(desks, i);
-    let turn = steps::deliver::deliver_at(core.n, d, own, &mut cells, &mut opens, &mut names, i, u, k);
+    let turn = steps::deliver::deliver_at(
+        core.n,
+        d,
+        own,
+        &mut cells,
+        &mut opens,
+        &mut names,
+        i,
+        u,
+        k,
+    );
     let after = turn.desk;
     let answer = turn.answer;
     let next = together(core, i, after, cells, opens);
@@ -157,13 +179,13 @@ pub fn deliver(t: Table, i: usize, u: usize, k: usize) -> Delivered
 pub fn trip(t: Table, i: usize, list: &[u16]) -> Done
     ensures { λ r. ⌜ Met t (Trip i (now (list .entry))) (r .table) (answerOf (r .answer) []) ⌝ }
 {
+    table::table_shape(t);
+    if !kept(t) {
+        return broken(t);
+    }
     let core = t.core;
     let cells = t.cells;
     let opens = t.opens;
-    table::table_shape(t);
-    if !rules::keeps_rules(core, &cells, &opens) {
-        return broken(t);
-    }
     let desks = core.desks;
     let d = acting(desks, i);
     let turn = steps::look::trip_at(core.n, core.m, d, &cells, i, list);

@@ -5,20 +5,20 @@ use Rattle.access.proofs.deliver.Statement.{statement}
 use Rattle.access.proofs.deliver.Tie as tie
 
 abbrev start : (c : tie.After-acting) → tie.Start
-start c = c .before .before .before .before .before .before .before .before .before .before .before
+start c = c .before .before .before .before .before .before .before .before .before
 
 here : (c : tie.After-acting) → PlacedIn (start c .args .t) (c .before .own-counts .result) (start c .args .i) (c .acting .result)
 here c =
-    placed (c .before .before .before .before .keeps-rules .ensures) (c .before .before .before .if1 .left) (c .before .before .before .before .before .before .before .table-shape .ensures) (c .before .own-counts .ensures) (c .acting .ensures)
+    placed (c .before .before .before .before .before .before .before .kept .ensures) (c .before .before .before .before .before .before .if1 .left) (c .before .before .before .before .before .before .before .before .table-shape .ensures) (c .before .own-counts .ensures) (c .acting .ensures)
 
 table-shape-requires : tie.Need-table-shape-requires
 table-shape-requires c κs = search needs
 
-keeps-rules-requires : tie.Need-keeps-rules-requires
-keeps-rules-requires c κs = search needs
+kept-requires : tie.Need-kept-requires
+kept-requires c κs = search needs
 
 returns : tie.Need-returns
-returns c = record { met = met-broken (c .before .keeps-rules .ensures) _ (c .if1 .taken); names-are = refl }
+returns c = record { met = met-broken (c .before .kept .ensures) _ (c .if1 .taken); names-are = refl }
 
 own-counts-requires : tie.Need-own-counts-requires
 own-counts-requires c κs = search needs
@@ -40,7 +40,7 @@ deliver-spec =
     tie.close
     (tie.spec
     table-shape-requires
-    keeps-rules-requires
+    kept-requires
     returns
     own-counts-requires
     acting-requires

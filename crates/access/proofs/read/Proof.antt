@@ -6,23 +6,23 @@ use Rattle.access.proofs.read.Statement.{statement}
 use Rattle.access.proofs.read.Tie as tie
 
 abbrev start : (c : tie.After-acting) → tie.Start
-start c = c .before .before .before .before .before .before .before .before .before .before
+start c = c .before .before .before .before .before .before .before .before
 
 here : (c : tie.After-acting) → PlacedIn (start c .args .t) (owns (start c .args .t .core .desks)) (start c .args .i) (c .acting .result)
 here c =
-    placed (c .before .before .before .keeps-rules .ensures) (c .before .before .if1 .left) (c .before .before .before .before .before .before .table-shape .ensures) refl (c .acting .ensures)
+    placed (c .before .before .before .before .before .before .kept .ensures) (c .before .before .before .before .before .if1 .left) (c .before .before .before .before .before .before .before .table-shape .ensures) refl (c .acting .ensures)
 
 table-shape-requires : tie.Need-table-shape-requires
 table-shape-requires c κs = search needs
 
-keeps-rules-requires : tie.Need-keeps-rules-requires
-keeps-rules-requires c κs = search needs
+kept-requires : tie.Need-kept-requires
+kept-requires c κs = search needs
 
 broken-requires : tie.Need-broken-requires
 broken-requires c κs = search needs
 
 returns : tie.Need-returns
-returns c = rw (c .broken .ensures) (met-broken (c .before .before .keeps-rules .ensures) _ (c .before .if1 .taken))
+returns c = rw (c .broken .ensures) (met-broken (c .before .before .kept .ensures) _ (c .before .if1 .taken))
 
 acting-requires : tie.Need-acting-requires
 acting-requires c κs = search needs
@@ -41,7 +41,7 @@ read-spec =
     tie.close
     (tie.spec
     table-shape-requires
-    keeps-rules-requires
+    kept-requires
     broken-requires
     returns
     acting-requires
