@@ -4,6 +4,8 @@ pub mod Check
 pub mod Encode
 pub mod Fields
 pub mod Places
+pub mod Fill
+pub mod Block
 pub mod Decode
 pub mod Bytes
 pub mod Sound
