@@ -6,6 +6,7 @@ pub mod Fields
 pub mod Places
 pub mod Fill
 pub mod Block
+pub mod Parts
 pub mod Decode
 pub mod Bytes
 pub mod Sound

@@ -1,17 +1,23 @@
 // The saved image (document 01): a table as blocks of 512 bytes, and a table read from them.
 ghost use mathlib.Core.Path.{_≡_};
-ghost use mathlib.Core.List.{_∷_};
+ghost use mathlib.Core.List.{[], _∷_};
 ghost use Prim.Native.Nat.{ℕ, _+_, _*_, _<_, _≤_};
 ghost use lib.ListN.{getD, set, length};
 ghost use lib.Seq.{sets};
-ghost use Rattle.clock.specs.Vectors.{place};
+ghost use Rattle.laws.specs.Cat.{cat};
+ghost use Rattle.clock.specs.Vectors.{places, place};
 ghost use Rattle.image.specs.Check.{checkOf};
 ghost use Rattle.image.specs.Encode.{word, long, words, markBytes, deskBytes, block};
 ghost use Rattle.image.specs.Fill.{pad};
 ghost use Rattle.image.specs.Block.{head, cellRaw, openRaw, SmallCell, SmallOpen};
+ghost use Rattle.image.specs.Parts.{CellsFit, CellFor, cellPiece, cellBlock, cellRow, deskBlock, OrderFits, OpenFor, openPiece, openBlock};
 use clock::PLACES;
+use table::CELL;
+use table::CELLS;
 use table::Cell;
 use table::Desk;
+use table::OPEN;
+use table::OPENS;
 use table::Open;
 
 // Bytes to a block.
@@ -150,4 +156,155 @@ fn desk_block(at: u16, i: u16, d: Desk) -> [u8; BLOCK]
     put_words(&mut b, 24, v);
     seal(&mut b);
     b
+}
+
+// The block of the sizes.
+fn size_block(n: u16, m: u16, count: u16) -> [u8; BLOCK]
+    requires { ⌜ (n < 256) × ((m < 256) × (count < 256)) ⌝ }
+    ensures { λ r. ⌜ r ≡ block 1 0 (n ∷ m ∷ count ∷ []) ⌝ }
+{
+    let mut b = [0u8; BLOCK];
+    put_head(&mut b, 1, 0);
+    b[4] = byte(n);
+    b[5] = byte(m);
+    b[6] = byte(count);
+    seal(&mut b);
+    b
+}
+
+// Cell x of desk i, both from 0: an unset one past the last.
+fn cell_or(cells: &[u16; PLACES * CELLS * CELL], i: usize, x: usize) -> Cell
+    requires { ⌜ (i < places) × CellsFit (now cells) ⌝ }
+    ensures { λ r. ⌜ CellFor (now (cells .entry)) i x r ⌝ }
+{
+    if x < CELLS {
+        return table::cell_at(cells, i * CELLS + x);
+    }
+    let zero = [0u16; PLACES];
+    Cell {
+        writer: 0,
+        status: 0,
+        vector: zero,
+    }
+}
+
+// Block q of the cells of desk i, from 0.
+fn cell_block(at: u16, cells: &[u16; PLACES * CELLS * CELL], i: usize, q: usize) -> [u8; BLOCK]
+    requires { ⌜ (i < places) × ((q < 3) × CellsFit (now cells)) ⌝ }
+    ensures { λ r. ⌜ r ≡ block 3 at (cat (cellPiece (now (cells .entry)) i q) 25) ⌝ }
+{
+    let mut b = [0u8; BLOCK];
+    put_head(&mut b, 3, at);
+    let mut j = 0;
+    while j < 25 {
+        let c = cell_or(cells, i, 25 * q + j);
+        put_cell(&mut b, 4 + 20 * j, c);
+        j += 1;
+    }
+    seal(&mut b);
+    b
+}
+
+// The open write at place p of the order, and a free entry's zeros past the last.
+fn open_or(opens: &[u16; OPENS * OPEN], order: &[usize; OPENS], count: usize, p: usize) -> Open
+    requires { ⌜ OrderFits (now opens) (now order) count ⌝ }
+    ensures { λ r. ⌜ OpenFor (now (opens .entry)) (now (order .entry)) count p r ⌝ }
+{
+    if p < count {
+        let e = order[p];
+        return table::open_at(opens, e);
+    }
+    let zero = [0u16; PLACES];
+    Open {
+        writer: 0,
+        status: 0,
+        cell: 0,
+        vector: zero,
+        marks: zero,
+    }
+}
+
+// Block q of the open writes.
+fn open_block(at: u16, opens: &[u16; OPENS * OPEN], order: &[usize; OPENS], count: usize, q: usize) -> [u8; BLOCK]
+    requires { ⌜ (q < 4) × OrderFits (now opens) (now order) count ⌝ }
+    ensures { λ r. ⌜ r ≡ block 4 at (cat (openPiece (now (opens .entry)) (now (order .entry)) count q) 18) ⌝ }
+{
+    let mut b = [0u8; BLOCK];
+    put_head(&mut b, 4, at);
+    let mut j = 0;
+    while j < 18 {
+        let o = open_or(opens, order, count, 18 * q + j);
+        put_open(&mut b, 4 + 28 * j, o);
+        j += 1;
+    }
+    seal(&mut b);
+    b
+}
+
+// Blocks, one after the other --
+
+// The block as block k of the image.
+fn store(out: &mut [u8], k: usize, b: [u8; BLOCK])
+    requires { ⌜ (k < 64) × (512 * k + 512 ≤ length (now out)) ⌝ }
+    ensures { λ _. ⌜ now (out .exit) ≡ sets (now (out .entry)) (512 * k) b ⌝ }
+{
+    let at = BLOCK * k;
+    let mut j = 0;
+    while j < BLOCK {
+        out[at + j] = b[j];
+        j += 1;
+    }
+}
+
+// Kind 2.
+fn save_desks(out: &mut [u8], desks: [Desk; PLACES], n: usize)
+    requires { ⌜ (n ≤ places) × (512 + 512 * n ≤ length (now out)) ⌝ }
+    ensures { λ _. ⌜ now (out .exit) ≡ sets (now (out .entry)) 512 (cat (deskBlock desks) n) ⌝ }
+{
+    let mut i = 0;
+    while i < n {
+        let d = desks[i];
+        let k = (1 + i) as u16;
+        let b = desk_block(k, k, d);
+        store(out, 1 + i, b);
+        i += 1;
+    }
+}
+
+// Kind 3, of desk i: the c blocks from block k on.
+fn save_row(out: &mut [u8], k: usize, cells: &[u16; PLACES * CELLS * CELL], i: usize, c: usize)
+    requires { ⌜ ((i < places) × CellsFit (now cells)) × ((c ≤ 3) × ((k + c ≤ 64) × (512 * k + 512 * c ≤ length (now out)))) ⌝ }
+    ensures { λ _. ⌜ now (out .exit) ≡ sets (now (out .entry)) (512 * k) (cat (cellBlock (now (cells .entry)) k i) c) ⌝ }
+{
+    let mut q = 0;
+    while q < c {
+        let b = cell_block((k + q) as u16, cells, i, q);
+        store(out, k + q, b);
+        q += 1;
+    }
+}
+
+// Kind 3.
+fn save_cells(out: &mut [u8], cells: &[u16; PLACES * CELLS * CELL], n: usize, c: usize)
+    requires { ⌜ CellsFit (now cells) × ((n ≤ places) × ((c ≤ 3) × (512 * (1 + n) + 512 * c * n ≤ length (now out)))) ⌝ }
+    ensures { λ _. ⌜ now (out .exit) ≡ sets (now (out .entry)) (512 * (1 + n)) (cat (cellRow (now (cells .entry)) n c) n) ⌝ }
+{
+    let mut i = 0;
+    while i < n {
+        save_row(out, 1 + n + c * i, cells, i, c);
+        i += 1;
+    }
+}
+
+// Kind 4: the c blocks from block k on.
+fn save_opens(out: &mut [u8], k: usize, opens: &[u16; OPENS * OPEN], order: &[usize; OPENS], count: usize, c: usize)
+    requires { ⌜ OrderFits (now opens) (now order) count × ((c ≤ 4) × ((k + c ≤ 64) × (512 * k + 512 * c ≤ length (now out)))) ⌝ }
+    ensures { λ _. ⌜ now (out .exit) ≡ sets (now (out .entry)) (512 * k) (cat (openBlock (now (opens .entry)) (now (order .entry)) count k) c) ⌝ }
+{
+    let mut q = 0;
+    while q < c {
+        let b = open_block((k + q) as u16, opens, order, count, q);
+        store(out, k + q, b);
+        q += 1;
+    }
 }
