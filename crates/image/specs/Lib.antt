@@ -15,5 +15,6 @@ pub mod Tells
 pub mod Shape
 pub mod Load
 pub mod Counted
+pub mod Order
 pub mod Examples
 pub mod Reload

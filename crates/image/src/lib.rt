@@ -1,7 +1,8 @@
 // The saved image (document 01): a table as blocks of 512 bytes, and a table read from them.
 ghost use mathlib.Core.Path.{_≡_};
 ghost use mathlib.Core.List.{[], _∷_};
-ghost use Prim.Native.Nat.{ℕ, _+_, _*_, _<_, _≤_};
+ghost use mathlib.Core.Option.{none};
+ghost use Prim.Native.Nat.{ℕ, suc, _+_, _-_, _*_, _<_, _≤_, min};
 ghost use lib.ListN.{getD, set, length};
 ghost use lib.Seq.{sets};
 ghost use Rattle.laws.specs.Cat.{cat};
@@ -11,11 +12,17 @@ ghost use Rattle.image.specs.Encode.{word, long, words, markBytes, deskB
 ghost use Rattle.image.specs.Fill.{pad};
 ghost use Rattle.image.specs.Block.{head, cellRaw, openRaw, SmallCell, SmallOpen};
 ghost use Rattle.image.specs.Parts.{CellsFit, CellFor, cellPiece, cellBlock, cellRow, deskBlock, OrderFits, OpenFor, openPiece, openBlock};
+ghost use Rattle.machine.specs.Rules.{In};
+ghost use Rattle.table.specs.Value.{entries};
+ghost use Rattle.table.specs.Model.{appliedM, opensM};
+ghost use Rattle.image.specs.Counted.{low, counted};
+ghost use Rattle.image.specs.Order.{Listed, Ordered, Known};
 use clock::PLACES;
 use table::CELL;
 use table::CELLS;
 use table::Cell;
 use table::Desk;
+use table::Found;
 use table::OPEN;
 use table::OPENS;
 use table::Open;
@@ -307,4 +314,96 @@ fn save_opens(out: &mut [u8], k: usize, opens: &[u16; OPENS * OPEN], order: &[us
         store(out, k + q, b);
         q += 1;
     }
+}
+
+// The open writes, by writer then number --
+
+fn smaller(a: u16, b: u16) -> u16
+    ensures { λ r. ⌜ r ≡ min a b ⌝ }
+{
+    if a < b { a } else { b }
+}
+
+fn number(x: u16) -> usize
+    ensures { λ r. ⌜ (r ≡ x) × (r < 65536) ⌝ }
+{
+    x as usize
+}
+
+// Desk u's own count, u from 0.
+fn own_count(desks: [Desk; PLACES], u: usize) -> u16
+    requires { ⌜ u < places ⌝ }
+    ensures { λ r. ⌜ r ≡ appliedM desks (suc u) (suc u) ⌝ }
+{
+    let d = desks[u];
+    let a = d.applied;
+    a[u]
+}
+
+// How many of desk u's writes every desk has applied, u from 0.
+fn lowest(desks: [Desk; PLACES], n: usize, u: usize) -> u16
+    requires { ⌜ (n ≤ places) × (u < places) ⌝ }
+    ensures { λ r. ⌜ r ≡ low n (appliedM desks) (suc u) ⌝ }
+{
+    let mut r = own_count(desks, u);
+    let mut i = 0;
+    while i < n {
+        let d = desks[i];
+        let a = d.applied;
+        r = smaller(a[u], r);
+        i += 1;
+    }
+    r
+}
+
+// How many writes are open.
+fn open_count(desks: [Desk; PLACES], n: usize) -> usize
+    requires { ⌜ n ≤ places ⌝ }
+    ensures { λ r. ⌜ r ≡ length (counted n (appliedM desks)) ⌝ }
+{
+    let mut r = 0;
+    let mut u = 0;
+    while u < n {
+        let own = number(own_count(desks, u));
+        let lo = number(lowest(desks, n, u));
+        r = r + (own - lo);
+        u += 1;
+    }
+    r
+}
+
+// The entries of desk u's writes lo + 1 to own, u from 1, put into the order from place p on.
+fn order_of(opens: &[u16; OPENS * OPEN], u: usize, lo: u16, own: u16, order: &mut [usize], p: usize) -> usize
+    requires { ⌜ (In places u) × ((lo ≤ own) × (p + (own - lo) ≤ length (now order))) ⌝ }
+    requires { ⌜ ((k : ℕ) → lo < k → k ≤ own → opensM (now opens) u k ≡ none → ⊥) ⌝ }
+    ensures { λ r. ⌜ Listed (now (opens .entry)) u lo own p (now (order .entry)) (now (order .exit)) r ⌝ }
+{
+    let mut k = lo;
+    let mut at = p;
+    while k < own {
+        let found = table::find(opens, u, k + 1);
+        let Found::At(e) = found else {
+            return at;
+        };
+        order[at] = e;
+        at += 1;
+        k += 1;
+    }
+    at
+}
+
+// The entries of all open writes in their order, and how many there are.
+fn order_all(opens: &[u16; OPENS * OPEN], desks: [Desk; PLACES], n: usize, order: &mut [usize]) -> usize
+    requires { ⌜ (length (now order) ≡ entries) × Known n desks (now opens) ⌝ }
+    ensures { λ r. ⌜ Ordered (now (opens .entry)) (counted n (appliedM desks)) (now (order .exit)) r ⌝ }
+{
+    let mut count = 0;
+    let mut u = 0;
+    while u < n {
+        let own = own_count(desks, u);
+        let lo = lowest(desks, n, u);
+        count = order_of(opens, u + 1, lo, own, order, count);
+        u += 1;
+    }
+    count
 }
