@@ -16,5 +16,6 @@ pub mod Shape
 pub mod Load
 pub mod Counted
 pub mod Order
+pub mod Saved
 pub mod Examples
 pub mod Reload

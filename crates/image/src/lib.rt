@@ -2,25 +2,28 @@
 ghost use mathlib.Core.Path.{_≡_};
 ghost use mathlib.Core.List.{[], _∷_};
 ghost use mathlib.Core.Option.{none};
-ghost use Prim.Native.Nat.{ℕ, suc, _+_, _-_, _*_, _<_, _≤_, min};
+ghost use Prim.Native.Nat.{ℕ, suc, _+_, _-_, _*_, _/_, _<_, _≤_, min};
 ghost use lib.ListN.{getD, set, length};
 ghost use lib.Seq.{sets};
 ghost use Rattle.laws.specs.Cat.{cat};
 ghost use Rattle.clock.specs.Vectors.{places, place};
 ghost use Rattle.image.specs.Check.{checkOf};
-ghost use Rattle.image.specs.Encode.{word, long, words, markBytes, deskBytes, block};
+ghost use Rattle.image.specs.Encode.{word, long, words, markBytes, deskBytes, block, perDesk, encode};
 ghost use Rattle.image.specs.Fill.{pad};
 ghost use Rattle.image.specs.Block.{head, cellRaw, openRaw, SmallCell, SmallOpen};
 ghost use Rattle.image.specs.Parts.{CellsFit, CellFor, cellPiece, cellBlock, cellRow, deskBlock, OrderFits, OpenFor, openPiece, openBlock};
 ghost use Rattle.machine.specs.Rules.{In};
-ghost use Rattle.table.specs.Value.{entries};
-ghost use Rattle.table.specs.Model.{appliedM, opensM};
+ghost use Rattle.table.specs.Value.{desk-cells, entries};
+ghost use Rattle.table.specs.Model.{appliedM, opensM, model};
+ghost use Rattle.table.specs.Sound.{Sound};
 ghost use Rattle.image.specs.Counted.{low, counted};
 ghost use Rattle.image.specs.Order.{Listed, Ordered, Known};
+ghost use Rattle.image.specs.Saved.{Saved};
 use clock::PLACES;
 use table::CELL;
 use table::CELLS;
 use table::Cell;
+use table::Core;
 use table::Desk;
 use table::Found;
 use table::OPEN;
@@ -359,7 +362,7 @@ fn lowest(desks: [Desk; PLACES], n: usize, u: usize) -> u16
 // How many writes are open.
 fn open_count(desks: [Desk; PLACES], n: usize) -> usize
     requires { ⌜ n ≤ places ⌝ }
-    ensures { λ r. ⌜ r ≡ length (counted n (appliedM desks)) ⌝ }
+    ensures { λ r. ⌜ (r ≡ length (counted n (appliedM desks))) × (r ≤ 524288) ⌝ }
 {
     let mut r = 0;
     let mut u = 0;
@@ -406,4 +409,73 @@ fn order_all(opens: &[u16; OPENS * OPEN], desks: [Desk; PLACES], n: usize, order
         u += 1;
     }
     count
+}
+
+// Saving --
+
+// Blocks to a desk's cells.
+fn per_desk(m: usize) -> usize
+    requires { ⌜ m ≤ desk-cells ⌝ }
+    ensures { λ r. ⌜ (r ≡ perDesk m) × (r ≤ 3) ⌝ }
+{
+    (m + 24) / 25
+}
+
+// Blocks to the open writes.
+fn open_blocks(count: usize) -> usize
+    requires { ⌜ count ≤ 524288 ⌝ }
+    ensures { λ r. ⌜ r ≡ (count + 17) / 18 ⌝ }
+{
+    (count + 17) / 18
+}
+
+// Blocks before the open writes, where a desk's cells take c.
+fn cells_end(n: usize, c: usize) -> usize
+    requires { ⌜ (n ≤ places) × (c ≤ 3) ⌝ }
+    ensures { λ r. ⌜ (r ≡ 1 + n + c * n) × (r ≤ 33) ⌝ }
+{
+    1 + n + c * n
+}
+
+fn length_of(n: usize, m: usize, count: usize) -> usize
+    requires { ⌜ (n ≤ places) × ((m ≤ desk-cells) × (count ≤ 524288)) ⌝ }
+    ensures { λ r. ⌜ r ≡ 512 * (1 + n + perDesk m * n + (count + 17) / 18) ⌝ }
+{
+    let c = per_desk(m);
+    let k = cells_end(n, c);
+    BLOCK * (k + open_blocks(count))
+}
+
+// How long the image of a table is that keeps the rules: the counts tell.
+fn image_length(core: Core) -> usize
+    requires { ⌜ (core .n ≤ places) × (core .m ≤ desk-cells) ⌝ }
+    ensures { λ r. ⌜ r ≡ 512 * (1 + core .n + perDesk (core .m) * core .n + (length (counted (core .n) (appliedM (core .desks))) + 17) / 18) ⌝ }
+{
+    let n = core.n;
+    let m = core.m;
+    let desks = core.desks;
+    let count = open_count(desks, n);
+    length_of(n, m, count)
+}
+
+// The image of a table that keeps the rules, into a buffer that is long enough. The result is the image's length.
+fn save_parts(core: Core, cells: &[u16; PLACES * CELLS * CELL], opens: &[u16; OPENS * OPEN], out: &mut [u8]) -> usize
+    requires { ⌜ Sound (core .n) (core .m) (core .desks) (now cells) (now opens) ⌝ }
+    requires { ⌜ length (encode (model (core .n) (core .m) (core .desks) (now cells) (now opens))) ≤ length (now out) ⌝ }
+    ensures { λ r. ⌜ Saved (model (core .n) (core .m) (core .desks) (now (cells .entry)) (now (opens .entry))) (now (out .entry)) (now (out .exit)) r ⌝ }
+{
+    let n = core.n;
+    let m = core.m;
+    let desks = core.desks;
+    let mut order = [0usize; OPENS];
+    let count = order_all(opens, desks, n, &mut order);
+    let c = per_desk(m);
+    let k = cells_end(n, c);
+    let d = open_blocks(count);
+    let b = size_block(n as u16, m as u16, count as u16);
+    store(out, 0, b);
+    save_desks(out, desks, n);
+    save_cells(out, cells, n, c);
+    save_opens(out, k, opens, &order, count, d);
+    BLOCK * (k + d)
 }

@@ -68,7 +68,7 @@ loop-again c = let L = (c .before .before .before .before .before .loop) in let 
 -- src/lib.rt:360:1
 returns : tie.Need-returns Inv-loop μ-loop
 unfolding counted
-returns c = let L = (c .before .loop) in let e : L .u ≡ c .before .before .args .n = omega arith in L .inv .1 .0 ∙ rw e
+returns c = let L = (c .before .loop) in let d = (c .before .before .pre) in let e : L .u ≡ c .before .before .args .n = omega arith in (L .inv .1 .0 ∙ rw e, omega arith)
 
 pub open-count-spec : {M : Type 1} → statement M
 open-count-spec =
