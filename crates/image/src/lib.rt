@@ -9,7 +9,7 @@ ghost use Rattle.laws.specs.Cat.{cat};
 ghost use Rattle.clock.specs.Vectors.{places, place};
 ghost use Rattle.image.specs.Check.{checkOf};
 ghost use Rattle.image.specs.Encode.{word, long, words, markBytes, deskBytes, block, perDesk, encode};
-ghost use Rattle.image.specs.Fill.{pad};
+ghost use Rattle.image.specs.Sound.{rightCheck, sound};
 ghost use Rattle.image.specs.Block.{head, cellRaw, openRaw, SmallCell, SmallOpen};
 ghost use Rattle.image.specs.Parts.{CellsFit, CellFor, cellPiece, cellBlock, cellRow, deskBlock, OrderFits, OpenFor, openPiece, openBlock};
 ghost use Rattle.machine.specs.Rules.{In};
@@ -73,6 +73,42 @@ fn seal(b: &mut [u8; BLOCK])
     b[CHECK + 1] = (c / 256 % 256) as u8;
     b[CHECK + 2] = (c / 65536 % 256) as u8;
     b[CHECK + 3] = (c / 16777216) as u8;
+}
+
+// Is the check that stands in a block its own?
+fn right(b: &[u8]) -> bool
+    requires { ⌜ length (now b) ≡ 512 ⌝ }
+    ensures { λ r. ⌜ r ≡ rightCheck (now (b .entry)) ⌝ }
+{
+    let c0 = wide(b[CHECK]);
+    let c1 = wide(b[CHECK + 1]);
+    let c2 = wide(b[CHECK + 2]);
+    let c3 = wide(b[CHECK + 3]);
+    c0 + 256 * c1 + 65536 * c2 + 16777216 * c3 == check(b)
+}
+
+// Is the length a nonzero multiple of 512, and every block's check right? (Else 12.)
+pub fn sound_image(b: &[u8]) -> bool
+    ensures { λ r. ⌜ r ≡ sound (now (b .entry)) ⌝ }
+{
+    let n = b.len();
+    if n == 0 {
+        return false;
+    }
+    if n % BLOCK != 0 {
+        return false;
+    }
+    let count = n / BLOCK;
+    let mut k = 0;
+    while k < count {
+        let at = BLOCK * k;
+        let e = at + BLOCK;
+        if !right(&b[at..e]) {
+            return false;
+        }
+        k += 1;
+    }
+    true
 }
 
 // Fields of a block --
