@@ -473,7 +473,7 @@ fn cells_end(n: usize, c: usize) -> usize
     1 + n + c * n
 }
 
-fn length_of(n: usize, m: usize, count: usize) -> usize
+pub fn length_of(n: usize, m: usize, count: usize) -> usize
     requires { ⌜ (n ≤ places) × ((m ≤ desk-cells) × (count ≤ 524288)) ⌝ }
     ensures { λ r. ⌜ r ≡ 512 * (1 + n + perDesk m * n + (count + 17) / 18) ⌝ }
 {
@@ -483,7 +483,7 @@ fn length_of(n: usize, m: usize, count: usize) -> usize
 }
 
 // How long the image of a table is that keeps the rules: the counts tell.
-fn image_length(core: Core) -> usize
+pub fn image_length(core: Core) -> usize
     requires { ⌜ (core .n ≤ places) × (core .m ≤ desk-cells) ⌝ }
     ensures { λ r. ⌜ r ≡ 512 * (1 + core .n + perDesk (core .m) * core .n + (length (counted (core .n) (appliedM (core .desks))) + 17) / 18) ⌝ }
 {
@@ -495,7 +495,7 @@ fn image_length(core: Core) -> usize
 }
 
 // The image of a table that keeps the rules, into a buffer that is long enough. The result is the image's length.
-fn save_parts(core: Core, cells: &[u16; PLACES * CELLS * CELL], opens: &[u16; OPENS * OPEN], out: &mut [u8]) -> usize
+pub fn save_parts(core: Core, cells: &[u16; PLACES * CELLS * CELL], opens: &[u16; OPENS * OPEN], out: &mut [u8]) -> usize
     requires { ⌜ Sound (core .n) (core .m) (core .desks) (now cells) (now opens) ⌝ }
     requires { ⌜ length (encode (model (core .n) (core .m) (core .desks) (now cells) (now opens))) ≤ length (now out) ⌝ }
     ensures { λ r. ⌜ Saved (model (core .n) (core .m) (core .desks) (now (cells .entry)) (now (opens .entry))) (now (out .entry)) (now (out .exit)) r ⌝ }
