@@ -15,6 +15,7 @@ pub mod Tells
 pub mod Shape
 pub mod Load
 pub mod Counted
+pub mod Distinct
 pub mod Order
 pub mod Saved
 pub mod Examples
