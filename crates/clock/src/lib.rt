@@ -89,7 +89,7 @@ pub fn readiness(a: [u16; PLACES], v: [u16; PLACES], u: usize) -> Wait
 }
 
 // Are the counts at least the vector at every place? (No early exit: this is asked of every held write.)
-fn covers(a: [u16; PLACES], v: [u16; PLACES]) -> bool
+pub fn covers(a: [u16; PLACES], v: [u16; PLACES]) -> bool
     ensures { λ r. ⌜ r ≡ coversAll a v ⌝ }
 {
     let mut over = false;

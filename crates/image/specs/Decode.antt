@@ -19,7 +19,7 @@ use Rattle.laws.specs.Each.{each-in, getD-map-in}
 use Rattle.machine.specs.Table.{most-desks, Vec, zeros, Name, name, Cell, blank, set, Open, State, written}
 use Rattle.machine.specs.Steps.{within, isNone, isOpen, openCount}
 use Rattle.machine.specs.Rules.{In, Flat, Below, Issued, Rules}
-use Rattle.image.specs.Within.{says-within}
+use Rattle.machine.specs.Within.{says-within}
 use Rattle.image.specs.Names.{names, no-name, length-names, OpenName, names-open, open-named}
 use Rattle.image.specs.Encode.{words, deskBytes, cellBytes, openBytes, block, named, cellPart, openPart, perDesk, openBlocks, encode}
 use Rattle.image.specs.Fields.{vecOf, cellOf, openOf, writerIn, numberIn, vec-words, cell-set, cell-blank, open-back, writer-back, number-back, length-words, vector-part, rest-part}

@@ -18,7 +18,7 @@ use Rattle.image.specs.Names.{names, namesOf}
 use Rattle.image.specs.Check.{checkOf}
 use Rattle.image.specs.Encode.{words, markBytes, deskBytes, cellBytes, openBytes, block, cellPart, openPart, perDesk, openBlocks, encode}
 use Rattle.image.specs.Sound.{checkIn, sound}
-use Rattle.image.specs.Keeps.{keeps}
+use Rattle.machine.specs.Keeps.{keeps}
 use Rattle.image.specs.Load.{refused, load}
 
 -- "A fresh table of n = 1, m = 1 is 3 blocks, and its first check is 15."

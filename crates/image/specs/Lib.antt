@@ -1,4 +1,3 @@
-pub mod Within
 pub mod Names
 pub mod Check
 pub mod Encode
@@ -10,8 +9,6 @@ pub mod Parts
 pub mod Decode
 pub mod Bytes
 pub mod Sound
-pub mod Keeps
-pub mod Tells
 pub mod Shape
 pub mod Load
 pub mod Counted

@@ -13,8 +13,8 @@ use Rattle.machine.specs.Rules.{Rules}
 use Rattle.image.specs.Encode.{encode}
 use Rattle.image.specs.Decode.{decode, decode-encode, one-table}
 use Rattle.image.specs.Sound.{Sound, Damaged, sound, says-sound, sound-encode}
-use Rattle.image.specs.Keeps.{keeps}
-use Rattle.image.specs.Tells.{says-rules}
+use Rattle.machine.specs.Keeps.{keeps}
+use Rattle.machine.specs.Tells.{says-rules}
 use Rattle.image.specs.Shape.{shaped}
 
 pub data Loaded : Type 0 where

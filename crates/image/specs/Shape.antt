@@ -16,11 +16,11 @@ use Rattle.laws.specs.Cat.{part}
 use Rattle.machine.specs.Table.{most-desks, Vec, zeros, Cell, blank, set, Open}
 use Rattle.machine.specs.Steps.{within}
 use Rattle.machine.specs.Rules.{In, Flat, Rules}
-use Rattle.image.specs.Within.{says-within}
+use Rattle.machine.specs.Within.{says-within}
 use Rattle.image.specs.Fields.{vecOf, marksOf, cellOf, openOf}
 use Rattle.image.specs.Decode.{nIn, mIn, deskPlace, cellPlace, deskIn, cellIn, entriesIn, bears, opensIn, decode}
-use Rattle.image.specs.Keeps.{keeps, Shaped}
-use Rattle.image.specs.Tells.{says-rules}
+use Rattle.machine.specs.Keeps.{keeps, Shaped}
+use Rattle.machine.specs.Tells.{says-rules}
 
 row-flat : (f : ℕ → ℕ) → Flat most-desks (from1 0 most-desks f)
 row-flat f = from1-all 0 8 f (λ t v. 1 ≤ v → In 8 t) (λ t h _. (omega arith, h)) (λ t _ l. absurd (omega arith))

@@ -1,7 +1,7 @@
 -- More of what a test says (Says): of an implication, of the numbers 1 to n, of two lists.
 use Prim.Native.Nat.{ℕ, _≤_}
-use mathlib.Core.Path.{_≡_, refl}
-use mathlib.Core.Bool.{Bool, true, false, _&&_}
+use mathlib.Core.Path.{_≡_, refl, sym}
+use mathlib.Core.Bool.{Bool, true, false, not, _&&_}
 use mathlib.Core.List.{List, [], _∷_}
 use native.Mathlib.Omega.{arith}
 use lib.Dec.{eqb}
@@ -11,6 +11,15 @@ use Rattle.laws.specs.Says.{Says, says-both, says-if, says-as, says-eqb,
 
 pub says-yes : Says true Unit
 says-yes = record { to = λ e. tt; from = λ h. refl }
+
+pub says-false : (b : Bool) → Says (not b) (b ≡ false)
+says-false true = record { to = λ e. sym e; from = λ e. sym e }
+says-false false = record { to = λ e. refl; from = λ e. refl }
+
+-- b, but where a holds
+pub says-unless : {Q : Type 0} (a b : Bool) → (a ≡ false → Says b Q) → Says (pick a true b) (a ≡ false → Q)
+says-unless true b f = record { to = λ e q. clash (sym q); from = λ g. refl }
+says-unless false b f = record { to = λ e q. f refl .to e; from = λ g. f refl .from (g refl) }
 
 -- where a holds, b
 abbrev pub where? : Bool → Bool → Bool

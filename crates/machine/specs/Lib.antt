@@ -3,6 +3,9 @@ pub mod Answer
 pub mod Steps
 pub mod Refusals
 pub mod Rules
+pub mod Within
+pub mod Keeps
+pub mod Tells
 pub mod Blanks
 pub mod Session
 pub mod Example

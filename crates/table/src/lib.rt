@@ -268,7 +268,7 @@ fn start(u: usize, k: u16) -> usize
 }
 
 // Does entry e hold write k of desk u (from 1)?
-fn holds(opens: &[u16; OPENS * OPEN], e: usize, u: usize, k: u16) -> bool
+pub fn holds(opens: &[u16; OPENS * OPEN], e: usize, u: usize, k: u16) -> bool
     requires { ⌜ (e < entries) × (In places u) ⌝ }
     ensures { λ r. ⌜ r ≡ namedAt (now (opens .entry)) u k e ⌝ }
 {
@@ -352,7 +352,7 @@ fn inside(n: usize, i: usize) -> bool
     i <= n
 }
 
-fn begins(n: usize, m: usize) -> bool
+pub fn begins(n: usize, m: usize) -> bool
     ensures { λ r. ⌜ r ≡ begins n m ⌝ }
 {
     if inside(PLACES, n) {

@@ -6,10 +6,10 @@ use mathlib.Core.Option.{Option, none, some}
 use native.Mathlib.Omega.{arith}
 use Rattle.laws.specs.Update.{same-or}
 use Rattle.laws.specs.Says.{Says, says-as, clash}
 use Rattle.machine.specs.Table.{most-desks, most-writes, Vec, Cell, blank, set, done, Open, State, written}
 use Rattle.machine.specs.Steps.{isNone}
 use Rattle.machine.specs.Rules.{In, Flat, Below, Ranges, Counts, Clocks, SetCell, Lacks, ToBeOpen, OpenWrite, Rules}
-use Rattle.image.specs.Keeps.{BelowAt, CellAt, MarkAt, WriteAt, OpenAt, Kept, keeps, says-keeps, Shaped}
+use Rattle.machine.specs.Keeps.{BelowAt, CellAt, MarkAt, WriteAt, OpenAt, Kept, keeps, says-keeps, Shaped}
 
 -- what is above 0 only where P holds keeps a bound that P gives
 bounded : {P : Type 0} (a b : ℕ) → (1 ≤ a → P) → (P → a ≤ b) → a ≤ b

@@ -1,6 +1,6 @@
 -- The rules as one test of a table that was read: desks 1 to n, places 1 to 8, cells 1 to m, the writes that each desk has made.
 use Prim.Native.Nat.{ℕ, _≤_}
-use mathlib.Core.Path.{_≡_, refl, sym}
+use mathlib.Core.Path.{_≡_}
 use mathlib.Core.Bool.{Bool, true, false, not, _&&_}
 use mathlib.Core.Option.{Option, none, some}
 use native.Mathlib.Omega.{arith}
@@ -8,11 +8,11 @@ use borrow.Author.Tests.{not-true, leb-false}
 use lib.Dec.{eqb, leb}
 use Rattle.laws.specs.All.{all}
 use Rattle.laws.specs.Says.{Says, says-leb, says-eqb, says-not, says-as, all-not, says-both}
-use Rattle.laws.specs.Tests.{says-yes, where?, says-where, alike, says-alike, says-each}
+use Rattle.laws.specs.Tests.{says-yes, says-false, where?, says-where, alike, says-alike, says-each}
 use Rattle.machine.specs.Table.{most-desks, most-cells, most-open, most-writes, most-status, Vec, Cell, blank, set, held, done, Open, State, written}
 use Rattle.machine.specs.Steps.{within, ready, openCount}
 use Rattle.machine.specs.Rules.{In, Flat, Lacks}
-use Rattle.image.specs.Within.{says-within}
+use Rattle.machine.specs.Within.{says-within}
 
 -- "ranges as above"
 abbrev pub Sizes : State → Type 0
@@ -98,10 +98,6 @@ markAt s u k w i =
     && (where? (leb i (s .desks)) (alike (eqb (w .marks i) done) (leb k (s .applied i u)))
     && (where? (eqb (w .marks i) done) (belowAt (w .vector) (s .applied i))
     && where? (eqb (w .marks i) held) (not (ready (s .desks) (s .applied i) u (w .vector))))))
-
-says-false : (b : Bool) → Says (not b) (b ≡ false)
-says-false true = record { to = λ e. sym e; from = λ e. sym e }
-says-false false = record { to = λ e. refl; from = λ e. refl }
 
 says-mark : (s : State) (u k : ℕ) (w : Open) (i : ℕ) → Says (markAt s u k w i) (MarkAt s u k w i)
 says-mark s u k w i =

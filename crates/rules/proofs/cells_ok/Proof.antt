@@ -1,0 +1,66 @@
+use mathlib.Core.Path.{_≡_, sym, _∙_}
+use Prim.Native.Nat.{_≤_, _-_, _+_, _*_}
+use Rattle.laws.specs.All.{all, all-fails, all-next, all-end}
+use borrow.Author.Tests.{not-true, not-false}
+use Rattle.table.specs.Value.{desk-cells, cellAt}
+use Rattle.rules.specs.Test.{cellTest, cellsTest}
+use borrow.Author.Needs.{needs}
+use Rattle.rules.proofs.cells_ok.Statement.{statement}
+use Rattle.rules.proofs.cells_ok.Tie as tie
+
+abbrev Inv-loop : tie.InvT-loop
+Inv-loop n m a i cells x₀ x = (x ≤ desk-cells) × (all (λ y. cellTest n m a y (cellAt cells (i * desk-cells + y))) (desk-cells - x) x ≡ cellsTest n m a i cells)
+
+abbrev μ-loop : tie.MeasureT-loop
+μ-loop n m a i cells x₀ x = desk-cells - x
+
+loop-holds : tie.Need-loop-holds Inv-loop μ-loop
+unfolding cellsTest
+loop-holds c = search needs
+
+mul-cell-at : tie.Need-mul-cell-at Inv-loop μ-loop
+mul-cell-at c = search needs
+
+add-cell-at : tie.Need-add-cell-at Inv-loop μ-loop
+add-cell-at c = search needs
+
+cell-at-requires : tie.Need-cell-at-requires Inv-loop μ-loop
+cell-at-requires c κs = search needs
+
+cell-ok-requires : tie.Need-cell-ok-requires Inv-loop μ-loop
+cell-ok-requires c κs = search needs
+
+returns : tie.Need-returns Inv-loop μ-loop
+returns c = let L = c .before .before .before .before .loop in
+    sym (all-fails _ desk-cells (L .x) (search needs) (rw (← c .before .before .cell-at .ensures) (sym (c .before .cell-ok .ensures) ∙ not-true _ (c .if1 .taken)))) ∙ L .inv .1
+
+add-x : tie.Need-add-x Inv-loop μ-loop
+add-x c = search needs
+
+loop-less : tie.Need-loop-less Inv-loop μ-loop
+loop-less c = search needs
+
+loop-again : tie.Need-loop-again Inv-loop μ-loop
+loop-again c = let L = c .before .before .before .before .loop in
+    (search needs, sym (all-next _ desk-cells (L .x) (search needs) (rw (← c .before .before .cell-at .ensures) (sym (c .before .cell-ok .ensures) ∙ not-false _ (c .if1 .left)))) ∙ L .inv .1)
+
+returns-2 : tie.Need-returns-2 Inv-loop μ-loop
+returns-2 c = let L = c .before .loop in
+    sym (all-end _ desk-cells (L .x) (search needs)) ∙ L .inv .1
+
+pub cells-ok-spec : {M : Type 1} → statement M
+cells-ok-spec =
+    tie.close
+    (tie.spec
+    Inv-loop
+    μ-loop
+    loop-holds
+    mul-cell-at
+    add-cell-at
+    cell-at-requires
+    cell-ok-requires
+    returns
+    add-x
+    loop-less
+    loop-again
+    returns-2)

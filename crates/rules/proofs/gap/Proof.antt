@@ -1,0 +1,42 @@
+use mathlib.Core.Path.{_≡_, sym, _∙_}
+use borrow.Author.Tests.{not-true, not-false}
+use Rattle.rules.specs.Gap.{gap-here, gap-down, gap-zero}
+use Rattle.rules.specs.Test.{has, gapOf}
+use borrow.Author.Needs.{needs}
+use Rattle.rules.proofs.gap.Statement.{statement}
+use Rattle.rules.proofs.gap.Tie as tie
+
+abbrev Inv-loop : tie.InvT-loop
+Inv-loop opens u most k₀ k = gapOf (has opens u) k ≡ gapOf (has opens u) most
+
+abbrev μ-loop : tie.MeasureT-loop
+μ-loop opens u most k₀ k = k
+
+loop-holds : tie.Need-loop-holds Inv-loop μ-loop
+loop-holds c = search needs
+
+has-requires : tie.Need-has-requires Inv-loop μ-loop
+has-requires c κs = search needs
+
+returns : tie.Need-returns Inv-loop μ-loop
+returns c = let L = c .before .before .before .loop in
+    sym (gap-here _ (L .k) (search needs) (sym (c .before .has .ensures) ∙ not-true _ (c .if1 .taken))) ∙ L .inv
+
+sub-k : tie.Need-sub-k Inv-loop μ-loop
+sub-k c = search needs
+
+loop-less : tie.Need-loop-less Inv-loop μ-loop
+loop-less c = search needs
+
+loop-again : tie.Need-loop-again Inv-loop μ-loop
+loop-again c = let L = c .before .before .before .loop in
+    sym (gap-down _ (L .k) (search needs) (sym (c .before .has .ensures) ∙ not-false _ (c .if1 .left))) ∙ L .inv
+
+returns-2 : tie.Need-returns-2 Inv-loop μ-loop
+returns-2 c = let L = c .before .loop in
+    sym (gap-zero _ (L .k) (search needs)) ∙ L .inv
+
+pub gap-spec : {M : Type 1} → statement M
+gap-spec =
+    tie.close
+    (tie.spec Inv-loop μ-loop loop-holds has-requires returns sub-k loop-less loop-again returns-2)

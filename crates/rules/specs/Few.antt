@@ -1,0 +1,57 @@
+-- At most as many writes are open as there are entries: each entry has one name.
+use Prim.Native.Nat.{ℕ, suc, _≤_}
+use mathlib.Core.Path.{_≡_, sym, _∙_}
+use mathlib.Core.List.{List, [], _∷_}
+use mathlib.Core.Bool.{Bool, true, false, not}
+use native.Mathlib.Omega.{arith}
+use lib.ListN.{length}
+use Rattle.laws.specs.Sum.{sum, one, tally, sum-le, sum-same, sum-zero, sum-one-le}
+use Rattle.laws.specs.Find.{firstOf}
+use Rattle.machine.specs.Table.{most-open}
+use Rattle.machine.specs.Steps.{isNone, openCount}
+use Rattle.table.specs.declared.Desk.{Desk}
+use Rattle.table.specs.declared.Open.{Open}
+use Rattle.table.specs.Value.{entriesOf, length-entriesOf}
+use Rattle.table.specs.Names.{number, named, not-named}
+use Rattle.table.specs.Model.{openM, opensM, model, appliedM}
+
+-- the names u.1 .. u.(w u) of u up to n that the entries hold
+abbrev found : List Open → ℕ → ℕ → Bool
+found l u k = not (isNone (firstOf (named u k) openM l))
+
+names : List Open → ℕ → (ℕ → ℕ) → ℕ
+names l n w = sum n (λ u. tally (w u) (found l u))
+
+-- one more entry: one name more at most
+one-more : (x : Open) (l : List Open) (u k : ℕ) → one (found (x ∷ l) u k) ≤ suc (one (found l u k))
+one-more x l u k = small (found (x ∷ l) u k) (one (found l u k))
+  where
+    small : (b : Bool) (n : ℕ) → one b ≤ suc n
+    small true n = omega arith
+    small false n = omega arith
+
+other-name : (x : Open) (l : List Open) (u k : ℕ) → (x .writer ≡ u → number x ≡ k → ⊥) → one (found (x ∷ l) u k) ≤ one (found l u k)
+unfolding firstOf
+other-name x l u k ne = rw (not-named x u k ne) (omega arith)
+
+names-few : (l : List Open) (n : ℕ) (w : ℕ → ℕ) → names l n w ≤ length l
+unfolding names firstOf
+names-few [] n w =
+    let z : names [] n w ≡ 0 = sum-same n (λ u. 0) (λ u. tally (w u) (found [] u)) (λ u _ _. none-there u) ∙ sum-zero n in omega arith
+  where
+    none-there : (u : ℕ) → tally (w u) (found [] u) ≡ 0
+    none-there u = sum-zero (w u)
+names-few (x ∷ l) n w =
+    let ih = names-few l n w in
+    let s : names (x ∷ l) n w ≤ suc (names l n w) =
+    sum-one-le n (λ u. tally (w u) (found l u)) (λ u. tally (w u) (found (x ∷ l) u)) (x .writer)
+    (sum-one-le (w (x .writer)) (λ k. one (found l (x .writer) k)) (λ k. one (found (x ∷ l) (x .writer) k)) (number x)
+    (one-more x l (x .writer) (number x))
+    (λ k ne. other-name x l (x .writer) k (λ _ q. ne (sym q))))
+    (λ u ne. sum-le (w u) (λ k. one (found (x ∷ l) u k)) (λ k. one (found l u k)) (λ k _ _. other-name x l u k (λ p _. ne (sym p)))) in
+    omega arith
+
+-- "at most 64 are open"
+pub few : (n m : ℕ) (ds : List Desk) (cs os : List ℕ) → openCount (model n m ds cs os) ≤ most-open
+unfolding openCount opensM names
+few n m ds cs os = omega (arith, names-few (entriesOf os) n (λ u. appliedM ds u u), length-entriesOf os)

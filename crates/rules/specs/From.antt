@@ -1,0 +1,144 @@
+-- A table value that keeps the rules passes the test.
+use Prim.Native.Nat.{ℕ, zero, suc, _+_, _*_, _<_, _≤_}
+use mathlib.Core.Path.{_≡_, ap, _∙_}
+use mathlib.Core.List.{List}
+use mathlib.Core.Option.{Option, some}
+use mathlib.Core.Bool.{true, false, not}
+use native.Mathlib.Omega.{arith}
+use borrow.Author.Tests.{ltb-true, ltb-false, ne-eqb}
+use lib.ListN.{getD}
+use lib.Dec.{eqb, ltb}
+use Rattle.laws.specs.Loop.{cases}
+use Rattle.laws.specs.All.{all-fails-at}
+use Rattle.laws.specs.Tab.{getD-tab, getD-tab-out}
+use Rattle.laws.specs.Update.{same-or}
+use Rattle.laws.specs.Says.{apart}
+use Rattle.machine.specs.Table.{held, done, State}
+use Rattle.machine.specs.Table as machine
+use Rattle.machine.specs.Steps.{isNone, everywhere, ready}
+use Rattle.machine.specs.Rules.{Flat, ToBeOpen, OpenWrite}
+use Rattle.clock.specs.Vectors.{places, place}
+use Rattle.clock.specs.Readiness.{readyAt, ready-narrow}
+use Rattle.table.specs.declared.Desk.{Desk}
+use Rattle.table.specs.declared.Open.{Open}
+use Rattle.table.specs.Value.{desk0, desk-cells, entries, cellAt, openAt, isFree}
+use Rattle.table.specs.Shape.{DesksShape}
+use Rattle.table.specs.Names.{number, namedAt, own-named}
+use Rattle.table.specs.Model.{appliedM, clockM, openM, opensM, model}
+use Rattle.table.specs.Opens.{lone, opens-at}
+use Rattle.table.specs.Sound.{Sound}
+use Rattle.rules.specs.Test.{owns, has, gapAt, gaps}
+use Rattle.rules.specs.Gap.{gap-most, gap-not}
+use Rattle.rules.specs.Parts.{UsedGood, EntriesGood, CountsGood, CellGood, MarkGood, DesksGood}
+use Rattle.rules.specs.Box.{own-is, at-set}
+
+module _ (n m : ℕ) (ds : List Desk) (cs os : List ℕ) (sh : DesksShape ds) (so : Sound n m ds cs os) where
+  abbrev s : State
+  s = model n m ds cs os
+
+  -- an entry in use
+  module _ (e : ℕ) (h : e < entries) (f : isFree (openAt os e) ≡ false) where
+    own : namedAt os (openAt os e .writer) (number (openAt os e)) e ≡ true
+    own = own-named (openAt os e) f
+
+    at-name : opensM os (openAt os e .writer) (number (openAt os e)) ≡ some (openM (openAt os e))
+    at-name = opens-at os e (openAt os e .writer) (number (openAt os e)) (so .unique) h own
+
+    due : ToBeOpen s (openAt os e .writer) (number (openAt os e))
+    due = so .rules .frame .open-exactly (openAt os e .writer) (number (openAt os e)) .0 (ap (λ (w : Option machine.Open). not (isNone w)) at-name)
+
+    right : OpenWrite s (openAt os e .writer) (number (openAt os e)) (openM (openAt os e))
+    right = so .rules .frame .open-write (openAt os e .writer) (number (openAt os e)) (openM (openAt os e)) at-name
+
+    lacking : everywhere n (openM (openAt os e)) ≡ false
+    unfolding everywhere
+    lacking =
+        let l = due .lacks in
+        all-fails-at (λ t. eqb (place (openAt os e .marks) t) done) n 1 (l .desk) (l .desk-in .0) (omega (arith, l .desk-in .1))
+        (ne-eqb (place (openAt os e .marks) (l .desk)) done (λ q. (omega (arith, l .lower, right .marked (l .desk) (l .desk-in) .0 q))))
+
+    used-from : UsedGood n m (owns ds) os e (openAt os e)
+    used-from =
+        record {
+          writer = due .writer .1;
+          cell = right .cell;
+          status = right .status-in;
+          first = due .number .0;
+          vector = λ t. omega (arith, right .issued t, own-is ds sh t);
+          lacks = lacking;
+          last = λ j l hj. lone os e (openAt os e .writer) (number (openAt os e)) (so .unique) h own j hj (λ q. (omega arith));
+        }
+
+    -- its mark at desk i
+    vector-flat : Flat n (place (openAt os e .vector))
+    vector-flat t l = so .rules .frame .counts .inside t t (omega (arith, right .issued t)) .0
+
+    mark-from : (i : ℕ) → MarkGood n (getD ds i desk0 .applied) i (openAt os e)
+    unfolding appliedM
+    mark-from i =
+        record {
+          past = λ ne. same-or p 0 (λ q. q) (λ q. absurd (ne (right .marks-flat (suc i) (omega arith) .1)));
+          applied = λ l q. (let z = right .marked (suc i) (omega arith, l) .1 q in (z, right .below (suc i) z));
+          waits = λ l ne nz.
+              let two : p ≡ done → ⊥ = (λ q. ne (right .marked (suc i) (omega arith, l) .0 q)) in
+              let z : p ≡ held = omega (arith, right .marks-in (suc i)) in
+              (z, narrow ∙ so .rules .quiet (suc i) u (number (openAt os e)) (openM (openAt os e)) at-name z);
+        }
+      where
+        p : ℕ
+        p = getD (openAt os e .marks) i 0
+
+        u : ℕ
+        u = openAt os e .writer
+
+        narrow : readyAt (getD ds i desk0 .applied) (openAt os e .vector) u ≡ ready n (place (getD ds i desk0 .applied)) u (place (openAt os e .vector))
+        narrow = ready-narrow n places (place (getD ds i desk0 .applied)) u (place (openAt os e .vector)) vector-flat (due .writer .1) (so .rules .frame .ranges .desks .1)
+
+  pub entries-from : EntriesGood n m (owns ds) os
+  entries-from e h f = used-from e h f
+
+  -- the latest write that is not open has been applied at each of the n desks
+  gap-from : (i : ℕ) → i < n → (t : ℕ) → place (gaps (owns ds) os) t ≤ s .applied (suc i) t
+  unfolding gaps
+  gap-from i l zero = omega arith
+  gap-from i l (suc t) =
+      cases (ltb t places)
+      (λ b. let v : place (gaps (owns ds) os) (suc t) ≡ gapAt (owns ds) os t = getD-tab (gapAt (owns ds) os) places t 0 (ltb-true t places b) in
+      cases (ltb (s .applied (suc i) (suc t)) (gapAt (owns ds) os t))
+      (λ q. absurd (missing (ltb-true _ _ q)))
+      (λ q. omega (arith, ltb-false (s .applied (suc i) (suc t)) (gapAt (owns ds) os t) q)))
+      (λ b. omega (arith, getD-tab-out (gapAt (owns ds) os) places t 0 (ltb-false t places b)))
+    where
+      missing : s .applied (suc i) (suc t) < gapAt (owns ds) os t → ⊥
+      missing q =
+          let k = gapAt (owns ds) os t in
+          let b : k ≤ s .applied (suc t) (suc t) = omega (arith, gap-most (has os (suc t)) (getD (owns ds) t 0), own-is ds sh (suc t)) in
+          let w = so .rules .frame .counts .inside (suc t) (suc t) (omega arith) in
+          apart (has os (suc t) k)
+          (so .rules .frame .open-exactly (suc t) k .1 (record { writer = w .0; number = (omega arith, b); lacks = record { desk = suc i; desk-in = (omega arith, l); lower = q } }))
+          (gap-not (has os (suc t)) (getD (owns ds) t 0) (omega arith))
+
+  counts-from : (i : ℕ) → CountsGood n (owns ds) (gaps (owns ds) os) i (getD ds i desk0)
+  unfolding appliedM clockM
+  counts-from i =
+      record {
+        most = λ t. omega (arith, so .rules .frame .counts .most (suc i) t, own-is ds sh t);
+        below = so .rules .frame .clocks .below (suc i);
+        same = so .rules .frame .clocks .own (suc i);
+        live = gap-from i;
+        past = λ ne t. same-or (place (getD ds i desk0 .applied) t) 0 (λ q. q) (λ q. absurd (ne (so .rules .frame .counts .inside (suc i) t (omega arith) .0 .1)));
+      }
+
+  cell-from : (i x : ℕ) → i < places → x < desk-cells → CellGood n m (getD ds i desk0 .applied) x (cellAt cs (i * desk-cells + x))
+  unfolding appliedM
+  cell-from i x hi hx =
+      record {
+        unset = so .blanks (i * desk-cells + x) (omega arith);
+        isSet = λ ne.
+            let c = cellAt cs (i * desk-cells + x) in
+            let g = so .rules .frame .cell (suc i) (suc x) (c .status) (c .writer) (place (c .vector)) (at-set cs i x hi hx ne) in
+            record { cell = g .cell .1; writer = g .writer-in .1; status = g .status-in; first = g .first; vector = g .below };
+      }
+
+  pub desks-from : DesksGood n m (owns ds) (gaps (owns ds) os) ds cs os
+  desks-from i h = record { counts = counts-from i; cells = λ x. cell-from i x h; marks = λ e l f. mark-from e l f i }

@@ -1,0 +1,47 @@
+-- Laws that the code cites.
+use Prim.Native.Nat.{ℕ, zero, suc, _≤_}
+use mathlib.Core.Path.{_≡_, refl, sym, ap}
+use mathlib.Core.List.{List}
+use mathlib.Core.Option.{Option, none, some}
+use mathlib.Core.Bool.{true, false, not}
+use native.Mathlib.Omega.{arith}
+use lib.ListN.{getD}
+use Rattle.laws.specs.Says.{apart, says-and, says-leb}
+use Rattle.machine.specs.Steps.{isNone, begins}
+use Rattle.clock.specs.Vectors.{places}
+use Rattle.machine.specs.Table.{most-writes}
+use Rattle.machine.specs.Table as machine
+use Rattle.table.specs.declared.Found.{Found}
+use Rattle.table.specs.declared.Found.the-variants.{At, Nothing}
+use Rattle.table.specs.Names.{namedAt, FoundIn, found-at}
+use Rattle.table.specs.Model.{opensM}
+use Rattle.table.specs.Opens.{opens-not, found-none}
+use Rattle.table.specs.declared.Desk.{Desk}
+use Rattle.table.specs.declared.Open.{Open}
+use Rattle.rules.specs.Test.{has, owns, rangesTest}
+use Rattle.rules.specs.Parts.{says-begins}
+use Rattle.rules.specs.To.{Fit}
+
+-- what a search by name says
+module _ (os : List ℕ) (u k : ℕ) (r : Found) (f : FoundIn (namedAt os u k) r) where
+  pub has-yes : (e : ℕ) → r ≡ At e → true ≡ has os u k
+  has-yes e q = let g = found-at (namedAt os u k) r e f q in held (opensM os u k) refl
+    where
+      held : (o : Option machine.Open) → opensM os u k ≡ o → true ≡ not (isNone o)
+      held none z = apart (namedAt os u k e) (found-at (namedAt os u k) r e f q .1) (opens-not os u k z e (found-at (namedAt os u k) r e f q .0))
+      held (some w) z = refl
+
+  pub has-no : r ≡ Nothing → false ≡ has os u k
+  has-no q = sym (ap (λ (o : Option machine.Open). not (isNone o)) (found-none os u k r f q))
+
+-- an entry in range has a writer within n
+pub writer-within : (n m : ℕ) (o : Open) → rangesTest n m o ≡ true → o .writer ≤ n
+unfolding rangesTest
+writer-within n m o e = says-and _ _ (says-leb (o .writer) n) (record { to = λ t. t; from = λ t. t }) .to e .0
+
+pub desks-within : (n m : ℕ) → begins n m ≡ true → n ≤ places
+desks-within n m e = says-begins n m .to e .0 .1
+
+pub fit-of : (own : List ℕ) (ds : List Desk) → own ≡ owns ds → ((t : ℕ) → getD own t 0 ≤ most-writes) → Fit ds
+fit-of own ds e h zero = omega arith
+fit-of own ds e h (suc t) = rw e at (h t)
