@@ -15,5 +15,6 @@ pub mod Counted
 pub mod Distinct
 pub mod Order
 pub mod Saved
+pub mod Saving
 pub mod Examples
 pub mod Reload

@@ -19,6 +19,7 @@ ghost use Rattle.table.specs.Sound.{Sound};
 ghost use Rattle.image.specs.Counted.{low, counted};
 ghost use Rattle.image.specs.Order.{Listed, Ordered, Known};
 ghost use Rattle.image.specs.Saved.{Saved};
+ghost use Rattle.image.specs.Saving.{Saves, savingOf};
 use clock::PLACES;
 use table::CELL;
 use table::CELLS;
@@ -29,6 +30,7 @@ use table::Found;
 use table::OPEN;
 use table::OPENS;
 use table::Open;
+use table::Table;
 
 // Bytes to a block.
 pub const BLOCK: usize = 512;
@@ -514,4 +516,28 @@ pub fn save_parts(core: Core, cells: &[u16; PLACES * CELLS * CELL], opens: &[u16
     save_cells(out, cells, n, c);
     save_opens(out, k, opens, &order, count, d);
     BLOCK * (k + d)
+}
+
+// What save answers: the image's length, or refusal 13 (Broken) or 14 (Short).
+pub enum Saving {
+    Length(usize),
+    Broken,
+    Short,
+}
+
+// A table value saved into a lent buffer: the rules first, then the buffer's length.
+pub fn save(t: Table, out: &mut [u8]) -> Saving
+    ensures { λ r. ⌜ Saves t (now (out .entry)) (now (out .exit)) (savingOf r) ⌝ }
+{
+    let core = t.core;
+    let cells = t.cells;
+    let opens = t.opens;
+    if !rules::keeps_rules(core, &cells, &opens) {
+        return Saving::Broken;
+    }
+    if out.len() < image_length(core) {
+        return Saving::Short;
+    }
+    let n = save_parts(core, &cells, &opens, out);
+    Saving::Length(n)
 }
