@@ -452,7 +452,7 @@ fn order_all(opens: &[u16; OPENS * OPEN], desks: [Desk; PLACES], n: usize, order
 // Saving --
 
 // Blocks to a desk's cells.
-fn per_desk(m: usize) -> usize
+pub fn per_desk(m: usize) -> usize
     requires { ⌜ m ≤ desk-cells ⌝ }
     ensures { λ r. ⌜ (r ≡ perDesk m) × (r ≤ 3) ⌝ }
 {

@@ -33,9 +33,10 @@ use Rattle.table.specs.Sound.{Sound, SoundTable, AllZero}
 use Rattle.table.specs.Begin.{zeros-at, place-zeros}
 use Rattle.image.specs.Names.{names, no-name, length-names, OpenName, names-open, open-named}
 use Rattle.image.specs.Distinct.{names-distinct}
-use Rattle.image.specs.Encode.{cellBytes, perDesk, openBlocks, encode}
-use Rattle.image.specs.Places.{length-encode}
-use Rattle.image.specs.Fields.{vecOf, cellOf, openOf, writerIn, numberIn}
+use native.Mathlib.Nat.{div-add-mod}
+use Rattle.image.specs.Encode.{words, cellPart, cellBytes, perDesk, openBlocks, encode}
+use Rattle.image.specs.Places.{length-encode, part-3}
+use Rattle.image.specs.Fields.{vec-words, vecOf, cellOf, openOf, writerIn, numberIn}
 use Rattle.image.specs.Decode.{nIn, mIn, countIn, deskPlace, cellPlace, openPlace, deskIn, cellIn, entryIn, decode, Shows, n-back, m-back, count-back, applied-back, clock-back, cell-back, shows-at, open-name}
 use Rattle.load.specs.Read.{wordsFrom, cellFrom, openFrom, deskFrom, noDesk, noCell, noOpen, deskFor, cellFor, openFor, Fits, CellsRead, OpensRead, getD-part, part-part, place-words, cell-read, open-read}
 
@@ -232,3 +233,96 @@ module _ (s : State) (ok : Rules s) (os : List ℕ) (read : OpensRead (encode s)
 
   pub opens-read : opensM os ≡ s .opens
   opens-read = fun-ext (λ u. fun-ext (λ k. opens-is u k (s .opens u k) refl))
+
+-- unset cells
+zero-vector : (t : ℕ) → vecOf (replicate 16 0) t ≡ 0
+unfolding words cat
+zero-vector t = ap (λ (v : Vec). v t) (vec-words zeros (λ u l. absurd (omega arith)))
+
+module _ (b : List ℕ) (p : ℕ) where
+  blank-from : part p 20 b ≡ replicate 20 0 → AllZero (cellFrom b p)
+  unfolding part
+  blank-from e =
+      record {
+        status = sym (getD-part b p 20 1 (omega arith)) ∙ ap (λ (l : List ℕ). getD l 1 0) e;
+        vector = λ t. ap (λ (v : Vec). v t) (place-words b (p + 4) ∙ ap vecOf (sym (part-part b p 4 16 20 (omega arith)) ∙ ap (λ (l : List ℕ). part 4 16 l) e)) ∙ zero-vector t;
+      }
+
+module _ (s : State) (ok : Rules s) where
+  blank-cell : (i x p : ℕ) (c : machine.Cell) → s .cell i x ≡ c → part p 20 (encode s) ≡ cellBytes c → cellFrom (encode s) p .writer ≡ 0 → AllZero (cellFrom (encode s) p)
+  unfolding cellBytes
+  blank-cell i x p machine.blank q e w = blank-from (encode s) p e
+  blank-cell i x p (machine.set v u y) q e w =
+      let z : p + 0 ≡ p = omega arith in
+      let a : getD (part p 20 (encode s)) 0 0 ≡ 0 = getD-part (encode s) p 20 0 (omega arith) ∙ rw z w in
+      let c : u ≡ 0 = sym (ap (λ (l : List ℕ). getD l 0 0) e) ∙ a in
+      absurd (omega (arith, ok .frame .cell i x v u y q .writer-in .0))
+
+  pub blanks-read : (cs : List ℕ) → CellsRead (encode s) (s .desks) (s .cells) cs → (t : ℕ) → t < all-cells → cellAt cs t .writer ≡ 0 → AllZero (cellAt cs t)
+  unfolding cellFor cellPart perDesk
+  blanks-read cs read t h w = go (decLt (t / desk-cells) (s .desks)) (decLt (t % desk-cells) (s .cells))
+    where
+      i : ℕ
+      i = t / desk-cells
+
+      x : ℕ
+      x = t % desk-cells
+
+      none-there : cellFor (encode s) (s .desks) (s .cells) t ≡ noCell → AllZero (cellAt cs t)
+      none-there e = rw (read t h ∙ e) (record { status = refl; vector = λ k. ap (λ (v : Vec). v k) (place-zeros places) })
+
+      go : Dec (t / desk-cells < s .desks) → Dec (t % desk-cells < s .cells) → AllZero (cellAt cs t)
+      go (yes a) (yes c) =
+          let p : ℕ = cellPlace (s .desks) (s .cells) (t / desk-cells) (t % desk-cells) in
+          let f : cellAt cs t ≡ cellFrom (encode s) p = read t h ∙ rw (lt-ltb (t / desk-cells) (s .desks) a, lt-ltb (t % desk-cells) (s .cells) c) in
+          let e : part p 20 (encode s) ≡ cellBytes (s .cell (suc (t / desk-cells)) (suc (t % desk-cells))) =
+          rw (div-add-mod (t % desk-cells) 25) at (part-3 s (t / desk-cells) (t % desk-cells / 25) (t % desk-cells % 25) a (omega arith) (omega arith)) in
+          rw f (blank-cell (suc (t / desk-cells)) (suc (t % desk-cells)) p (s .cell (suc (t / desk-cells)) (suc (t % desk-cells))) refl e (rw f at w))
+      go (yes a) (no c) = let l : s .cells ≤ t % desk-cells = omega arith in none-there (rw (lt-ltb (t / desk-cells) (s .desks) a, le-ltb (t % desk-cells) (s .cells) l))
+      go (no a) c = let l : s .desks ≤ t / desk-cells = omega arith in none-there (rw (le-ltb (t / desk-cells) (s .desks) l))
+
+  -- its sizes fit
+  pub fits-image : Fits (encode s)
+  unfolding openBlocks
+  fits-image =
+      record {
+        desks = rw (n-back s ok) (ok .frame .ranges .desks);
+        cells = rw (m-back s ok) (ok .frame .ranges .cells);
+        few = rw (count-back s ok) (ok .frame .ranges .few);
+        size = rw (n-back s ok, m-back s ok, count-back s ok) (length-encode s);
+      }
+
+-- a table whose parts were read from b
+pub record ReadAs (b : List ℕ) (t : Table) : Type 0 where
+  pub n-is : t .core .n ≡ nIn b
+  pub m-is : t .core .m ≡ mIn b
+  pub desks : t .core .desks ≡ tab places (deskFor b (nIn b))
+  pub cells : CellsRead b (nIn b) (mIn b) (t .cells)
+  pub opens : OpensRead b (nIn b) (mIn b) (countIn b) (t .opens)
+
+-- a reader that reads images right
+abbrev pub Reads : List ℕ → Table → Type 0
+Reads b t = (s : State) → Rules s → encode s ≡ b → (modelOf t ≡ s) × SoundTable t
+
+pub read-image : (s : State) → Rules s → (t : Table) → ReadAs (encode s) t → (modelOf t ≡ s) × SoundTable t
+read-image s ok t h =
+    let n8 = ok .frame .ranges .desks .1 in
+    let m64 = ok .frame .ranges .cells .1 in
+    let en : t .core .n ≡ s .desks = h .n-is ∙ n-back s ok in
+    let em : t .core .m ≡ s .cells = h .m-is ∙ m-back s ok in
+    let ed : t .core .desks ≡ tab places (deskFor (encode s) (s .desks)) = rw (n-back s ok) at (h .desks) in
+    let rc : CellsRead (encode s) (s .desks) (s .cells) (t .cells) = rw (n-back s ok, m-back s ok) at (h .cells) in
+    let ro : OpensRead (encode s) (s .desks) (s .cells) (openCount s) (t .opens) = rw (n-back s ok, m-back s ok, count-back s ok) at (h .opens) in
+    let e : modelOf t ≡ s = state-path (modelOf t) s en em
+    (ap appliedM ed ∙ applied-read (encode s) (s .desks) n8 ∙ applied-back s ok)
+    (ap clockM ed ∙ clock-read (encode s) (s .desks) n8 ∙ clock-back s ok)
+    (cells-read (encode s) (s .desks) (s .cells) n8 m64 (t .cells) rc ∙ cell-back s ok)
+    (opens-read s ok (t .opens) ro) in
+    (e, record { rules = rw e ok; blanks = blanks-read s ok (t .cells) rc; unique = unique-read s ok (t .opens) ro })
+
+pub reads-right : (b : List ℕ) (t : Table) → ReadAs b t → Reads b t
+reads-right b t h s ok e = read-image s ok t (rw (← e) at h)
+
+-- an image whose sizes do not fit is none
+pub reads-none : (b : List ℕ) (t : Table) → (Fits b → ⊥) → Reads b t
+reads-none b t f s ok e = absurd (f (rw e at (fits-image s ok)))

@@ -1,14 +1,19 @@
 // A table read from its saved image (document 01, "Saved image").
 ghost use mathlib.Core.Path.{_≡_};
 ghost use Prim.Native.Nat.{ℕ, _+_, _*_, _/_, _<_, _≤_};
-ghost use lib.ListN.{length};
+ghost use lib.ListN.{length, take};
 ghost use Rattle.laws.specs.Says.{Says};
 ghost use Rattle.laws.specs.Tab.{tab};
 ghost use Rattle.clock.specs.Vectors.{places};
 ghost use Rattle.table.specs.Value.{desk-cells, all-cells, entries};
-ghost use Rattle.image.specs.Encode.{perDesk};
+ghost use Rattle.table.specs.Model.{model};
+ghost use Rattle.table.specs.Sound.{Sound};
+ghost use Rattle.table.specs.Begin.{freshTable};
+ghost use Rattle.image.specs.Encode.{perDesk, encode};
 ghost use Rattle.image.specs.Decode.{nIn, mIn, countIn};
 ghost use Rattle.load.specs.Read.{wordAt, wordsFrom, bytesFrom, cellFrom, openFrom, deskFrom, deskFor, cellFor, openFor, Fits, CellsRead, OpensRead};
+ghost use Rattle.load.specs.Back.{ReadAs, Reads};
+ghost use Rattle.load.specs.Loading.{Answers};
 use clock::Clock;
 use clock::PLACES;
 use image::BLOCK;
@@ -250,5 +255,122 @@ fn read_opens(b: &[u8], n: usize, m: usize, c: usize, count: usize, opens: &mut 
         let o = open_or(b, n, m, c, count, p);
         table::put_open(opens, p, o);
         p += 1;
+    }
+}
+
+fn zeros() -> Table
+    ensures { λ r. ⌜ r ≡ freshTable 0 0 ⌝ }
+{
+    let none = table::begin(0, 0);
+    none.table
+}
+
+// The table that an image seems to hold; zeros where its sizes can't be right.
+fn candidate(b: &[u8]) -> Table
+    ensures { λ r. ⌜ Reads (now (b .entry)) r ⌝ }
+{
+    if !sizes_fit(b) {
+        return zeros();
+    }
+    read_table(b)
+}
+
+fn read_table(b: &[u8]) -> Table
+    requires { ⌜ Fits (now b) ⌝ }
+    ensures { λ r. ⌜ ReadAs (now (b .entry)) r ⌝ }
+{
+    let n = size(b[4]);
+    let m = size(b[5]);
+    let count = size(b[6]);
+    let desks = read_desks(b, n);
+    let core = Core {
+        n: n,
+        m: m,
+        desks: desks,
+    };
+    let c = image::per_desk(m);
+    let mut cells = [0u16; PLACES * CELLS * CELL];
+    read_cells(b, n, m, c, &mut cells);
+    let mut opens = [0u16; OPENS * OPEN];
+    read_opens(b, n, m, c, count, &mut opens);
+    Table {
+        core: core,
+        cells: cells,
+        opens: opens,
+    }
+}
+
+// The comparison --
+
+// Does b stand at the start of l?
+fn starts(l: &[u8], b: &[u8]) -> bool
+    requires { ⌜ length (now b) ≤ length (now l) ⌝ }
+    ensures { λ r. ⌜ Says r (now (b .entry) ≡ take (length (now (b .entry))) (now (l .entry))) ⌝ }
+{
+    let mut i = 0;
+    while i < b.len() {
+        if b[i] != l[i] {
+            return false;
+        }
+        i += 1;
+    }
+    true
+}
+
+// Is b the image of a table that keeps the rules?
+fn saves_to(core: Core, cells: &[u16; PLACES * CELLS * CELL], opens: &[u16; OPENS * OPEN], b: &[u8]) -> bool
+    requires { ⌜ Sound (core .n) (core .m) (core .desks) (now cells) (now opens) ⌝ }
+    ensures { λ r. ⌜ Says r (encode (model (core .n) (core .m) (core .desks) (now (cells .entry)) (now (opens .entry))) ≡ now (b .entry)) ⌝ }
+{
+    let mut out = [0u8; 18944];
+    let n = image::save_parts(core, cells, opens, &mut out);
+    if b.len() != n {
+        return false;
+    }
+    starts(&out, b)
+}
+
+// What load answers: a table, or refusal 12 (Damaged) or 13 (Broken) and nothing but zeros.
+pub enum Outcome {
+    Accepted,
+    Damaged,
+    Broken,
+}
+
+pub struct Loading {
+    pub answer: Outcome,
+    pub table: Table,
+}
+
+fn refused(o: Outcome) -> Loading
+    ensures { λ r. ⌜ (r .answer ≡ o) × (r .table ≡ freshTable 0 0) ⌝ }
+{
+    let z = zeros();
+    Loading {
+        answer: o,
+        table: z,
+    }
+}
+
+// The lengths and the checks; then the fields are read, the rules tested, and the image of what was read compared.
+pub fn load(b: &[u8]) -> Loading
+    ensures { λ r. ⌜ Answers (now (b .entry)) (r .answer) (r .table) ⌝ }
+{
+    if !image::sound_image(b) {
+        return refused(Outcome::Damaged);
+    }
+    let t = candidate(b);
+    let core = t.core;
+    let cells = t.cells;
+    let opens = t.opens;
+    if !rules::keeps_rules(core, &cells, &opens) {
+        return refused(Outcome::Broken);
+    }
+    if !saves_to(core, &cells, &opens, b) {
+        return refused(Outcome::Broken);
+    }
+    Loading {
+        answer: Outcome::Accepted,
+        table: t,
     }
 }
