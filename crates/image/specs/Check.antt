@@ -3,6 +3,7 @@ use Prim.Native.Nat.{ℕ, _+_, _*_, _<_, _≤_, pred}
 use mathlib.Core.Path.{_≡_, refl, ap}
 use mathlib.Core.List.{List, _++_}
 use native.Mathlib.Omega.{arith}
+use native.Mathlib.Numerals.{add-one}
 use native.Mathlib.Nat.{mul-le-mul-left}
 use lib.ListN.{length, getD, List·getD-append}
 use Rattle.laws.specs.Sum.{sum, sum-same, sum-le}
@@ -20,6 +21,11 @@ weighed b j = j * getD b (pred j) 0
 
 unfoldable pub checkOf : List ℕ → ℕ
 checkOf b = 1 + sum 508 (weighed b)
+
+-- one byte more
+pub check-more : (b : List ℕ) (j : ℕ) → 1 + sum j (weighed b) + (j + 1) * getD b j 0 ≡ 1 + sum (j + 1) (weighed b)
+unfolding sum
+check-more b j = rw (add-one j) (omega arith)
 
 -- it looks at the first 508 bytes alone
 pub check-first : (b z : List ℕ) → length b ≡ 508 → checkOf (b ++ z) ≡ checkOf b

@@ -31,7 +31,7 @@ openAbove n a u = tab (a u u - low n a u) (λ j. name u (suc (low n a u + j)))
 unfoldable pub counted : ℕ → (ℕ → Vec) → List Name
 counted n a = cat (λ u. openAbove n a (suc u)) n
 
-least-at : (d : ℕ) (f : Vec) (n i : ℕ) → 1 ≤ i → i ≤ n → least d f n ≤ f i
+pub least-at : (d : ℕ) (f : Vec) (n i : ℕ) → 1 ≤ i → i ≤ n → least d f n ≤ f i
 unfolding least
 least-at d f zero i l h = absurd (omega arith)
 least-at d f (suc n) i l h =
@@ -65,7 +65,7 @@ above u l (suc n) =
     rw (t, above u l n, append-nil, e))
 
 module _ (s : State) (ok : Rules s) where
-  open-low : (u k : ℕ) → In (s .desks) u → In (written s u) k → isOpen s u k ≡ ltb (low (s .desks) (s .applied) u) k
+  pub open-low : (u k : ℕ) → In (s .desks) u → In (written s u) k → isOpen s u k ≡ ltb (low (s .desks) (s .applied) u) k
   unfolding low
   open-low u k a b =
       cases (ltb (low (s .desks) (s .applied) u) k)

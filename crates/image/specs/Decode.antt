@@ -78,24 +78,24 @@ unfoldable pub decode : List ℕ → State
 decode b = readIn (nIn b) (mIn b) (deskIn (nIn b) b 4) b
 
 -- the bytes l are those of the open write u.k
-record Shows (s : State) (u k : ℕ) (l : List ℕ) : Type 0 where
-  writer : writerIn l ≡ u
-  number : numberIn l ≡ k
-  whole : some (openOf l) ≡ s .opens u k
+pub record Shows (s : State) (u k : ℕ) (l : List ℕ) : Type 0 where
+  pub writer : writerIn l ≡ u
+  pub number : numberIn l ≡ k
+  pub whole : some (openOf l) ≡ s .opens u k
 
 says-bears : (u k : ℕ) (l : List ℕ) → Says (bears u k l) ((writerIn l ≡ u) × (numberIn l ≡ k))
 says-bears u k l = says-both (eqb (writerIn l) u) (eqb (numberIn l) k) (says-eqb (writerIn l) u) (says-eqb (numberIn l) k)
 
 module _ (s : State) (ok : Rules s) where
-  n-back : nIn (encode s) ≡ s .desks
+  pub n-back : nIn (encode s) ≡ s .desks
   unfolding encode block
   n-back = refl
 
-  m-back : mIn (encode s) ≡ s .cells
+  pub m-back : mIn (encode s) ≡ s .cells
   unfolding encode block
   m-back = refl
 
-  count-back : countIn (encode s) ≡ openCount s
+  pub count-back : countIn (encode s) ≡ openCount s
   unfolding encode block
   count-back = refl
 
@@ -114,11 +114,11 @@ module _ (s : State) (ok : Rules s) where
       (λ i h. rw (part-2 s i p 16 h g, at (suc i)) (vec-words (v (suc i)) (issued-flat (v (suc i)) (λ t. omega (arith, below (suc i) t, ok .frame .counts .most (suc i) t)))))
       (λ i o. fun-ext (λ t. omega (arith, no-desk i o t, below i t)))
 
-  applied-back : deskIn (s .desks) (encode s) 4 ≡ s .applied
+  pub applied-back : deskIn (s .desks) (encode s) 4 ≡ s .applied
   unfolding deskBytes
   applied-back = desk-back 4 (s .applied) (omega arith) (λ i. vector-part i 0 0 0 (s .applied i) (words (s .clock i))) (λ i t. omega arith)
 
-  clock-back : deskIn (s .desks) (encode s) 20 ≡ s .clock
+  pub clock-back : deskIn (s .desks) (encode s) 20 ≡ s .clock
   unfolding deskBytes
   clock-back =
       desk-back 20 (s .clock) (omega arith)
@@ -133,7 +133,7 @@ module _ (s : State) (ok : Rules s) where
   no-cell i x o blank e = refl
   no-cell i x o (set v u w) e = let h = ok .frame .cell i x v u w e in absurd (o (h .desk, h .cell))
 
-  cell-back : cellIn (s .desks) (s .cells) (encode s) ≡ s .cell
+  pub cell-back : cellIn (s .desks) (s .cells) (encode s) ≡ s .cell
   unfolding perDesk cellPart
   cell-back =
       from1-is (λ x. blank) (s .desks) _ (s .cell)
@@ -143,7 +143,7 @@ module _ (s : State) (ok : Rules s) where
       (λ x o. no-cell (suc i) x (λ h. o (h .1 .0) (h .1 .1)) (s .cell (suc i) x) refl))
       (λ i o. fun-ext (λ x. no-cell i x (λ h. o (h .0 .0) (h .0 .1)) (s .cell i x) refl))
 
-  entry-back : (p : ℕ) → p < openCount s → entryIn (s .desks) (s .cells) (encode s) p ≡ named s (getD (names s) p no-name)
+  pub entry-back : (p : ℕ) → p < openCount s → entryIn (s .desks) (s .cells) (encode s) p ≡ named s (getD (names s) p no-name)
   unfolding openBlocks openPart
   entry-back p h =
       rw (part-4 s (p / 18) (p % 18) (omega arith) (mod-lt p (omega arith)), div-add-mod p 18)
@@ -160,7 +160,7 @@ module _ (s : State) (ok : Rules s) where
         whole = ap some (open-back u w f (λ i l. (h .marks-flat i l .0, omega (arith, h .marks-flat i l .1, ok .frame .ranges .desks .1)))) ∙ sym e;
       }
 
-  shows-at : (p : ℕ) → p < openCount s → let w : Name = getD (names s) p no-name in Shows s (w .writer) (w .number) (entryIn (s .desks) (s .cells) (encode s) p)
+  pub shows-at : (p : ℕ) → p < openCount s → let w : Name = getD (names s) p no-name in Shows s (w .writer) (w .number) (entryIn (s .desks) (s .cells) (encode s) p)
   shows-at p h =
       let w : Name = getD (names s) p no-name in
       let o = each-in (OpenName s) (names s) no-name (names-open s) p (omega (arith, length-names s)) in
@@ -170,7 +170,7 @@ module _ (s : State) (ok : Rules s) where
   same-name l v j u k w h a b e = let hw = h .writer in let hn = h .number in let hh = h .whole in cc
 
   -- an open write has its name
-  open-name : (u k : ℕ) → isOpen s u k ≡ true → OpenName s (name u k)
+  pub open-name : (u k : ℕ) → isOpen s u k ≡ true → OpenName s (name u k)
   open-name u k e = let h = ok .frame .open-exactly u k .0 e in record { writer-in = h .writer; number-in = h .number; is-open = e }
 
   -- the entries read

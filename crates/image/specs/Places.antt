@@ -32,10 +32,10 @@ part-block kind place l p w h =
     ∙ part-left l z p w h
 
 module _ (s : State) where
-  length-1 : length (block1 s) ≡ 512
+  pub length-1 : length (block1 s) ≡ 512
   length-1 = length-block 1 0 (s .desks ∷ s .cells ∷ openCount s ∷ []) (omega arith)
 
-  length-2 : (i : ℕ) → length (block2 s i) ≡ 512
+  pub length-2 : (i : ℕ) → length (block2 s i) ≡ 512
   length-2 i =
       length-block 2 (1 + i) (deskBytes (suc i) (s .applied (suc i)) (s .clock (suc i)))
       (omega (arith, length-desk (suc i) (s .applied (suc i)) (s .clock (suc i))))
@@ -50,7 +50,7 @@ module _ (s : State) where
   length-3 : (i q : ℕ) → length (block3 s i q) ≡ 512
   length-3 i q = length-block 3 (1 + s .desks + perDesk (s .cells) * i + q) (cat (cellPart s i q) 25) (omega (arith, length-cells i q 25))
 
-  length-3s : (i : ℕ) → length (cat (block3 s i) (perDesk (s .cells))) ≡ 512 * perDesk (s .cells)
+  pub length-3s : (i : ℕ) → length (cat (block3 s i) (perDesk (s .cells))) ≡ 512 * perDesk (s .cells)
   length-3s i = length-cat (block3 s i) 512 (length-3 i) (perDesk (s .cells))
 
   length-entry : (q j : ℕ) → length (openPart s q j) ≡ 28
@@ -63,7 +63,7 @@ module _ (s : State) where
   pub length-opens : (q n : ℕ) → length (cat (openPart s q) n) ≡ 28 * n
   length-opens q n = length-cat (openPart s q) 28 (length-entry q) n
 
-  length-4 : (q : ℕ) → length (block4 s q) ≡ 512
+  pub length-4 : (q : ℕ) → length (block4 s q) ≡ 512
   length-4 q = length-block 4 (1 + s .desks + perDesk (s .cells) * s .desks + q) (cat (openPart s q) 18) (omega (arith, length-opens q 18))
 
   -- the length of the image

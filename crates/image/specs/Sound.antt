@@ -1,12 +1,14 @@
 -- What 12 is given for: "image length not a nonzero multiple of 512, or a block check wrong". No saved image is damaged.
 use Prim.Native.Nat.{ℕ, suc, _+_, _*_, _/_, _%_, _<_, _≤_}
 use mathlib.Core.Path.{_≡_}
-use mathlib.Core.Bool.{Bool, _&&_}
+use mathlib.Core.Bool.{Bool, true, false, _&&_}
 use mathlib.Core.List.{List, [], _∷_, _++_}
 use native.Mathlib.Omega.{arith}
+use borrow.Author.Tests.{lt-leb, le-leb, eq-eqb, ne-eqb}
 use lib.Dec.{eqb, leb}
 use lib.ListN.{length, getD}
 use lib.Seq.{getD-append-add}
+use Rattle.laws.specs.Loop.{cases}
 use Rattle.laws.specs.All.{all}
 use Rattle.laws.specs.Says.{Says, says-leb, says-eqb, says-all, says-as, says-both}
 use Rattle.laws.specs.Cat.{cat, part}
@@ -38,10 +40,13 @@ pub record Sound (b : List ℕ) : Type 0 where
 abbrev pub Damaged : List ℕ → Type 0
 Damaged b = Sound b → ⊥
 
+abbrev pub rightCheck : List ℕ → Bool
+rightCheck l = eqb (checkIn l) (checkOf l)
+
 -- as a test
 unfoldable pub sound : List ℕ → Bool
 sound b =
-    leb 1 (length b) && (eqb (length b % 512) 0 && all (λ k. eqb (checkIn (blockIn b k)) (checkOf (blockIn b k))) (length b / 512) 0)
+    leb 1 (length b) && (eqb (length b % 512) 0 && all (λ k. rightCheck (blockIn b k)) (length b / 512) 0)
 
 pub says-sound : (b : List ℕ) → Says (sound b) (Sound b)
 unfolding sound
@@ -88,3 +93,16 @@ module _ (s : State) where
         multiple = rw e (omega arith);
         checks = λ k h. chunked .at k (omega (arith, chunked .size));
       }
+
+-- the test as the code makes it: no byte; no multiple; a block after the other
+pub sound-none : (b : List ℕ) → length b ≡ 0 → sound b ≡ false
+unfolding sound
+sound-none b e = rw (lt-leb 1 (length b) (omega arith))
+
+pub sound-odd : (b : List ℕ) → (length b % 512 ≡ 0 → ⊥) → sound b ≡ false
+unfolding sound
+sound-odd b e = rw (ne-eqb (length b % 512) 0 e) (cases (leb 1 (length b)) (λ t. rw t) (λ t. rw t))
+
+pub sound-start : (b : List ℕ) → (length b ≡ 0 → ⊥) → length b % 512 ≡ 0 → all (λ k. rightCheck (blockIn b k)) (length b / 512) 0 ≡ sound b
+unfolding sound
+sound-start b z e = rw (le-leb 1 (length b) (omega arith), eq-eqb (length b % 512) 0 e)

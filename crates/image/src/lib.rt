@@ -1,0 +1,543 @@
+// The saved image (document 01): a table as blocks of 512 bytes, and a table read from them.
+ghost use mathlib.Core.Path.{_≡_};
+ghost use mathlib.Core.List.{[], _∷_};
+ghost use mathlib.Core.Option.{none};
+ghost use Prim.Native.Nat.{ℕ, suc, _+_, _-_, _*_, _/_, _<_, _≤_, min};
+ghost use lib.ListN.{getD, set, length};
+ghost use lib.Seq.{sets};
+ghost use Rattle.laws.specs.Cat.{cat};
+ghost use Rattle.clock.specs.Vectors.{places, place};
+ghost use Rattle.image.specs.Check.{checkOf};
+ghost use Rattle.image.specs.Encode.{word, long, words, markBytes, deskBytes, block, perDesk, encode};
+ghost use Rattle.image.specs.Sound.{rightCheck, sound};
+ghost use Rattle.image.specs.Block.{head, cellRaw, openRaw, SmallCell, SmallOpen};
+ghost use Rattle.image.specs.Parts.{CellsFit, CellFor, cellPiece, cellBlock, cellRow, deskBlock, OrderFits, OpenFor, openPiece, openBlock};
+ghost use Rattle.machine.specs.Rules.{In};
+ghost use Rattle.table.specs.Value.{desk-cells, entries};
+ghost use Rattle.table.specs.Model.{appliedM, opensM, model};
+ghost use Rattle.table.specs.Sound.{Sound};
+ghost use Rattle.image.specs.Counted.{low, counted};
+ghost use Rattle.image.specs.Order.{Listed, Ordered, Known};
+ghost use Rattle.image.specs.Saved.{Saved};
+ghost use Rattle.image.specs.Saving.{Saves, savingOf};
+use clock::PLACES;
+use table::CELL;
+use table::CELLS;
+use table::Cell;
+use table::Core;
+use table::Desk;
+use table::Found;
+use table::OPEN;
+use table::OPENS;
+use table::Open;
+use table::Table;
+
+// Bytes to a block.
+pub const BLOCK: usize = 512;
+// Where its check stands.
+const CHECK: usize = 508;
+
+// The check of a block --
+
+fn wide(x: u8) -> u32
+    ensures { λ r. ⌜ (r ≡ x) × (r < 256) ⌝ }
+{
+    x as u32
+}
+
+fn term(j: usize, x: u8) -> u32
+    requires { ⌜ j < 508 ⌝ }
+    ensures { λ r. ⌜ r ≡ (j + 1) * x ⌝ }
+    ensures { λ r. ⌜ r ≤ 129540 ⌝ }
+{
+    (j as u32 + 1) * wide(x)
+}
+
+fn check(b: &[u8]) -> u32
+    requires { ⌜ 508 ≤ length (now b) ⌝ }
+    ensures { λ r. ⌜ r ≡ checkOf (now (b .entry)) ⌝ }
+{
+    let mut c: u32 = 1;
+    let mut j = 0;
+    while j < CHECK {
+        c = c + term(j, b[j]);
+        j += 1;
+    }
+    c
+}
+
+// The check stored, which ends a block.
+fn seal(b: &mut [u8; BLOCK])
+    ensures { λ _. ⌜ now (b .exit) ≡ sets (now (b .entry)) 508 (long (checkOf (now (b .entry)))) ⌝ }
+{
+    let c = check(b);
+    b[CHECK] = (c % 256) as u8;
+    b[CHECK + 1] = (c / 256 % 256) as u8;
+    b[CHECK + 2] = (c / 65536 % 256) as u8;
+    b[CHECK + 3] = (c / 16777216) as u8;
+}
+
+// Is the check that stands in a block its own?
+fn right(b: &[u8]) -> bool
+    requires { ⌜ length (now b) ≡ 512 ⌝ }
+    ensures { λ r. ⌜ r ≡ rightCheck (now (b .entry)) ⌝ }
+{
+    let c0 = wide(b[CHECK]);
+    let c1 = wide(b[CHECK + 1]);
+    let c2 = wide(b[CHECK + 2]);
+    let c3 = wide(b[CHECK + 3]);
+    c0 + 256 * c1 + 65536 * c2 + 16777216 * c3 == check(b)
+}
+
+// Is the length a nonzero multiple of 512, and every block's check right? (Else 12.)
+pub fn sound_image(b: &[u8]) -> bool
+    ensures { λ r. ⌜ r ≡ sound (now (b .entry)) ⌝ }
+{
+    let n = b.len();
+    if n == 0 {
+        return false;
+    }
+    if n % BLOCK != 0 {
+        return false;
+    }
+    let count = n / BLOCK;
+    let mut k = 0;
+    while k < count {
+        let at = BLOCK * k;
+        let e = at + BLOCK;
+        if !right(&b[at..e]) {
+            return false;
+        }
+        k += 1;
+    }
+    true
+}
+
+// Fields of a block --
+
+fn byte(x: u16) -> u8
+    requires { ⌜ x < 256 ⌝ }
+    ensures { λ r. ⌜ r ≡ x ⌝ }
+{
+    x as u8
+}
+
+// A number of 16 bits, low byte first.
+fn put_word(b: &mut [u8; BLOCK], at: usize, x: u16)
+    requires { ⌜ at < 511 ⌝ }
+    ensures { λ _. ⌜ now (b .exit) ≡ sets (now (b .entry)) at (word x) ⌝ }
+{
+    b[at] = (x % 256) as u8;
+    b[at + 1] = (x / 256) as u8;
+}
+
+fn put_words(b: &mut [u8; BLOCK], at: usize, v: [u16; PLACES])
+    requires { ⌜ at ≤ 496 ⌝ }
+    ensures { λ _. ⌜ now (b .exit) ≡ sets (now (b .entry)) at (words (place v)) ⌝ }
+{
+    let mut t = 0;
+    while t < PLACES {
+        put_word(b, at + 2 * t, v[t]);
+        t += 1;
+    }
+}
+
+fn put_marks(b: &mut [u8; BLOCK], at: usize, v: [u16; PLACES])
+    requires { ⌜ at ≤ 504 ⌝ }
+    requires { ⌜ ((t : ℕ) → getD v t 0 < 256) ⌝ }
+    ensures { λ _. ⌜ now (b .exit) ≡ sets (now (b .entry)) at (markBytes (place v)) ⌝ }
+{
+    let mut t = 0;
+    while t < PLACES {
+        b[at + t] = byte(v[t]);
+        t += 1;
+    }
+}
+
+fn put_cell(b: &mut [u8; BLOCK], at: usize, c: Cell)
+    requires { ⌜ (at ≤ 492) × SmallCell c ⌝ }
+    ensures { λ _. ⌜ now (b .exit) ≡ sets (now (b .entry)) at (cellRaw c) ⌝ }
+{
+    b[at] = byte(c.writer);
+    b[at + 1] = byte(c.status);
+    b[at + 2] = 0;
+    b[at + 3] = 0;
+    let v = c.vector;
+    put_words(b, at + 4, v);
+}
+
+fn put_open(b: &mut [u8; BLOCK], at: usize, o: Open)
+    requires { ⌜ (at ≤ 484) × SmallOpen o ⌝ }
+    ensures { λ _. ⌜ now (b .exit) ≡ sets (now (b .entry)) at (openRaw o) ⌝ }
+{
+    b[at] = byte(o.writer);
+    b[at + 1] = byte(o.status);
+    b[at + 2] = byte(o.cell);
+    b[at + 3] = 0;
+    let v = o.vector;
+    put_words(b, at + 4, v);
+    let k = o.marks;
+    put_marks(b, at + 20, k);
+}
+
+// Kind, edition and place.
+fn put_head(b: &mut [u8; BLOCK], kind: u8, at: u16)
+    ensures { λ _. ⌜ now (b .exit) ≡ sets (now (b .entry)) 0 (head kind at) ⌝ }
+{
+    b[0] = kind;
+    b[1] = 1;
+    put_word(b, 2, at);
+}
+
+// The block of desk i, from 1.
+fn desk_block(at: u16, i: u16, d: Desk) -> [u8; BLOCK]
+    requires { ⌜ i < 256 ⌝ }
+    ensures { λ r. ⌜ r ≡ block 2 at (deskBytes i (place (d .applied)) (place (d .clock .at))) ⌝ }
+{
+    let mut b = [0u8; BLOCK];
+    put_head(&mut b, 2, at);
+    b[4] = byte(i);
+    let applied = d.applied;
+    put_words(&mut b, 8, applied);
+    let clock = d.clock;
+    let v = clock.at;
+    put_words(&mut b, 24, v);
+    seal(&mut b);
+    b
+}
+
+// The block of the sizes.
+fn size_block(n: u16, m: u16, count: u16) -> [u8; BLOCK]
+    requires { ⌜ (n < 256) × ((m < 256) × (count < 256)) ⌝ }
+    ensures { λ r. ⌜ r ≡ block 1 0 (n ∷ m ∷ count ∷ []) ⌝ }
+{
+    let mut b = [0u8; BLOCK];
+    put_head(&mut b, 1, 0);
+    b[4] = byte(n);
+    b[5] = byte(m);
+    b[6] = byte(count);
+    seal(&mut b);
+    b
+}
+
+// Cell x of desk i, both from 0: an unset one past the last.
+fn cell_or(cells: &[u16; PLACES * CELLS * CELL], i: usize, x: usize) -> Cell
+    requires { ⌜ (i < places) × CellsFit (now cells) ⌝ }
+    ensures { λ r. ⌜ CellFor (now (cells .entry)) i x r ⌝ }
+{
+    if x < CELLS {
+        return table::cell_at(cells, i * CELLS + x);
+    }
+    let zero = [0u16; PLACES];
+    Cell {
+        writer: 0,
+        status: 0,
+        vector: zero,
+    }
+}
+
+// Block q of the cells of desk i, from 0.
+fn cell_block(at: u16, cells: &[u16; PLACES * CELLS * CELL], i: usize, q: usize) -> [u8; BLOCK]
+    requires { ⌜ (i < places) × ((q < 3) × CellsFit (now cells)) ⌝ }
+    ensures { λ r. ⌜ r ≡ block 3 at (cat (cellPiece (now (cells .entry)) i q) 25) ⌝ }
+{
+    let mut b = [0u8; BLOCK];
+    put_head(&mut b, 3, at);
+    let mut j = 0;
+    while j < 25 {
+        let c = cell_or(cells, i, 25 * q + j);
+        put_cell(&mut b, 4 + 20 * j, c);
+        j += 1;
+    }
+    seal(&mut b);
+    b
+}
+
+// The open write at place p of the order, and a free entry's zeros past the last.
+fn open_or(opens: &[u16; OPENS * OPEN], order: &[usize; OPENS], count: usize, p: usize) -> Open
+    requires { ⌜ OrderFits (now opens) (now order) count ⌝ }
+    ensures { λ r. ⌜ OpenFor (now (opens .entry)) (now (order .entry)) count p r ⌝ }
+{
+    if p < count {
+        let e = order[p];
+        return table::open_at(opens, e);
+    }
+    let zero = [0u16; PLACES];
+    Open {
+        writer: 0,
+        status: 0,
+        cell: 0,
+        vector: zero,
+        marks: zero,
+    }
+}
+
+// Block q of the open writes.
+fn open_block(at: u16, opens: &[u16; OPENS * OPEN], order: &[usize; OPENS], count: usize, q: usize) -> [u8; BLOCK]
+    requires { ⌜ (q < 4) × OrderFits (now opens) (now order) count ⌝ }
+    ensures { λ r. ⌜ r ≡ block 4 at (cat (openPiece (now (opens .entry)) (now (order .entry)) count q) 18) ⌝ }
+{
+    let mut b = [0u8; BLOCK];
+    put_head(&mut b, 4, at);
+    let mut j = 0;
+    while j < 18 {
+        let o = open_or(opens, order, count, 18 * q + j);
+        put_open(&mut b, 4 + 28 * j, o);
+        j += 1;
+    }
+    seal(&mut b);
+    b
+}
+
+// Blocks, one after the other --
+
+// The block as block k of the image.
+fn store(out: &mut [u8], k: usize, b: [u8; BLOCK])
+    requires { ⌜ (k < 64) × (512 * k + 512 ≤ length (now out)) ⌝ }
+    ensures { λ _. ⌜ now (out .exit) ≡ sets (now (out .entry)) (512 * k) b ⌝ }
+{
+    let at = BLOCK * k;
+    let mut j = 0;
+    while j < BLOCK {
+        out[at + j] = b[j];
+        j += 1;
+    }
+}
+
+// Kind 2.
+fn save_desks(out: &mut [u8], desks: [Desk; PLACES], n: usize)
+    requires { ⌜ (n ≤ places) × (512 + 512 * n ≤ length (now out)) ⌝ }
+    ensures { λ _. ⌜ now (out .exit) ≡ sets (now (out .entry)) 512 (cat (deskBlock desks) n) ⌝ }
+{
+    let mut i = 0;
+    while i < n {
+        let d = desks[i];
+        let k = (1 + i) as u16;
+        let b = desk_block(k, k, d);
+        store(out, 1 + i, b);
+        i += 1;
+    }
+}
+
+// Kind 3, of desk i: the c blocks from block k on.
+fn save_row(out: &mut [u8], k: usize, cells: &[u16; PLACES * CELLS * CELL], i: usize, c: usize)
+    requires { ⌜ ((i < places) × CellsFit (now cells)) × ((c ≤ 3) × ((k + c ≤ 64) × (512 * k + 512 * c ≤ length (now out)))) ⌝ }
+    ensures { λ _. ⌜ now (out .exit) ≡ sets (now (out .entry)) (512 * k) (cat (cellBlock (now (cells .entry)) k i) c) ⌝ }
+{
+    let mut q = 0;
+    while q < c {
+        let b = cell_block((k + q) as u16, cells, i, q);
+        store(out, k + q, b);
+        q += 1;
+    }
+}
+
+// Kind 3.
+fn save_cells(out: &mut [u8], cells: &[u16; PLACES * CELLS * CELL], n: usize, c: usize)
+    requires { ⌜ CellsFit (now cells) × ((n ≤ places) × ((c ≤ 3) × (512 * (1 + n) + 512 * c * n ≤ length (now out)))) ⌝ }
+    ensures { λ _. ⌜ now (out .exit) ≡ sets (now (out .entry)) (512 * (1 + n)) (cat (cellRow (now (cells .entry)) n c) n) ⌝ }
+{
+    let mut i = 0;
+    while i < n {
+        save_row(out, 1 + n + c * i, cells, i, c);
+        i += 1;
+    }
+}
+
+// Kind 4: the c blocks from block k on.
+fn save_opens(out: &mut [u8], k: usize, opens: &[u16; OPENS * OPEN], order: &[usize; OPENS], count: usize, c: usize)
+    requires { ⌜ OrderFits (now opens) (now order) count × ((c ≤ 4) × ((k + c ≤ 64) × (512 * k + 512 * c ≤ length (now out)))) ⌝ }
+    ensures { λ _. ⌜ now (out .exit) ≡ sets (now (out .entry)) (512 * k) (cat (openBlock (now (opens .entry)) (now (order .entry)) count k) c) ⌝ }
+{
+    let mut q = 0;
+    while q < c {
+        let b = open_block((k + q) as u16, opens, order, count, q);
+        store(out, k + q, b);
+        q += 1;
+    }
+}
+
+// The open writes, by writer then number --
+
+fn smaller(a: u16, b: u16) -> u16
+    ensures { λ r. ⌜ r ≡ min a b ⌝ }
+{
+    if a < b { a } else { b }
+}
+
+fn number(x: u16) -> usize
+    ensures { λ r. ⌜ (r ≡ x) × (r < 65536) ⌝ }
+{
+    x as usize
+}
+
+// Desk u's own count, u from 0.
+fn own_count(desks: [Desk; PLACES], u: usize) -> u16
+    requires { ⌜ u < places ⌝ }
+    ensures { λ r. ⌜ r ≡ appliedM desks (suc u) (suc u) ⌝ }
+{
+    let d = desks[u];
+    let a = d.applied;
+    a[u]
+}
+
+// How many of desk u's writes every desk has applied, u from 0.
+fn lowest(desks: [Desk; PLACES], n: usize, u: usize) -> u16
+    requires { ⌜ (n ≤ places) × (u < places) ⌝ }
+    ensures { λ r. ⌜ r ≡ low n (appliedM desks) (suc u) ⌝ }
+{
+    let mut r = own_count(desks, u);
+    let mut i = 0;
+    while i < n {
+        let d = desks[i];
+        let a = d.applied;
+        r = smaller(a[u], r);
+        i += 1;
+    }
+    r
+}
+
+// How many writes are open.
+fn open_count(desks: [Desk; PLACES], n: usize) -> usize
+    requires { ⌜ n ≤ places ⌝ }
+    ensures { λ r. ⌜ (r ≡ length (counted n (appliedM desks))) × (r ≤ 524288) ⌝ }
+{
+    let mut r = 0;
+    let mut u = 0;
+    while u < n {
+        let own = number(own_count(desks, u));
+        let lo = number(lowest(desks, n, u));
+        r = r + (own - lo);
+        u += 1;
+    }
+    r
+}
+
+// The entries of desk u's writes lo + 1 to own, u from 1, put into the order from place p on.
+fn order_of(opens: &[u16; OPENS * OPEN], u: usize, lo: u16, own: u16, order: &mut [usize], p: usize) -> usize
+    requires { ⌜ (In places u) × ((lo ≤ own) × (p + (own - lo) ≤ length (now order))) ⌝ }
+    requires { ⌜ ((k : ℕ) → lo < k → k ≤ own → opensM (now opens) u k ≡ none → ⊥) ⌝ }
+    ensures { λ r. ⌜ Listed (now (opens .entry)) u lo own p (now (order .entry)) (now (order .exit)) r ⌝ }
+{
+    let mut k = lo;
+    let mut at = p;
+    while k < own {
+        let found = table::find(opens, u, k + 1);
+        let Found::At(e) = found else {
+            return at;
+        };
+        order[at] = e;
+        at += 1;
+        k += 1;
+    }
+    at
+}
+
+// The entries of all open writes in their order, and how many there are.
+fn order_all(opens: &[u16; OPENS * OPEN], desks: [Desk; PLACES], n: usize, order: &mut [usize]) -> usize
+    requires { ⌜ (length (now order) ≡ entries) × Known n desks (now opens) ⌝ }
+    ensures { λ r. ⌜ Ordered (now (opens .entry)) (counted n (appliedM desks)) (now (order .exit)) r ⌝ }
+{
+    let mut count = 0;
+    let mut u = 0;
+    while u < n {
+        let own = own_count(desks, u);
+        let lo = lowest(desks, n, u);
+        count = order_of(opens, u + 1, lo, own, order, count);
+        u += 1;
+    }
+    count
+}
+
+// Saving --
+
+// Blocks to a desk's cells.
+pub fn per_desk(m: usize) -> usize
+    requires { ⌜ m ≤ desk-cells ⌝ }
+    ensures { λ r. ⌜ (r ≡ perDesk m) × (r ≤ 3) ⌝ }
+{
+    (m + 24) / 25
+}
+
+// Blocks to the open writes.
+fn open_blocks(count: usize) -> usize
+    requires { ⌜ count ≤ 524288 ⌝ }
+    ensures { λ r. ⌜ r ≡ (count + 17) / 18 ⌝ }
+{
+    (count + 17) / 18
+}
+
+// Blocks before the open writes, where a desk's cells take c.
+fn cells_end(n: usize, c: usize) -> usize
+    requires { ⌜ (n ≤ places) × (c ≤ 3) ⌝ }
+    ensures { λ r. ⌜ (r ≡ 1 + n + c * n) × (r ≤ 33) ⌝ }
+{
+    1 + n + c * n
+}
+
+pub fn length_of(n: usize, m: usize, count: usize) -> usize
+    requires { ⌜ (n ≤ places) × ((m ≤ desk-cells) × (count ≤ 524288)) ⌝ }
+    ensures { λ r. ⌜ r ≡ 512 * (1 + n + perDesk m * n + (count + 17) / 18) ⌝ }
+{
+    let c = per_desk(m);
+    let k = cells_end(n, c);
+    BLOCK * (k + open_blocks(count))
+}
+
+// How long the image of a table is that keeps the rules: the counts tell.
+pub fn image_length(core: Core) -> usize
+    requires { ⌜ (core .n ≤ places) × (core .m ≤ desk-cells) ⌝ }
+    ensures { λ r. ⌜ r ≡ 512 * (1 + core .n + perDesk (core .m) * core .n + (length (counted (core .n) (appliedM (core .desks))) + 17) / 18) ⌝ }
+{
+    let n = core.n;
+    let m = core.m;
+    let desks = core.desks;
+    let count = open_count(desks, n);
+    length_of(n, m, count)
+}
+
+// The image of a table that keeps the rules, into a buffer that is long enough. The result is the image's length.
+pub fn save_parts(core: Core, cells: &[u16; PLACES * CELLS * CELL], opens: &[u16; OPENS * OPEN], out: &mut [u8]) -> usize
+    requires { ⌜ Sound (core .n) (core .m) (core .desks) (now cells) (now opens) ⌝ }
+    requires { ⌜ length (encode (model (core .n) (core .m) (core .desks) (now cells) (now opens))) ≤ length (now out) ⌝ }
+    ensures { λ r. ⌜ Saved (model (core .n) (core .m) (core .desks) (now (cells .entry)) (now (opens .entry))) (now (out .entry)) (now (out .exit)) r ⌝ }
+{
+    let n = core.n;
+    let m = core.m;
+    let desks = core.desks;
+    let mut order = [0usize; OPENS];
+    let count = order_all(opens, desks, n, &mut order);
+    let c = per_desk(m);
+    let k = cells_end(n, c);
+    let d = open_blocks(count);
+    let b = size_block(n as u16, m as u16, count as u16);
+    store(out, 0, b);
+    save_desks(out, desks, n);
+    save_cells(out, cells, n, c);
+    save_opens(out, k, opens, &order, count, d);
+    BLOCK * (k + d)
+}
+
+// What save answers: the image's length, or refusal 13 (Broken) or 14 (Short).
+pub enum Saving {
+    Length(usize),
+    Broken,
+    Short,
+}
+
+// A table value saved into a lent buffer: the rules first, then the buffer's length.
+pub fn save(t: Table, out: &mut [u8]) -> Saving
+    ensures { λ r. ⌜ Saves t (now (out .entry)) (now (out .exit)) (savingOf r) ⌝ }
+{
+    let core = t.core;
+    let cells = t.cells;
+    let opens = t.opens;
+    if !rules::keeps_rules(core, &cells, &opens) {
+        return Saving::Broken;
+    }
+    if out.len() < image_length(core) {
+        return Saving::Short;
+    }
+    let n = save_parts(core, &cells, &opens, out);
+    Saving::Length(n)
+}

@@ -1,0 +1,68 @@
+use Rattle.image.specs.Check.{weighed, checkOf, check-more}
+use Rattle.laws.specs.Sum.{sum}
+use mathlib.Core.Path.{_≡_, refl, ap, _∙_, sym}
+use Prim.Native.Nat.{_+_, _*_, _≤_, _-_}
+use native.Mathlib.Omega.{arith}
+use native.Mathlib.Numerals.{add-one}
+use borrow.Author.Needs.{needs}
+use Rattle.image.proofs.check.Statement.{statement}
+use Rattle.image.proofs.check.Tie as tie
+use Rattle.image.proofs.check.Reads as reads
+use Rattle.image.proofs.check.Lts as lts
+use Rattle.image.proofs.term.Reads as term-reads
+
+abbrev Inv-loop : tie.InvT-loop
+Inv-loop b c₀ j₀ c j = (j ≤ 508) × ((c ≤ 1 + 129540 * j) × (c ≡ 1 + sum j (weighed b)))
+
+abbrev μ-loop : tie.MeasureT-loop
+μ-loop b c₀ j₀ c j = 508 - j
+
+-- src/lib.rt:44:5
+loop-holds : tie.Need-loop-holds Inv-loop μ-loop
+unfolding sum
+loop-holds c = search needs
+
+-- src/lib.rt:45:25
+shared-slice-read-term : tie.Need-shared-slice-read-term Inv-loop μ-loop
+shared-slice-read-term c = search needs
+
+-- src/lib.rt:45:17
+term-requires : tie.Need-term-requires Inv-loop μ-loop
+term-requires c κs = search needs
+
+-- src/lib.rt:45:13
+add-c : tie.Need-add-c Inv-loop μ-loop
+add-c c = search needs
+
+-- src/lib.rt:46:9
+add-j : tie.Need-add-j Inv-loop μ-loop
+add-j c = search needs
+
+-- src/lib.rt:44:5
+loop-less : tie.Need-loop-less Inv-loop μ-loop
+loop-less c = search needs
+
+-- src/lib.rt:44:5
+loop-again : tie.Need-loop-again Inv-loop μ-loop
+loop-again c = let L = c .before .before .before .loop in
+    (search needs, (search needs, rw (c .term .ensures .0, L .inv .1 .1) (check-more (c .before .before .before .before .before .args .b .now) (L .j))))
+
+-- src/lib.rt:38:1
+returns : tie.Need-returns Inv-loop μ-loop
+unfolding checkOf
+returns c = let L = c .before .loop in let e : L .j ≡ 508 = omega arith in L .inv .1 .1 ∙ rw e
+
+pub check-spec : {M : Type 1} → statement M
+check-spec =
+    tie.close
+    (tie.spec
+    Inv-loop
+    μ-loop
+    loop-holds
+    shared-slice-read-term
+    term-requires
+    add-c
+    add-j
+    loop-less
+    loop-again
+    returns)

@@ -1,0 +1,61 @@
+use Prim.Native.Nat.{ℕ}
+use mathlib.Core.List.{List}
+use Rattle.image.specs.Block.{head, head-put, fill-desk, block-is, desk-steps}
+use Rattle.image.specs.Fill.{pad}
+use Rattle.image.specs.Fields.{length-desk}
+use Rattle.image.specs.Encode.{deskBytes}
+use Rattle.clock.specs.Vectors.{place}
+use lib.Seq.{sets}
+use native.Mathlib.Omega.{arith}
+use mathlib.Core.Path.{_≡_, refl, ap, _∙_, sym}
+use borrow.Author.Needs.{needs}
+use Rattle.image.proofs.desk_block.Statement.{statement}
+use Rattle.image.proofs.desk_block.Tie as tie
+use Rattle.image.proofs.desk_block.Reads as reads
+use Rattle.image.proofs.desk_block.Lts as lts
+use Rattle.image.proofs.byte.Reads as byte-reads
+use Rattle.image.proofs.put_head.Reads as put-head-reads
+use Rattle.image.proofs.put_words.Reads as put-words-reads
+use Rattle.image.proofs.seal.Reads as seal-reads
+
+-- src/lib.rt:144:5
+put-head-requires : tie.Need-put-head-requires
+put-head-requires c κs = search needs
+
+-- src/lib.rt:145:12
+byte-requires : tie.Need-byte-requires
+byte-requires c κs = search needs
+
+-- src/lib.rt:145:5
+array-write-b : tie.Need-array-write-b
+array-write-b c = search needs
+
+-- src/lib.rt:147:5
+put-words-requires : tie.Need-put-words-requires
+put-words-requires c κs = search needs
+
+-- src/lib.rt:150:5
+put-words-requires-2 : tie.Need-put-words-requires-2
+put-words-requires-2 c κs = search needs
+
+-- src/lib.rt:151:5
+seal-requires : tie.Need-seal-requires
+seal-requires c κs = search needs
+
+-- src/lib.rt:139:1
+returns : tie.Need-returns
+returns c = let A = c .before .before .before .before .before .before .before .before .before .before .before .before .args in
+    desk-steps (A .at) (A .i) (c .before .before .before .before .before .before .before .before .before .byte .result) (A .d .applied) (A .d .clock .at) (c .before .before .before .before .before .before .before .before .before .before .put-head .last .0) (c .before .before .before .before .before .before .put-words .last .0) (c .before .before .put-words2 .last .0) (c .seal .last .0)
+    (c .before .before .before .before .before .before .before .before .before .byte .ensures) (c .before .before .before .before .before .before .before .before .before .before .put-head .ensures) (c .before .before .before .before .before .before .put-words .ensures) (c .before .before .put-words2 .ensures) (c .seal .ensures)
+
+pub desk-block-spec : {M : Type 1} → statement M
+desk-block-spec =
+    tie.close
+    (tie.spec
+    put-head-requires
+    byte-requires
+    array-write-b
+    put-words-requires
+    put-words-requires-2
+    seal-requires
+    returns)

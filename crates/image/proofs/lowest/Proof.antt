@@ -1,0 +1,83 @@
+use Rattle.image.specs.Order.{low-start, low-more, count-at}
+use Rattle.image.specs.Counted.{least, low}
+use Rattle.table.specs.Model.{appliedM}
+use native.Mathlib.Omega.{arith}
+use mathlib.Core.Path.{_≡_, _∙_}
+use Prim.Native.Nat.{_≤_, _-_, suc}
+use borrow.Author.Needs.{needs}
+use Rattle.image.proofs.lowest.Statement.{statement}
+use Rattle.image.proofs.lowest.Tie as tie
+use Rattle.image.proofs.lowest.Reads as reads
+use Rattle.image.proofs.lowest.Lts as lts
+use Rattle.image.proofs.own_count.Reads as own-count-reads
+use Rattle.image.proofs.smaller.Reads as smaller-reads
+
+abbrev Inv-loop : tie.InvT-loop
+Inv-loop n u desks r₀ i₀ r i = (i ≤ n) × (r ≡ least (appliedM desks (suc u) (suc u)) (λ i. appliedM desks i (suc u)) i)
+
+abbrev μ-loop : tie.MeasureT-loop
+μ-loop n u desks r₀ i₀ r i = n - i
+
+-- src/lib.rt:348:9
+own-count-requires : tie.Need-own-count-requires Inv-loop μ-loop
+own-count-requires c κs = search needs
+
+-- src/lib.rt:350:5
+loop-holds : tie.Need-loop-holds Inv-loop μ-loop
+loop-holds c = (search needs, low-start _ _ _ (c .own-count .ensures ∙ count-at _ _ _))
+
+-- src/lib.rt:351:17
+mul-d : tie.Need-mul-d Inv-loop μ-loop
+mul-d c = search needs
+
+-- src/lib.rt:351:17
+array-copy-out-d : tie.Need-array-copy-out-d Inv-loop μ-loop
+array-copy-out-d c = search needs
+
+-- src/lib.rt:353:21
+mul-smaller : tie.Need-mul-smaller Inv-loop μ-loop
+mul-smaller c = search needs
+
+-- src/lib.rt:353:21
+array-read-smaller : tie.Need-array-read-smaller Inv-loop μ-loop
+array-read-smaller c = search needs
+
+-- src/lib.rt:353:9
+smaller-requires : tie.Need-smaller-requires Inv-loop μ-loop
+smaller-requires c κs = search needs
+
+-- src/lib.rt:354:9
+add-i : tie.Need-add-i Inv-loop μ-loop
+add-i c = search needs
+
+-- src/lib.rt:350:5
+loop-less : tie.Need-loop-less Inv-loop μ-loop
+loop-less c = search needs
+
+-- src/lib.rt:350:5
+loop-again : tie.Need-loop-again Inv-loop μ-loop
+loop-again c = let L = (c .before .before .before .before .loop) in let A = (c .before .before .before .before .before .before .args) in
+    (search needs, low-more (A .t1) (appliedM (A .t1) (suc (A .u)) (suc (A .u))) (A .u) (L .i) (L .r) (c .smaller .result) (L .inv .1) (c .smaller .ensures))
+
+-- src/lib.rt:344:1
+returns : tie.Need-returns Inv-loop μ-loop
+unfolding low
+returns c = let L = (c .before .loop) in let e : L .i ≡ c .before .before .before .args .n = omega arith in L .inv .1 ∙ rw e
+
+pub lowest-spec : {M : Type 1} → statement M
+lowest-spec =
+    tie.close
+    (tie.spec
+    Inv-loop
+    μ-loop
+    own-count-requires
+    loop-holds
+    mul-d
+    array-copy-out-d
+    mul-smaller
+    array-read-smaller
+    smaller-requires
+    add-i
+    loop-less
+    loop-again
+    returns)

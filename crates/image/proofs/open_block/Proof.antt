@@ -1,0 +1,98 @@
+use Rattle.image.specs.Parts.{openPiece, length-openPiece, one-more, filled}
+use Rattle.image.specs.Block.{openRaw}
+use Rattle.laws.specs.Cat.{cat}
+use lib.Seq.{sets}
+use mathlib.Core.Path.{_≡_, refl, ap, _∙_, sym}
+use native.Mathlib.Omega.{arith}
+use Prim.Native.Nat.{_+_, _≤_, _-_, _*_}
+use borrow.Author.Needs.{needs}
+use Rattle.image.proofs.open_block.Statement.{statement}
+use Rattle.image.proofs.open_block.Tie as tie
+use Rattle.image.proofs.open_block.Reads as reads
+use Rattle.image.proofs.open_block.Lts as lts
+use Rattle.image.proofs.open_or.Reads as open-or-reads
+use Rattle.image.proofs.put_head.Reads as put-head-reads
+use Rattle.image.proofs.put_open.Reads as put-open-reads
+use Rattle.image.proofs.seal.Reads as seal-reads
+
+abbrev Inv-loop : tie.InvT-loop
+Inv-loop at opens order count q b₀ j₀ b j = (j ≤ 18) × (b ≡ sets b₀ 4 (cat (openPiece opens order count q) j))
+
+abbrev μ-loop : tie.MeasureT-loop
+μ-loop at opens order count q b₀ j₀ b j = 18 - j
+
+-- src/lib.rt:233:5
+put-head-requires : tie.Need-put-head-requires Inv-loop μ-loop
+put-head-requires c κs = search needs
+
+-- src/lib.rt:235:5
+loop-holds : tie.Need-loop-holds Inv-loop μ-loop
+unfolding cat
+loop-holds c = search needs
+
+-- src/lib.rt:236:46
+mul-open-or : tie.Need-mul-open-or Inv-loop μ-loop
+mul-open-or c = search needs
+
+-- src/lib.rt:236:46
+add-open-or : tie.Need-add-open-or Inv-loop μ-loop
+add-open-or c = search needs
+
+-- src/lib.rt:236:13
+open-or-requires : tie.Need-open-or-requires Inv-loop μ-loop
+open-or-requires c κs = search needs
+
+-- src/lib.rt:237:30
+mul-put-open : tie.Need-mul-put-open Inv-loop μ-loop
+mul-put-open c = search needs
+
+-- src/lib.rt:237:26
+add-put-open : tie.Need-add-put-open Inv-loop μ-loop
+add-put-open c = search needs
+
+-- src/lib.rt:237:9
+put-open-requires : tie.Need-put-open-requires Inv-loop μ-loop
+put-open-requires c κs = search needs
+
+-- src/lib.rt:238:9
+add-j : tie.Need-add-j Inv-loop μ-loop
+add-j c = search needs
+
+-- src/lib.rt:235:5
+loop-less : tie.Need-loop-less Inv-loop μ-loop
+loop-less c = search needs
+
+-- src/lib.rt:235:5
+loop-again : tie.Need-loop-again Inv-loop μ-loop
+loop-again c = let L = c .before .before .before .before .loop in let A = c .before .before .before .before .before .before .before .args in
+    (search needs, one-more (openPiece (A .opens .now) (A .order .now) (A .count) (A .q)) 28 (length-openPiece (A .opens .now) (A .order .now) (A .count) (A .q)) (c .before .before .before .before .before .put-head .last .0) (L .b) (c .put-open .last .0) _ 4 (L .j) (4 + 28 * L .j) (L .inv .1) refl (ap openRaw (c .before .before .open-or .ensures .is)) (c .put-open .ensures))
+
+-- src/lib.rt:240:5
+seal-requires : tie.Need-seal-requires Inv-loop μ-loop
+seal-requires c κs = search needs
+
+-- src/lib.rt:228:1
+returns : tie.Need-returns Inv-loop μ-loop
+returns c = let L = c .before .before .before .loop in let A = c .before .before .before .before .before .before .args in
+    let e : L .j ≡ 18 = omega arith in
+    filled 4 (A .at) 18 28 (openPiece (A .opens .now) (A .order .now) (A .count) (A .q)) (c .before .before .before .before .put-head .last .0) (L .b) (c .seal .last .0) (length-openPiece (A .opens .now) (A .order .now) (A .count) (A .q)) (omega arith) (c .before .before .before .before .put-head .ensures) (L .inv .1 ∙ rw e) (c .seal .ensures)
+
+pub open-block-spec : {M : Type 1} → statement M
+open-block-spec =
+    tie.close
+    (tie.spec
+    Inv-loop
+    μ-loop
+    put-head-requires
+    loop-holds
+    mul-open-or
+    add-open-or
+    open-or-requires
+    mul-put-open
+    add-put-open
+    put-open-requires
+    add-j
+    loop-less
+    loop-again
+    seal-requires
+    returns)

@@ -1,0 +1,89 @@
+use Rattle.image.specs.Order.{ahead, ahead-more, low-own, count-at}
+use Rattle.image.specs.Counted.{counted, low}
+use Rattle.table.specs.Model.{appliedM}
+use Rattle.laws.specs.Cat.{cat}
+use lib.ListN.{length}
+use native.Mathlib.Omega.{arith}
+use mathlib.Core.Path.{_≡_, _∙_, refl}
+use Prim.Native.Nat.{_+_, _≤_, _-_, _*_, suc}
+use borrow.Author.Needs.{needs}
+use Rattle.image.proofs.open_count.Statement.{statement}
+use Rattle.image.proofs.open_count.Tie as tie
+use Rattle.image.proofs.open_count.Reads as reads
+use Rattle.image.proofs.open_count.Lts as lts
+use Rattle.image.proofs.lowest.Reads as lowest-reads
+use Rattle.image.proofs.number.Reads as number-reads
+use Rattle.image.proofs.own_count.Reads as own-count-reads
+
+abbrev Inv-loop : tie.InvT-loop
+Inv-loop desks n r₀ u₀ r u = (u ≤ n) × ((r ≡ length (ahead n desks u)) × (r ≤ 65536 * u))
+
+abbrev μ-loop : tie.MeasureT-loop
+μ-loop desks n r₀ u₀ r u = n - u
+
+-- src/lib.rt:366:5
+loop-holds : tie.Need-loop-holds Inv-loop μ-loop
+unfolding cat
+loop-holds c = search needs
+
+-- src/lib.rt:367:26
+own-count-requires : tie.Need-own-count-requires Inv-loop μ-loop
+own-count-requires c κs = search needs
+
+-- src/lib.rt:367:13
+number-requires : tie.Need-number-requires Inv-loop μ-loop
+number-requires c κs = search needs
+
+-- src/lib.rt:368:25
+lowest-requires : tie.Need-lowest-requires Inv-loop μ-loop
+lowest-requires c κs = search needs
+
+-- src/lib.rt:368:13
+number-requires-2 : tie.Need-number-requires-2 Inv-loop μ-loop
+number-requires-2 c κs = search needs
+
+-- src/lib.rt:369:18
+sub-r : tie.Need-sub-r Inv-loop μ-loop
+sub-r c = let A = (c .before .before .before .before .before .before .args) in let L = (c .before .before .before .before .before .loop) in omega (arith, c .before .before .before .own-count .ensures, c .before .lowest .ensures, c .before .before .number .ensures .0, c .number2 .ensures .0, low-own (A .n) (appliedM (A .desks)) (suc (L .u)))
+
+-- src/lib.rt:369:13
+add-r : tie.Need-add-r Inv-loop μ-loop
+add-r c = search needs
+
+-- src/lib.rt:370:9
+add-u : tie.Need-add-u Inv-loop μ-loop
+add-u c = search needs
+
+-- src/lib.rt:366:5
+loop-less : tie.Need-loop-less Inv-loop μ-loop
+loop-less c = search needs
+
+-- src/lib.rt:366:5
+loop-again : tie.Need-loop-again Inv-loop μ-loop
+loop-again c = let L = (c .before .before .before .before .before .loop) in let A = (c .before .before .before .before .before .before .args) in
+    let eo = c .before .before .number .ensures .0 ∙ c .before .before .before .own-count .ensures ∙ count-at (A .desks) (L .u) (L .u) in
+    let el = c .number2 .ensures .0 ∙ c .before .lowest .ensures in
+    (search needs, (ahead-more (A .n) (A .desks) (L .u) (L .r) _ (c .before .before .number .result) (c .number2 .result) (L .inv .1 .0) eo el refl, omega (arith, c .before .before .number .ensures .1)))
+
+-- src/lib.rt:360:1
+returns : tie.Need-returns Inv-loop μ-loop
+unfolding counted
+returns c = let L = (c .before .loop) in let d = (c .before .before .pre) in let e : L .u ≡ c .before .before .args .n = omega arith in (L .inv .1 .0 ∙ rw e, omega arith)
+
+pub open-count-spec : {M : Type 1} → statement M
+open-count-spec =
+    tie.close
+    (tie.spec
+    Inv-loop
+    μ-loop
+    loop-holds
+    own-count-requires
+    number-requires
+    lowest-requires
+    number-requires-2
+    sub-r
+    add-r
+    add-u
+    loop-less
+    loop-again
+    returns)

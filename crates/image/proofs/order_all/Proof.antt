@@ -1,0 +1,91 @@
+use Rattle.image.specs.Order.{ahead, Ordered, ordered-none, ordered-next, known-room, low-own}
+use Rattle.image.specs.Counted.{counted, low}
+use Rattle.table.specs.Model.{appliedM, opensM}
+use Rattle.laws.specs.Cat.{cat}
+use lib.ListN.{length}
+use native.Mathlib.Numerals.{add-one}
+use native.Mathlib.Omega.{arith}
+use mathlib.Core.Path.{_≡_, _∙_, ap}
+use Prim.Native.Nat.{_+_, _≤_, _-_, _*_, suc, _<_}
+use borrow.Author.Needs.{needs}
+use Rattle.image.proofs.order_all.Statement.{statement}
+use Rattle.image.proofs.order_all.Tie as tie
+use Rattle.image.proofs.order_all.Reads as reads
+use Rattle.image.proofs.order_all.Lts as lts
+use Rattle.image.proofs.lowest.Reads as lowest-reads
+use Rattle.image.proofs.order_of.Reads as order-of-reads
+use Rattle.image.proofs.own_count.Reads as own-count-reads
+
+abbrev Inv-loop : tie.InvT-loop
+Inv-loop opens desks n order₀ count₀ u₀ order count u = (u ≤ n) × (Ordered opens (ahead n desks u) order count × (length order ≡ 64))
+
+abbrev μ-loop : tie.MeasureT-loop
+μ-loop opens desks n order₀ count₀ u₀ order count u = n - u
+
+-- src/lib.rt:402:5
+loop-holds : tie.Need-loop-holds Inv-loop μ-loop
+unfolding cat
+loop-holds c = (search needs, (ordered-none _ _, search needs))
+
+-- src/lib.rt:403:13
+own-count-requires : tie.Need-own-count-requires Inv-loop μ-loop
+own-count-requires c κs = let d = c .before .before .before .pre .1 .desks in omega arith
+
+-- src/lib.rt:404:13
+lowest-requires : tie.Need-lowest-requires Inv-loop μ-loop
+lowest-requires c κs = let d = c .before .before .before .before .pre .1 .desks in omega arith
+
+-- src/lib.rt:405:33
+add-order-of : tie.Need-add-order-of Inv-loop μ-loop
+add-order-of c = let d = c .before .before .before .before .before .pre .1 .desks in omega arith
+
+-- src/lib.rt:405:9
+order-of-requires : tie.Need-order-of-requires Inv-loop μ-loop
+order-of-requires c κs = let L = (c .before .before .before .before .loop) in let A = (c .before .before .before .before .before .before .args) in let K = c .before .before .before .before .before .before .pre .1 in
+    let eo = c .before .before .own-count .ensures in let el = c .before .lowest .ensures in
+    let d = K .desks in
+    let lo = low-own (A .n) (appliedM (A .desks)) (suc (L .u)) in
+    let room = known-room (A .n) (A .desks) (A .opens .now) (L .u) K (c .before .before .before .loop-test .taken) in
+    let s = L .inv .1 .0 .size in
+    let q = add-one (L .u) in
+    (((omega arith, omega arith), (omega arith, omega arith)), λ k a b. rw q (K .found (L .u) k (c .before .before .before .loop-test .taken) (omega arith) (omega arith)))
+
+-- src/lib.rt:406:9
+add-u : tie.Need-add-u Inv-loop μ-loop
+add-u c = let d = c .before .before .before .before .before .before .before .before .before .pre .1 .desks in omega arith
+
+-- src/lib.rt:402:5
+loop-less : tie.Need-loop-less Inv-loop μ-loop
+loop-less c = search needs
+
+-- src/lib.rt:402:5
+loop-again : tie.Need-loop-again Inv-loop μ-loop
+loop-again c = let L = (c .before .before .before .before .before .before .before .loop) in let A = (c .before .before .before .before .before .before .before .before .before .args) in
+    (search needs, (ordered-next (A .opens .now) (A .n) (A .desks) (L .order) (c .before .before .order-of .last .1 .1 .1 .1 .0) (L .u) (c .before .before .before .before .lowest .result) (c .before .before .before .before .before .own-count .result) (L .count) (c .before .before .order-of .result) (L .inv .1 .0) (c .before .before .before .before .lowest .ensures) (c .before .before .before .before .before .own-count .ensures) (c .before .before .order-of .ensures),
+    c .before .before .order-of .ensures .long ∙ L .inv .1 .1))
+
+-- src/lib.rt:396:1
+same-length : tie.Need-same-length Inv-loop μ-loop
+same-length c = search needs
+
+-- src/lib.rt:396:1
+returns : tie.Need-returns Inv-loop μ-loop
+unfolding counted
+returns c = let L = (c .before .loop) in let e : L .u ≡ c .before .before .before .args .n = omega arith in rw e at (L .inv .1 .0)
+
+pub order-all-spec : {M : Type 1} → statement M
+order-all-spec =
+    tie.close
+    (tie.spec
+    Inv-loop
+    μ-loop
+    loop-holds
+    own-count-requires
+    lowest-requires
+    add-order-of
+    order-of-requires
+    add-u
+    loop-less
+    loop-again
+    same-length
+    returns)

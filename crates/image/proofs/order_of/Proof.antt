@@ -1,0 +1,105 @@
+use Rattle.table.specs.Opens.{found-none}
+use Rattle.table.specs.Names.{namedAt, found-at}
+use Rattle.image.specs.Order.{Listed, listed-none, listed-more}
+use lib.ListN.{length}
+use native.Mathlib.Omega.{arith}
+use mathlib.Core.Path.{_≡_, _∙_}
+use Prim.Native.Nat.{_+_, _≤_, _-_}
+use borrow.Author.Needs.{needs}
+use Rattle.image.proofs.order_of.Statement.{statement}
+use Rattle.image.proofs.order_of.Tie as tie
+use Rattle.image.proofs.order_of.Reads as reads
+use Rattle.image.proofs.order_of.Lts as lts
+use Rattle.table.proofs.find.Reads as find-reads
+
+abbrev Inv-loop : tie.InvT-loop
+Inv-loop opens u lo own order₀ p k₀ at₀ order k at = (lo ≤ k) × ((k ≤ own) × Listed opens u lo k p order₀ order at)
+
+abbrev μ-loop : tie.MeasureT-loop
+μ-loop opens u lo own order₀ p k₀ at₀ order k at = own - k
+
+-- src/lib.rt:383:5
+loop-holds : tie.Need-loop-holds Inv-loop μ-loop
+loop-holds c = (search needs, (search needs, listed-none _ _ _ _ _))
+
+-- src/lib.rt:384:43
+add-find : tie.Need-add-find Inv-loop μ-loop
+add-find c = search needs
+
+-- src/lib.rt:384:13
+find-requires : tie.Need-find-requires Inv-loop μ-loop
+find-requires c κs = search needs
+
+-- src/lib.rt:385:23
+enum-known-found : tie.Need-enum-known-found Inv-loop μ-loop
+enum-known-found c = search needs
+
+-- src/lib.rt:386:13
+enum-told : tie.Need-enum-told Inv-loop μ-loop
+enum-told c = search needs
+
+-- src/lib.rt:386:13
+same-length : tie.Need-same-length Inv-loop μ-loop
+same-length c = search needs
+
+-- src/lib.rt:386:13
+returns : tie.Need-returns Inv-loop μ-loop
+returns c = let L = (c .before .before .before .before .loop) in let A = (c .before .before .before .before .before .before .args) in absurd (c .before .before .before .before .before .before .pre .1 (L .k + 1) (omega arith) (omega arith) (found-none (A .opens .now) (A .u) (L .k + 1) (c .before .before .find .result) (c .before .before .find .ensures) (c .enum-told .given .1)))
+
+-- src/lib.rt:388:9
+mul-order : tie.Need-mul-order Inv-loop μ-loop
+mul-order c = search needs
+
+-- src/lib.rt:388:9
+slice-write-order : tie.Need-slice-write-order Inv-loop μ-loop
+slice-write-order c = search needs
+
+-- src/lib.rt:389:9
+add-at : tie.Need-add-at Inv-loop μ-loop
+add-at c = search needs
+
+-- src/lib.rt:390:9
+add-k : tie.Need-add-k Inv-loop μ-loop
+add-k c = search needs
+
+-- src/lib.rt:383:5
+loop-less : tie.Need-loop-less Inv-loop μ-loop
+loop-less c = search needs
+
+-- src/lib.rt:383:5
+loop-again : tie.Need-loop-again Inv-loop μ-loop
+loop-again c = let L = (c .before .before .before .before .before .loop) in let A = (c .before .before .before .before .before .before .before .args) in let e = c .before .found .given .0 .0 in
+    let f = found-at (namedAt (A .opens .now) (A .u) (L .k + 1)) (c .before .before .before .find .result) e (c .before .before .before .find .ensures) (c .before .found .given .1) in
+    let b = L .inv .1 .1 .behind in
+    let l = L .inv .1 .1 .long in
+    (omega arith, (omega arith, listed-more (A .opens .now) (A .u) (A .lo) (L .k) (A .p) (A .order .now) (L .order) (L .at) e (L .inv .1 .1) (L .inv .0) (omega arith) f))
+
+-- src/lib.rt:376:1
+same-length-2 : tie.Need-same-length-2 Inv-loop μ-loop
+same-length-2 c = search needs
+
+-- src/lib.rt:376:1
+returns-2 : tie.Need-returns-2 Inv-loop μ-loop
+returns-2 c = let L = (c .before .loop) in let e : L .k ≡ c .before .before .before .args .own = omega arith in rw e at (L .inv .1 .1)
+
+pub order-of-spec : {M : Type 1} → statement M
+order-of-spec =
+    tie.close
+    (tie.spec
+    Inv-loop
+    μ-loop
+    loop-holds
+    add-find
+    find-requires
+    enum-known-found
+    enum-told
+    same-length
+    returns
+    mul-order
+    slice-write-order
+    add-at
+    add-k
+    loop-less
+    loop-again
+    same-length-2
+    returns-2)

@@ -1,0 +1,80 @@
+use Rattle.image.specs.Fill.{tab-put}
+use Rattle.image.specs.Encode.{markBytes}
+use Rattle.laws.specs.Tab.{tab, tabFrom}
+use lib.Seq.{sets}
+use lib.ListN.{getD}
+use mathlib.Core.Path.{_≡_, refl, ap, _∙_, sym}
+use native.Mathlib.Omega.{arith}
+use Prim.Native.Nat.{_+_, _≤_, _-_}
+use borrow.Author.Needs.{needs}
+use Rattle.image.proofs.put_marks.Statement.{statement}
+use Rattle.image.proofs.put_marks.Tie as tie
+use Rattle.image.proofs.put_marks.Reads as reads
+use Rattle.image.proofs.put_marks.Lts as lts
+use Rattle.image.proofs.byte.Reads as byte-reads
+
+abbrev Inv-loop : tie.InvT-loop
+Inv-loop b₀ at v t₀ b t = (t ≤ 8) × (b ≡ sets b₀ at (tab t (λ k. getD v k 0)))
+
+abbrev μ-loop : tie.MeasureT-loop
+μ-loop b₀ at v t₀ b t = 8 - t
+
+-- src/lib.rt:97:5
+loop-holds : tie.Need-loop-holds Inv-loop μ-loop
+unfolding tab tabFrom
+loop-holds c = search needs
+
+-- src/lib.rt:98:26
+mul-byte : tie.Need-mul-byte Inv-loop μ-loop
+mul-byte c = search needs
+
+-- src/lib.rt:98:26
+array-read-byte : tie.Need-array-read-byte Inv-loop μ-loop
+array-read-byte c = search needs
+
+-- src/lib.rt:98:21
+byte-requires : tie.Need-byte-requires Inv-loop μ-loop
+byte-requires c κs = c .before .before .pre .1 (c .before .loop .t)
+
+-- src/lib.rt:98:11
+add-b : tie.Need-add-b Inv-loop μ-loop
+add-b c = search needs
+
+-- src/lib.rt:98:9
+element-write-b : tie.Need-element-write-b Inv-loop μ-loop
+element-write-b c = search needs
+
+-- src/lib.rt:99:9
+add-t : tie.Need-add-t Inv-loop μ-loop
+add-t c = search needs
+
+-- src/lib.rt:97:5
+loop-less : tie.Need-loop-less Inv-loop μ-loop
+loop-less c = search needs
+
+-- src/lib.rt:97:5
+loop-again : tie.Need-loop-again Inv-loop μ-loop
+loop-again c = let L = c .before .before .loop in let A = c .before .before .before .args in
+    (search needs, rw (c .byte .ensures, L .inv .1) (tab-put (λ k. getD (A .t3) k 0) (A .b .now) (A .at) (L .t)))
+
+-- src/lib.rt:91:1
+returns : tie.Need-returns Inv-loop μ-loop
+unfolding markBytes
+returns c = let L = c .before .loop in let e : L .t ≡ 8 = omega arith in L .inv .1 ∙ rw e
+
+pub put-marks-spec : {M : Type 1} → statement M
+put-marks-spec =
+    tie.close
+    (tie.spec
+    Inv-loop
+    μ-loop
+    loop-holds
+    mul-byte
+    array-read-byte
+    byte-requires
+    add-b
+    element-write-b
+    add-t
+    loop-less
+    loop-again
+    returns)

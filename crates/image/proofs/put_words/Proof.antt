@@ -1,0 +1,80 @@
+use Rattle.image.specs.Fill.{sets-more}
+use Rattle.image.specs.Encode.{word, words}
+use Rattle.laws.specs.Cat.{cat, length-cat}
+use lib.Seq.{sets}
+use lib.ListN.{getD}
+use mathlib.Core.Path.{_≡_, refl, ap, _∙_, sym}
+use native.Mathlib.Omega.{arith}
+use Prim.Native.Nat.{_+_, _≤_, _-_, _*_}
+use borrow.Author.Needs.{needs}
+use Rattle.image.proofs.put_words.Statement.{statement}
+use Rattle.image.proofs.put_words.Tie as tie
+use Rattle.image.proofs.put_words.Reads as reads
+use Rattle.image.proofs.put_words.Lts as lts
+use Rattle.image.proofs.put_word.Reads as put-word-reads
+
+abbrev Inv-loop : tie.InvT-loop
+Inv-loop b₀ at v t₀ b t = (t ≤ 8) × (b ≡ sets b₀ at (cat (λ k. word (getD v k 0)) t))
+
+abbrev μ-loop : tie.MeasureT-loop
+μ-loop b₀ at v t₀ b t = 8 - t
+
+-- src/lib.rt:85:5
+loop-holds : tie.Need-loop-holds Inv-loop μ-loop
+unfolding cat
+loop-holds c = search needs
+
+-- src/lib.rt:86:26
+mul-put-word : tie.Need-mul-put-word Inv-loop μ-loop
+mul-put-word c = search needs
+
+-- src/lib.rt:86:21
+add-put-word : tie.Need-add-put-word Inv-loop μ-loop
+add-put-word c = search needs
+
+-- src/lib.rt:86:33
+mul-put-word-2 : tie.Need-mul-put-word-2 Inv-loop μ-loop
+mul-put-word-2 c = search needs
+
+-- src/lib.rt:86:33
+array-read-put-word : tie.Need-array-read-put-word Inv-loop μ-loop
+array-read-put-word c = search needs
+
+-- src/lib.rt:86:9
+put-word-requires : tie.Need-put-word-requires Inv-loop μ-loop
+put-word-requires c κs = search needs
+
+-- src/lib.rt:87:9
+add-t : tie.Need-add-t Inv-loop μ-loop
+add-t c = search needs
+
+-- src/lib.rt:85:5
+loop-less : tie.Need-loop-less Inv-loop μ-loop
+loop-less c = search needs
+
+-- src/lib.rt:85:5
+loop-again : tie.Need-loop-again Inv-loop μ-loop
+loop-again c = let L = c .before .before .before .loop in let A = c .before .before .before .before .args in
+    (search needs, c .put-word .ensures ∙ rw (L .inv .1) (sets-more (λ k. word (getD (A .t3) k 0)) (A .b .now) (A .at) (L .t) (2 * L .t) (length-cat (λ k. word (getD (A .t3) k 0)) 2 (λ j. refl) (L .t))))
+
+-- src/lib.rt:80:1
+returns : tie.Need-returns Inv-loop μ-loop
+unfolding words
+returns c = let L = c .before .loop in let e : L .t ≡ 8 = omega arith in L .inv .1 ∙ rw e
+
+pub put-words-spec : {M : Type 1} → statement M
+put-words-spec =
+    tie.close
+    (tie.spec
+    Inv-loop
+    μ-loop
+    loop-holds
+    mul-put-word
+    add-put-word
+    mul-put-word-2
+    array-read-put-word
+    put-word-requires
+    add-t
+    loop-less
+    loop-again
+    returns)

@@ -1,0 +1,96 @@
+use Rattle.image.specs.Parts.{deskBlock, length-deskBlock, desk-block-is, one-more}
+use Rattle.laws.specs.Cat.{cat}
+use lib.Seq.{sets, length-sets}
+use lib.ListN.{length}
+use mathlib.Core.Path.{_≡_, refl, ap, _∙_, sym}
+use native.Mathlib.Omega.{arith}
+use Prim.Native.Nat.{_+_, _≤_, _-_, _*_}
+use borrow.Author.Needs.{needs}
+use Rattle.image.proofs.save_desks.Statement.{statement}
+use Rattle.image.proofs.save_desks.Tie as tie
+use Rattle.image.proofs.save_desks.Reads as reads
+use Rattle.image.proofs.save_desks.Lts as lts
+use Rattle.image.proofs.desk_block.Reads as desk-block-reads
+use Rattle.image.proofs.store.Reads as store-reads
+
+abbrev Inv-loop : tie.InvT-loop
+Inv-loop out₀ n desks i₀ out i = (i ≤ n) × ((out ≡ sets out₀ 512 (cat (deskBlock desks) i)) × (length out ≡ length out₀))
+
+abbrev μ-loop : tie.MeasureT-loop
+μ-loop out₀ n desks i₀ out i = n - i
+
+-- src/lib.rt:265:5
+loop-holds : tie.Need-loop-holds Inv-loop μ-loop
+unfolding cat
+loop-holds c = search needs
+
+-- src/lib.rt:266:17
+mul-d : tie.Need-mul-d Inv-loop μ-loop
+mul-d c = search needs
+
+-- src/lib.rt:266:17
+array-copy-out-d : tie.Need-array-copy-out-d Inv-loop μ-loop
+array-copy-out-d c = search needs
+
+-- src/lib.rt:267:18
+add-k : tie.Need-add-k Inv-loop μ-loop
+add-k c = search needs
+
+-- src/lib.rt:267:17
+cast-k : tie.Need-cast-k Inv-loop μ-loop
+cast-k c = search needs
+
+-- src/lib.rt:268:13
+desk-block-requires : tie.Need-desk-block-requires Inv-loop μ-loop
+desk-block-requires c κs = search needs
+
+-- src/lib.rt:269:20
+add-store : tie.Need-add-store Inv-loop μ-loop
+add-store c = search needs
+
+-- src/lib.rt:269:9
+store-requires : tie.Need-store-requires Inv-loop μ-loop
+store-requires c κs = search needs
+
+-- src/lib.rt:270:9
+add-i : tie.Need-add-i Inv-loop μ-loop
+add-i c = search needs
+
+-- src/lib.rt:265:5
+loop-less : tie.Need-loop-less Inv-loop μ-loop
+loop-less c = search needs
+
+-- src/lib.rt:265:5
+loop-again : tie.Need-loop-again Inv-loop μ-loop
+loop-again c = let L = (c .before .before .before .before .before .before .before .loop) in let A = (c .before .before .before .before .before .before .before .before .before .args) in
+    let f = desk-block-is (A .t2) (L .i) (1 + L .i) (c .before .before .before .before .desk-block .result) refl (c .before .before .before .before .desk-block .ensures) in
+    let e = one-more (deskBlock (A .t2)) 512 (length-deskBlock (A .t2)) (A .out .now) (L .out) (c .before .before .store .last .0) (c .before .before .before .before .desk-block .result) 512 (L .i) (512 * (1 + L .i)) (L .inv .1 .0) (omega arith) f (c .before .before .store .ensures) in
+    (search needs, (e, ap length e ∙ length-sets (A .out .now) 512 (cat (deskBlock (A .t2)) (L .i + 1))))
+
+-- src/lib.rt:260:1
+same-length : tie.Need-same-length Inv-loop μ-loop
+same-length c = search needs
+
+-- src/lib.rt:260:1
+returns : tie.Need-returns Inv-loop μ-loop
+returns c = let L = (c .before .loop) in let e : L .i ≡ c .before .before .before .args .n = omega arith in L .inv .1 .0 ∙ rw e
+
+pub save-desks-spec : {M : Type 1} → statement M
+save-desks-spec =
+    tie.close
+    (tie.spec
+    Inv-loop
+    μ-loop
+    loop-holds
+    mul-d
+    array-copy-out-d
+    add-k
+    cast-k
+    desk-block-requires
+    add-store
+    store-requires
+    add-i
+    loop-less
+    loop-again
+    same-length
+    returns)

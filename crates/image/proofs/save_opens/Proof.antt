@@ -1,0 +1,86 @@
+use Rattle.image.specs.Parts.{openBlock, length-openBlock, one-more}
+use Rattle.laws.specs.Cat.{cat}
+use lib.Seq.{sets, length-sets}
+use lib.ListN.{length}
+use mathlib.Core.Path.{_≡_, refl, ap, _∙_, sym}
+use native.Mathlib.Omega.{arith}
+use Prim.Native.Nat.{_+_, _≤_, _-_, _*_}
+use borrow.Author.Needs.{needs}
+use Rattle.image.proofs.save_opens.Statement.{statement}
+use Rattle.image.proofs.save_opens.Tie as tie
+use Rattle.image.proofs.save_opens.Reads as reads
+use Rattle.image.proofs.save_opens.Lts as lts
+use Rattle.image.proofs.open_block.Reads as open-block-reads
+use Rattle.image.proofs.store.Reads as store-reads
+
+abbrev Inv-loop : tie.InvT-loop
+Inv-loop out₀ k opens order count c q₀ out q = (q ≤ c) × ((out ≡ sets out₀ (512 * k) (cat (openBlock opens order count k) q)) × (length out ≡ length out₀))
+
+abbrev μ-loop : tie.MeasureT-loop
+μ-loop out₀ k opens order count c q₀ out q = c - q
+
+-- src/lib.rt:305:5
+loop-holds : tie.Need-loop-holds Inv-loop μ-loop
+unfolding cat
+loop-holds c = search needs
+
+-- src/lib.rt:306:29
+add-open-block : tie.Need-add-open-block Inv-loop μ-loop
+add-open-block c = search needs
+
+-- src/lib.rt:306:28
+cast-open-block : tie.Need-cast-open-block Inv-loop μ-loop
+cast-open-block c = search needs
+
+-- src/lib.rt:306:13
+open-block-requires : tie.Need-open-block-requires Inv-loop μ-loop
+open-block-requires c κs = search needs
+
+-- src/lib.rt:307:20
+add-store : tie.Need-add-store Inv-loop μ-loop
+add-store c = search needs
+
+-- src/lib.rt:307:9
+store-requires : tie.Need-store-requires Inv-loop μ-loop
+store-requires c κs = search needs
+
+-- src/lib.rt:308:9
+add-q : tie.Need-add-q Inv-loop μ-loop
+add-q c = search needs
+
+-- src/lib.rt:305:5
+loop-less : tie.Need-loop-less Inv-loop μ-loop
+loop-less c = search needs
+
+-- src/lib.rt:305:5
+loop-again : tie.Need-loop-again Inv-loop μ-loop
+loop-again c = let L = (c .before .before .before .before .before .before .loop) in let A = (c .before .before .before .before .before .before .before .before .args) in
+    let f = openBlock (A .opens .now) (A .order .now) (A .count) (A .k) in
+    let e = one-more f 512 (length-openBlock (A .opens .now) (A .order .now) (A .count) (A .k)) (A .out .now) (L .out) (c .before .before .store .last .0) (c .before .before .before .before .open-block .result) (512 * A .k) (L .q) (512 * (A .k + L .q)) (L .inv .1 .0) (omega arith) (c .before .before .before .before .open-block .ensures) (c .before .before .store .ensures) in
+    (search needs, (e, ap length e ∙ length-sets (A .out .now) (512 * A .k) (cat f (L .q + 1))))
+
+-- src/lib.rt:300:1
+same-length : tie.Need-same-length Inv-loop μ-loop
+same-length c = search needs
+
+-- src/lib.rt:300:1
+returns : tie.Need-returns Inv-loop μ-loop
+returns c = let L = (c .before .loop) in let e : L .q ≡ c .before .before .before .args .c = omega arith in L .inv .1 .0 ∙ rw e
+
+pub save-opens-spec : {M : Type 1} → statement M
+save-opens-spec =
+    tie.close
+    (tie.spec
+    Inv-loop
+    μ-loop
+    loop-holds
+    add-open-block
+    cast-open-block
+    open-block-requires
+    add-store
+    store-requires
+    add-q
+    loop-less
+    loop-again
+    same-length
+    returns)

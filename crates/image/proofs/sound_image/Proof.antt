@@ -1,0 +1,104 @@
+use Rattle.image.specs.Sound.{blockIn, rightCheck, sound, sound-none, sound-odd, sound-start}
+use Rattle.laws.specs.Cat.{part}
+use Rattle.laws.specs.All.{all, all-next, all-end, all-fails}
+use lib.ListN.{length, length-take, length-drop, take, drop}
+use borrow.Author.Tests.{not-true, not-false}
+use native.Mathlib.Nat.{sub-zero}
+use native.Mathlib.Omega.{arith}
+use mathlib.Core.Path.{_≡_, refl, _∙_, sym, ap}
+use Prim.Native.Nat.{_+_, _*_, _≤_, _-_, _/_}
+use borrow.Author.Needs.{needs}
+use Rattle.image.proofs.sound_image.Statement.{statement}
+use Rattle.image.proofs.sound_image.Tie as tie
+use Rattle.image.proofs.sound_image.Reads as reads
+use Rattle.image.proofs.sound_image.Lts as lts
+use Rattle.image.proofs.right.Reads as right-reads
+
+abbrev Inv-loop : tie.InvT-loop
+Inv-loop b n count k₀ k = (k ≤ count) × (all (λ k. rightCheck (blockIn b k)) (count - k) k ≡ sound b)
+
+abbrev μ-loop : tie.MeasureT-loop
+μ-loop b n count k₀ k = count - k
+
+-- src/lib.rt:96:9
+returns : tie.Need-returns Inv-loop μ-loop
+returns c = sym (sound-none (c .before .before .args .b .now) (c .if1 .taken))
+
+-- src/lib.rt:99:9
+returns-2 : tie.Need-returns-2 Inv-loop μ-loop
+returns-2 c = sym (sound-odd (c .before .before .before .args .b .now) (c .if2 .taken))
+
+-- src/lib.rt:103:5
+loop-holds : tie.Need-loop-holds Inv-loop μ-loop
+loop-holds c = (search needs, rw sub-zero (sound-start (c .before .before .before .args .b .now) (c .before .if1 .left) (c .if2 .left)))
+
+-- src/lib.rt:104:18
+mul-at : tie.Need-mul-at Inv-loop μ-loop
+mul-at c = search needs
+
+-- src/lib.rt:105:17
+add-e : tie.Need-add-e Inv-loop μ-loop
+add-e c = search needs
+
+-- src/lib.rt:106:19
+sub-right : tie.Need-sub-right Inv-loop μ-loop
+sub-right c = search needs
+
+-- src/lib.rt:106:19
+part-right-start : tie.Need-part-right-start Inv-loop μ-loop
+part-right-start c = search needs
+
+-- src/lib.rt:106:19
+part-right-end : tie.Need-part-right-end Inv-loop μ-loop
+part-right-end c = search needs
+
+-- src/lib.rt:106:13
+right-requires : tie.Need-right-requires Inv-loop μ-loop
+right-requires c κs = simp (length-take, length-drop) (omega arith)
+
+-- src/lib.rt:107:13
+returns-3 : tie.Need-returns-3 Inv-loop μ-loop
+unfolding part
+returns-3 c = let L = (c .before .before .before .before .loop) in let b = c .before .before .before .before .before .before .before .before .args .b .now in let q : 512 * L .k + 512 - 512 * L .k ≡ 512 = omega arith in
+    let t : c .before .right .result ≡ rightCheck (take (512 * L .k + 512 - 512 * L .k) (drop (512 * L .k) b)) = c .before .right .ensures in
+    let e : rightCheck (blockIn b (L .k)) ≡ c .before .right .result = sym (t ∙ rw q) in sym (all-fails (λ k. rightCheck (blockIn b k)) (length b / 512) (L .k) (search needs) (e ∙ not-true _ (c .if3 .taken))) ∙ L .inv .1
+
+-- src/lib.rt:109:9
+add-k : tie.Need-add-k Inv-loop μ-loop
+add-k c = search needs
+
+-- src/lib.rt:103:5
+loop-less : tie.Need-loop-less Inv-loop μ-loop
+loop-less c = search needs
+
+-- src/lib.rt:103:5
+loop-again : tie.Need-loop-again Inv-loop μ-loop
+unfolding part
+loop-again c = let L = (c .before .before .before .before .loop) in let b = c .before .before .before .before .before .before .before .before .args .b .now in let q : 512 * L .k + 512 - 512 * L .k ≡ 512 = omega arith in
+    let t : c .before .right .result ≡ rightCheck (take (512 * L .k + 512 - 512 * L .k) (drop (512 * L .k) b)) = c .before .right .ensures in
+    let e : rightCheck (blockIn b (L .k)) ≡ c .before .right .result = sym (t ∙ rw q) in (search needs, sym (all-next (λ k. rightCheck (blockIn b k)) (length b / 512) (L .k) (search needs) (e ∙ not-false _ (c .if3 .left))) ∙ L .inv .1)
+
+-- src/lib.rt:91:1
+returns-4 : tie.Need-returns-4 Inv-loop μ-loop
+returns-4 c = let L = (c .before .loop) in sym (all-end _ _ (L .k) (search needs)) ∙ L .inv .1
+
+pub sound-image-spec : {M : Type 1} → statement M
+sound-image-spec =
+    tie.close
+    (tie.spec
+    Inv-loop
+    μ-loop
+    returns
+    returns-2
+    loop-holds
+    mul-at
+    add-e
+    sub-right
+    part-right-start
+    part-right-end
+    right-requires
+    returns-3
+    add-k
+    loop-less
+    loop-again
+    returns-4)

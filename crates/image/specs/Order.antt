@@ -1,0 +1,134 @@
+-- The open writes in their order: the entries that hold them, by writer then number.
+use Prim.Native.Nat.{ℕ, zero, suc, _+_, _-_, _*_, _<_, _≤_, min}
+use mathlib.Core.Path.{_≡_, refl, sym, ap, _∙_}
+use mathlib.Core.Bool.{Bool, true, false}
+use mathlib.Core.List.{List, [], _∷_, _++_}
+use mathlib.Core.Option.{none}
+use native.Mathlib.Omega.{arith}
+use native.Mathlib.Numerals.{add-one}
+use native.Mathlib.Decide.{decLt}
+use lib.ListN.{length, getD, set, length-append, length-set, List·getD-append}
+use lib.Seq.{getD-set-same, getD-set-other, getD-append-add}
+use Rattle.laws.specs.Update.{same-or}
+use Rattle.laws.specs.Tab.{tab, getD-tab, length-tab}
+use Rattle.laws.specs.Cat.{cat, cat-le}
+use Rattle.clock.specs.Vectors.{places, place}
+use Rattle.machine.specs.Table.{Vec, Name, name}
+use Rattle.table.specs.declared.Desk.{Desk}
+use Rattle.table.specs.Value.{desk0, entries}
+use Rattle.table.specs.Names.{namedAt}
+use Rattle.table.specs.Model.{appliedM, opensM}
+use Rattle.image.specs.Names.{no-name}
+use Rattle.image.specs.Counted.{least, low, openAbove, counted}
+
+-- the count of t at desk i, both from 0, as the code reads it
+pub count-at : (ds : List Desk) (i t : ℕ) → appliedM ds (suc i) (suc t) ≡ getD (getD ds i desk0 .applied) t 0
+unfolding appliedM
+count-at ds i t = refl
+
+-- the least count: none looked at; one more
+pub low-start : (ds : List Desk) (u r : ℕ) → r ≡ getD (getD ds u desk0 .applied) u 0 → r ≡ least (appliedM ds (suc u) (suc u)) (λ i. appliedM ds i (suc u)) 0
+unfolding least
+low-start ds u r e = e ∙ sym (count-at ds u u)
+
+pub low-more : (ds : List Desk) (d u i r s : ℕ) → r ≡ least d (λ i. appliedM ds i (suc u)) i → s ≡ min (getD (getD ds i desk0 .applied) u 0) r
+    → s ≡ least d (λ i. appliedM ds i (suc u)) (i + 1)
+unfolding least
+low-more ds d u i r s e f = f ∙ rw (add-one i, e, count-at ds i u)
+
+pub low-own : (n : ℕ) (a : ℕ → Vec) (u : ℕ) → low n a u ≤ a u u
+unfolding low least
+low-own zero a u = omega arith
+low-own (suc n) a u = let r = low-own n a u in omega arith
+
+-- how many are open: of the writers before u, and one writer more
+abbrev pub ahead : ℕ → List Desk → ℕ → List Name
+ahead n ds u = cat (λ u. openAbove n (appliedM ds) (suc u)) u
+
+pub length-above : (n : ℕ) (ds : List Desk) (u : ℕ) → length (openAbove n (appliedM ds) (suc u)) ≡ appliedM ds (suc u) (suc u) - low n (appliedM ds) (suc u)
+length-above n ds u = length-tab (λ j. name (suc u) (suc (low n (appliedM ds) (suc u) + j))) (appliedM ds (suc u) (suc u) - low n (appliedM ds) (suc u))
+
+pub ahead-more : (n : ℕ) (ds : List Desk) (u r s o l : ℕ) → r ≡ length (ahead n ds u) → o ≡ getD (getD ds u desk0 .applied) u 0 → l ≡ low n (appliedM ds) (suc u) → s ≡ r + (o - l)
+    → s ≡ length (ahead n ds (u + 1))
+unfolding cat
+ahead-more n ds u r s o l er eo el e =
+    e ∙ rw (add-one u, length-append (ahead n ds u), length-above n ds u, er, eo, el, count-at ds u u)
+
+-- the entry e holds the write w
+abbrev pub Holds : List ℕ → Name → ℕ → Type 0
+Holds os w e = (e < entries) × (namedAt os (w .writer) (w .number) e ≡ true)
+
+-- the entries of u's writes lo + 1 to k, put from place p on; r is the place behind them
+pub record Listed (os : List ℕ) (u lo k p : ℕ) (before after : List ℕ) (r : ℕ) : Type 0 where
+  pub behind : r ≡ p + (k - lo)
+  pub kept : (j : ℕ) → j < p → getD after j 0 ≡ getD before j 0
+  pub each : (j : ℕ) → j < k - lo → Holds os (name u (suc (lo + j))) (getD after (p + j) 0)
+  pub long : length after ≡ length before
+
+pub listed-none : (os : List ℕ) (u lo p : ℕ) (d : List ℕ) → Listed os u lo lo p d d p
+listed-none os u lo p d = record { behind = omega arith; kept = λ j h. refl; each = λ j h. absurd (omega arith); long = refl }
+
+pub listed-more : (os : List ℕ) (u lo k p : ℕ) (b a : List ℕ) (r e : ℕ) → Listed os u lo k p b a r → lo ≤ k → r < length a → Holds os (name u (k + 1)) e
+    → Listed os u lo (k + 1) p b (set a r e) (r + 1)
+listed-more os u lo k p b a r e h l room f =
+    let q = h .behind in
+    record {
+      behind = omega arith;
+      kept = λ j g. getD-set-other a r j e 0 (λ z. (omega arith)) ∙ h .kept j g;
+      each = λ j g. same-or j (k - lo)
+          (λ z. let y : p + j ≡ r = omega arith in let x : suc (lo + j) ≡ k + 1 = omega arith in rw (y, x, getD-set-same a r e 0 room) f)
+          (λ z. rw (getD-set-other a r (p + j) e 0 (λ y. z (omega arith))) (h .each j (less j g z)));
+      long = length-set-is ∙ h .long;
+    }
+  where
+    less : (j : ℕ) → j < k + 1 - lo → (j ≡ k - lo → ⊥) → j < k - lo
+    less j g z = omega arith
+
+    length-set-is : length (set a r e) ≡ length a
+    length-set-is = simp length-set
+
+-- the entries of the writes l, in their order
+pub record Ordered (os : List ℕ) (l : List Name) (order : List ℕ) (count : ℕ) : Type 0 where
+  pub size : count ≡ length l
+  pub each : (p : ℕ) → p < length l → Holds os (getD l p no-name) (getD order p 0)
+
+pub ordered-none : (os order : List ℕ) → Ordered os [] order 0
+ordered-none os order = record { size = refl; each = λ p h. absurd (omega arith) }
+
+pub ordered-more : (os : List ℕ) (l : List Name) (b a : List ℕ) (u lo k p r : ℕ) → Ordered os l b p → Listed os u lo k p b a r
+    → Ordered os (l ++ tab (k - lo) (λ j. name u (suc (lo + j)))) a r
+ordered-more os l b a u lo k p r h g =
+    record {
+      size = rw (length-append l, length-tab (λ j. name u (suc (lo + j))) (k - lo)) (omega (arith, h .size, g .behind));
+      each = λ q z. at q (rw (length-append l, length-tab (λ j. name u (suc (lo + j))) (k - lo)) at z) (decLt q (length l));
+    }
+  where
+    f : ℕ → Name
+    f j = name u (suc (lo + j))
+
+    at : (q : ℕ) → q < length l + (k - lo) → Dec (q < length l) → Holds os (getD (l ++ tab (k - lo) f) q no-name) (getD a q 0)
+    at q z (yes y) = rw (List·getD-append l (tab (k - lo) f) no-name q y, g .kept q (omega (arith, h .size))) (h .each q y)
+    at q z (no y) =
+        let j : ℕ = q - length l in
+        let e : q ≡ length l + j = omega arith in
+        let v : j < k - lo = omega arith in
+        let w : length l + j ≡ p + j = omega (arith, h .size) in
+        rw (e, getD-append-add l (tab (k - lo) f) j no-name, getD-tab f (k - lo) j no-name v, w) (g .each j v)
+
+-- what the search needs: the counts tell what is open, and it is there
+pub record Known (n : ℕ) (ds : List Desk) (os : List ℕ) : Type 0 where
+  pub desks : n ≤ places
+  pub few : length (counted n (appliedM ds)) ≤ entries
+  pub found : (u k : ℕ) → u < n → low n (appliedM ds) (suc u) < k → k ≤ appliedM ds (suc u) (suc u) → opensM os (suc u) k ≡ none → ⊥
+
+-- one writer more fits
+pub known-room : (n : ℕ) (ds : List Desk) (os : List ℕ) (u : ℕ) → Known n ds os → u < n
+    → length (ahead n ds u) + (appliedM ds (suc u) (suc u) - low n (appliedM ds) (suc u)) ≤ entries
+unfolding counted
+known-room n ds os u h g = omega (arith, h .few, cat-le (λ u. openAbove n (appliedM ds) (suc u)) n u g, length-above n ds u)
+
+-- one writer more, as the code goes on
+pub ordered-next : (os : List ℕ) (n : ℕ) (ds : List Desk) (b a : List ℕ) (u lo own p r : ℕ) → Ordered os (ahead n ds u) b p → lo ≡ low n (appliedM ds) (suc u)
+    → own ≡ appliedM ds (suc u) (suc u) → Listed os (u + 1) lo own p b a r → Ordered os (ahead n ds (u + 1)) a r
+unfolding cat
+ordered-next os n ds b a u lo own p r h el eo g = rw (add-one u, ← el, ← eo) (rw (add-one u) at (ordered-more os (ahead n ds u) b a (u + 1) lo own p r h g))

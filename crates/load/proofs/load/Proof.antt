@@ -1,0 +1,74 @@
+use Rattle.load.specs.Loading.{damaged-so, broken-so, not-sound, not-image}
+use Rattle.laws.specs.Says.{apart}
+use borrow.Author.Tests.{not-true, not-false}
+use mathlib.Core.Path.{_∙_, sym, ap, refl}
+use borrow.Author.Needs.{needs}
+use Rattle.load.proofs.load.Statement.{statement}
+use Rattle.load.proofs.load.Tie as tie
+use Rattle.load.proofs.load.Reads as reads
+use Rattle.load.proofs.load.Lts as lts
+use Rattle.image.proofs.sound_image.Reads as sound-image-reads
+use Rattle.load.proofs.candidate.Reads as candidate-reads
+use Rattle.load.proofs.refused.Reads as refused-reads
+use Rattle.load.proofs.saves_to.Reads as saves-to-reads
+use Rattle.rules.proofs.keeps_rules.Reads as keeps-rules-reads
+
+-- src/lib.rt:359:9
+sound-image-requires : tie.Need-sound-image-requires
+sound-image-requires c κs = search needs
+
+-- src/lib.rt:360:9
+refused-requires : tie.Need-refused-requires
+refused-requires c κs = search needs
+
+-- src/lib.rt:360:9
+returns : tie.Need-returns
+returns c = damaged-so (c .before .before .before .before .args .b .now) _ _ (c .refused .ensures .0) (c .refused .ensures .1) (sym (c .before .before .sound-image .ensures) ∙ not-true _ (c .before .if1 .taken))
+
+-- src/lib.rt:362:9
+candidate-requires : tie.Need-candidate-requires
+candidate-requires c κs = search needs
+
+-- src/lib.rt:366:9
+keeps-rules-requires : tie.Need-keeps-rules-requires
+keeps-rules-requires c κs = search needs
+
+-- src/lib.rt:367:9
+refused-requires-2 : tie.Need-refused-requires-2
+refused-requires-2 c κs = search needs
+
+-- src/lib.rt:367:9
+returns-2 : tie.Need-returns-2
+returns-2 c = broken-so (c .before .before .before .before .before .before .before .before .before .before .before .before .args .b .now) _ _ (c .refused2 .ensures .0) (c .refused2 .ensures .1) (sym (c .before .before .before .before .before .before .before .before .before .before .sound-image .ensures) ∙ not-false _ (c .before .before .before .before .before .before .before .before .before .if1 .left)) (not-sound (c .before .before .before .before .before .before .before .before .before .before .before .before .args .b .now) (c .before .before .before .before .before .before .before .before .candidate .result) (c .before .before .before .before .before .before .before .before .candidate .ensures) (λ s. apart (c .before .before .keeps-rules .result) (c .before .before .keeps-rules .ensures .from s) (not-true _ (c .before .if2 .taken))))
+
+-- src/lib.rt:369:9
+saves-to-requires : tie.Need-saves-to-requires
+saves-to-requires c κs = c .before .before .before .keeps-rules .ensures .to (not-false _ (c .before .before .if2 .left))
+
+-- src/lib.rt:370:9
+refused-requires-3 : tie.Need-refused-requires-3
+refused-requires-3 c κs = search needs
+
+-- src/lib.rt:370:9
+returns-3 : tie.Need-returns-3
+returns-3 c = broken-so (c .before .before .before .before .before .before .before .before .before .before .before .before .before .before .before .before .args .b .now) _ _ (c .refused3 .ensures .0) (c .refused3 .ensures .1) (sym (c .before .before .before .before .before .before .before .before .before .before .before .before .before .before .sound-image .ensures) ∙ not-false _ (c .before .before .before .before .before .before .before .before .before .before .before .before .before .if1 .left)) (not-image (c .before .before .before .before .before .before .before .before .before .before .before .before .before .before .before .before .args .b .now) (c .before .before .before .before .before .before .before .before .before .before .before .before .candidate .result) (c .before .before .before .before .before .before .before .before .before .before .before .before .candidate .ensures) (λ e. apart (c .before .before .saves-to .result) (c .before .before .saves-to .ensures .from e) (not-true _ (c .before .if3 .taken))))
+
+-- src/lib.rt:356:1
+returns-4 : tie.Need-returns-4
+returns-4 c = (c .before .before .before .before .before .keeps-rules .ensures .to (not-false _ (c .before .before .before .before .if2 .left)), c .before .saves-to .ensures .to (not-false _ (c .if3 .left)))
+
+pub load-spec : {M : Type 1} → statement M
+load-spec =
+    tie.close
+    (tie.spec
+    sound-image-requires
+    refused-requires
+    returns
+    candidate-requires
+    keeps-rules-requires
+    refused-requires-2
+    returns-2
+    saves-to-requires
+    refused-requires-3
+    returns-3
+    returns-4)

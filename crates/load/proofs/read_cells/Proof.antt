@@ -1,0 +1,70 @@
+use Rattle.load.specs.Read.{deskFor, cellFor, openFor, cells-more, opens-more}
+use Rattle.table.specs.Value.{desk0, all-cells, cellAt, entries, openAt}
+use Rattle.laws.specs.Tab.{tab, fill-start, fill-more, fill-end}
+use Rattle.clock.specs.Vectors.{places}
+use lib.ListN.{length, getD, drop}
+use native.Mathlib.Omega.{arith}
+use mathlib.Core.List.{_++_}
+use mathlib.Core.Path.{_≡_, _∙_, refl}
+use Prim.Native.Nat.{ℕ, _≤_, _<_, _-_, _+_, _*_}
+use borrow.Author.Needs.{needs}
+use Rattle.load.proofs.read_cells.Statement.{statement}
+use Rattle.load.proofs.read_cells.Tie as tie
+use Rattle.load.proofs.read_cells.Reads as reads
+use Rattle.load.proofs.read_cells.Lts as lts
+use Rattle.load.proofs.cell_or.Reads as cell-or-reads
+use Rattle.table.proofs.put_cell.Reads as put-cell-reads
+
+abbrev Inv-loop : tie.InvT-loop
+Inv-loop b n m c cells₀ s₀ cells s = (s ≤ all-cells) × ((t : ℕ) → t < s → cellAt cells t ≡ cellFor b n m t)
+
+abbrev μ-loop : tie.MeasureT-loop
+μ-loop b n m c cells₀ s₀ cells s = all-cells - s
+
+-- src/lib.rt:211:5
+loop-holds : tie.Need-loop-holds Inv-loop μ-loop
+loop-holds c = (search needs, λ t h. absurd (omega arith))
+
+-- src/lib.rt:211:15
+mul-loop : tie.Need-mul-loop Inv-loop μ-loop
+mul-loop c = search needs
+
+-- src/lib.rt:212:13
+cell-or-requires : tie.Need-cell-or-requires Inv-loop μ-loop
+cell-or-requires c κs = let P = (c .before .before .before .pre) in let L = (c .before .loop) in (P .0, (P .1 .0, (P .1 .1 .0, (P .1 .1 .1, omega arith))))
+
+-- src/lib.rt:213:9
+put-cell-requires : tie.Need-put-cell-requires Inv-loop μ-loop
+put-cell-requires c κs = search needs
+
+-- src/lib.rt:214:9
+add-s : tie.Need-add-s Inv-loop μ-loop
+add-s c = search needs
+
+-- src/lib.rt:211:5
+loop-less : tie.Need-loop-less Inv-loop μ-loop
+loop-less c = search needs
+
+-- src/lib.rt:211:5
+loop-again : tie.Need-loop-again Inv-loop μ-loop
+loop-again c = let L = (c .before .before .before .before .loop) in let A = (c .before .before .before .before .before .before .args) in
+    (search needs, cells-more (A .b .now) (A .n) (A .m) (L .s) (L .cells) (c .put-cell .last .0) (c .before .before .cell-or .result) (L .inv .1) (omega arith) (c .before .before .cell-or .ensures) (c .put-cell .ensures))
+
+-- src/lib.rt:206:1
+returns : tie.Need-returns Inv-loop μ-loop
+returns c = let L = (c .before .loop) in λ t h. L .inv .1 t (omega arith)
+
+pub read-cells-spec : {M : Type 1} → statement M
+read-cells-spec =
+    tie.close
+    (tie.spec
+    Inv-loop
+    μ-loop
+    loop-holds
+    mul-loop
+    cell-or-requires
+    put-cell-requires
+    add-s
+    loop-less
+    loop-again
+    returns)

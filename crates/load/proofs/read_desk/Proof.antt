@@ -1,0 +1,42 @@
+use native.Mathlib.Omega.{arith}
+use mathlib.Core.Path.{_≡_, _∙_}
+use Prim.Native.Nat.{_+_, _*_}
+use borrow.Author.Needs.{needs}
+use Rattle.load.proofs.read_desk.Statement.{statement}
+use Rattle.load.proofs.read_desk.Tie as tie
+use Rattle.load.proofs.read_desk.Reads as reads
+use Rattle.load.proofs.read_desk.Lts as lts
+use Rattle.load.proofs.words_at.Reads as words-at-reads
+
+-- src/lib.rt:111:23
+mul-at : tie.Need-mul-at
+mul-at c = search needs
+
+-- src/lib.rt:111:23
+add-at : tie.Need-add-at
+add-at c = search needs
+
+-- src/lib.rt:111:14
+add-at-2 : tie.Need-add-at-2
+add-at-2 c = search needs
+
+-- src/lib.rt:112:9
+words-at-requires : tie.Need-words-at-requires
+words-at-requires c κs = search needs
+
+-- src/lib.rt:113:25
+add-words-at : tie.Need-add-words-at
+add-words-at c = search needs
+
+-- src/lib.rt:113:9
+words-at-requires-2 : tie.Need-words-at-requires-2
+words-at-requires-2 c κs = search needs
+
+-- src/lib.rt:107:1
+returns : tie.Need-returns
+returns c = let i = c .before .before .before .args .i in let e : 512 + (512 * i + 8) + 16 ≡ 512 + (512 * i + 24) = omega arith in rw (c .before .words-at .ensures, c .words-at2 .ensures, e)
+
+pub read-desk-spec : {M : Type 1} → statement M
+read-desk-spec =
+    tie.close
+    (tie.spec mul-at add-at add-at-2 words-at-requires add-words-at words-at-requires-2 returns)

@@ -1,0 +1,75 @@
+use Rattle.load.specs.Read.{deskFor, cellFor, openFor, cells-more, opens-more}
+use Rattle.table.specs.Value.{desk0, all-cells, cellAt, entries, openAt}
+use Rattle.laws.specs.Tab.{tab, fill-start, fill-more, fill-end}
+use Rattle.clock.specs.Vectors.{places}
+use lib.ListN.{length, getD, drop}
+use native.Mathlib.Omega.{arith}
+use mathlib.Core.List.{_++_}
+use mathlib.Core.Path.{_≡_, _∙_, refl}
+use Prim.Native.Nat.{ℕ, _≤_, _<_, _-_, _+_, _*_}
+use borrow.Author.Needs.{needs}
+use Rattle.load.proofs.read_desks.Statement.{statement}
+use Rattle.load.proofs.read_desks.Tie as tie
+use Rattle.load.proofs.read_desks.Reads as reads
+use Rattle.load.proofs.read_desks.Lts as lts
+use Rattle.load.proofs.desk_or.Reads as desk-or-reads
+
+abbrev Inv-loop : tie.InvT-loop
+Inv-loop b n desks₀ i₀ desks i = (i ≤ places) × ((desks ≡ tab i (deskFor b n) ++ drop i desks₀) × (length desks₀ ≡ places))
+
+abbrev μ-loop : tie.MeasureT-loop
+μ-loop b n desks₀ i₀ desks i = places - i
+
+-- src/lib.rt:173:9
+desk-or-requires : tie.Need-desk-or-requires Inv-loop μ-loop
+desk-or-requires c κs = search needs
+
+-- src/lib.rt:176:5
+loop-holds : tie.Need-loop-holds Inv-loop μ-loop
+loop-holds c = (search needs, (fill-start _ _, search needs))
+
+-- src/lib.rt:177:13
+desk-or-requires-2 : tie.Need-desk-or-requires-2 Inv-loop μ-loop
+desk-or-requires-2 c κs = search needs
+
+-- src/lib.rt:178:9
+mul-desks : tie.Need-mul-desks Inv-loop μ-loop
+mul-desks c = search needs
+
+-- src/lib.rt:178:9
+array-set-from-desks : tie.Need-array-set-from-desks Inv-loop μ-loop
+array-set-from-desks c = search needs
+
+-- src/lib.rt:179:9
+add-i : tie.Need-add-i Inv-loop μ-loop
+add-i c = search needs
+
+-- src/lib.rt:176:5
+loop-less : tie.Need-loop-less Inv-loop μ-loop
+loop-less c = search needs
+
+-- src/lib.rt:176:5
+loop-again : tie.Need-loop-again Inv-loop μ-loop
+loop-again c = let L = (c .before .before .loop) in let g = (c .before .before .before .before .before .args) in
+    (search needs, (rw (c .desk-or2 .ensures, L .inv .1 .0) (fill-more (deskFor (g .b .now) (g .n)) _ desk0 (L .i) (omega (arith, L .inv .1 .1))), L .inv .1 .1))
+
+-- src/lib.rt:169:1
+returns : tie.Need-returns Inv-loop μ-loop
+returns c = let L = (c .before .loop) in let e : L .i ≡ places = omega arith in
+    L .inv .1 .0 ∙ fill-end _ _ places _ (L .inv .1 .1) (search needs) ∙ rw e
+
+pub read-desks-spec : {M : Type 1} → statement M
+read-desks-spec =
+    tie.close
+    (tie.spec
+    Inv-loop
+    μ-loop
+    desk-or-requires
+    loop-holds
+    desk-or-requires-2
+    mul-desks
+    array-set-from-desks
+    add-i
+    loop-less
+    loop-again
+    returns)

@@ -1,0 +1,57 @@
+use Rattle.load.specs.Loading.{image-most, same-says, buffer-long, buffer-says}
+use Rattle.load.specs.Read.{says-no}
+use Rattle.image.specs.Encode.{encode}
+use Rattle.table.specs.Model.{model}
+use lib.ListN.{length}
+use native.Mathlib.Omega.{arith}
+use mathlib.Core.Path.{_∙_, sym, ap}
+use borrow.Author.Needs.{needs}
+use Rattle.load.proofs.saves_to.Statement.{statement}
+use Rattle.load.proofs.saves_to.Tie as tie
+use Rattle.load.proofs.saves_to.Reads as reads
+use Rattle.load.proofs.saves_to.Lts as lts
+use Rattle.image.proofs.save_parts.Reads as save-parts-reads
+use Rattle.load.proofs.starts.Reads as starts-reads
+
+-- src/lib.rt:326:51
+slice-aggregate-save-parts : tie.Need-slice-aggregate-save-parts
+slice-aggregate-save-parts c = search needs
+
+-- src/lib.rt:326:9
+save-parts-requires : tie.Need-save-parts-requires
+save-parts-requires c κs = let A = (c .before .before .args) in let m = image-most (model (A .core .n) (A .core .m) (A .core .desks) (A .cells .now) (A .opens .now)) (c .before .before .pre .rules) in ((c .before .before .pre), search needs)
+
+-- src/lib.rt:328:9
+returns : tie.Need-returns
+returns c = says-no (λ e. c .if1 .taken (sym (ap length e) ∙ sym (c .before .before .save-parts .ensures .size)))
+
+-- src/lib.rt:330:12
+slice-aggregate-starts : tie.Need-slice-aggregate-starts
+slice-aggregate-starts c = search needs
+
+-- src/lib.rt:330:5
+starts-requires : tie.Need-starts-requires
+starts-requires c κs = let A = (c .before .before .before .before .before .before .args) in let m = image-most (model (A .core .n) (A .core .m) (A .core .desks) (A .cells .now) (A .opens .now)) (c .before .before .before .before .before .before .pre .rules) in
+    let s = c .before .before .before .save-parts .ensures in
+    let l = buffer-long (c .before .before .before .save-parts .last .1 .1 .1 .0) (encode (model (A .core .n) (A .core .m) (A .core .desks) (A .cells .now) (A .opens .now))) (s .stored) in
+    let z = s .size in
+    let y = c .before .if1 .left in
+    omega arith
+
+-- src/lib.rt:321:1
+returns-2 : tie.Need-returns-2
+returns-2 c = let A = (c .before .before .before .before .before .before .before .args) in
+    let m = image-most (model (A .core .n) (A .core .m) (A .core .desks) (A .cells .now) (A .opens .now)) (c .before .before .before .before .before .before .before .pre .rules) in
+    let s = c .before .before .before .before .save-parts .ensures in
+    buffer-says (c .starts .result) (A .b .now) (c .before .before .before .before .save-parts .last .1 .1 .1 .0) (encode (model (A .core .n) (A .core .m) (A .core .desks) (A .cells .now) (A .opens .now))) (s .stored) (c .before .before .if1 .left ∙ s .size) m (c .starts .ensures)
+
+pub saves-to-spec : {M : Type 1} → statement M
+saves-to-spec =
+    tie.close
+    (tie.spec
+    slice-aggregate-save-parts
+    save-parts-requires
+    returns
+    slice-aggregate-starts
+    starts-requires
+    returns-2)

@@ -1,0 +1,79 @@
+use Rattle.load.specs.Read.{wordAt, wordsFrom, bytesFrom}
+use Rattle.laws.specs.Tab.{tab, fill-start, fill-more, fill-end}
+use Rattle.clock.specs.Vectors.{places}
+use lib.ListN.{length, getD, drop}
+use native.Mathlib.Omega.{arith}
+use mathlib.Core.List.{_++_}
+use mathlib.Core.Path.{_≡_, _∙_}
+use Prim.Native.Nat.{_≤_, _-_, _+_, _*_}
+use borrow.Author.Needs.{needs}
+use Rattle.load.proofs.words_at.Statement.{statement}
+use Rattle.load.proofs.words_at.Tie as tie
+use Rattle.load.proofs.words_at.Reads as reads
+use Rattle.load.proofs.words_at.Lts as lts
+use Rattle.load.proofs.word_at.Reads as word-at-reads
+
+abbrev Inv-loop : tie.InvT-loop
+Inv-loop b at v₀ t₀ v t = (t ≤ places) × ((v ≡ tab t (λ k. wordAt b (at + 2 * k)) ++ drop t v₀) × (length v₀ ≡ places))
+
+abbrev μ-loop : tie.MeasureT-loop
+μ-loop b at v₀ t₀ v t = places - t
+
+-- src/lib.rt:54:5
+loop-holds : tie.Need-loop-holds Inv-loop μ-loop
+loop-holds c = (search needs, (fill-start _ _, search needs))
+
+-- src/lib.rt:55:32
+mul-word-at : tie.Need-mul-word-at Inv-loop μ-loop
+mul-word-at c = search needs
+
+-- src/lib.rt:55:27
+add-word-at : tie.Need-add-word-at Inv-loop μ-loop
+add-word-at c = search needs
+
+-- src/lib.rt:55:16
+word-at-requires : tie.Need-word-at-requires Inv-loop μ-loop
+word-at-requires c κs = search needs
+
+-- src/lib.rt:55:9
+mul-v : tie.Need-mul-v Inv-loop μ-loop
+mul-v c = search needs
+
+-- src/lib.rt:55:9
+array-write-v : tie.Need-array-write-v Inv-loop μ-loop
+array-write-v c = search needs
+
+-- src/lib.rt:56:9
+add-t : tie.Need-add-t Inv-loop μ-loop
+add-t c = search needs
+
+-- src/lib.rt:54:5
+loop-less : tie.Need-loop-less Inv-loop μ-loop
+loop-less c = search needs
+
+-- src/lib.rt:54:5
+loop-again : tie.Need-loop-again Inv-loop μ-loop
+loop-again c = let L = (c .before .before .loop) in let g = (c .before .before .before .before .args) in
+    (search needs, (rw (c .word-at .ensures, L .inv .1 .0) (fill-more (λ k. wordAt (g .b .now) (g .at + 2 * k)) _ 0 (L .t) (search needs)), search needs))
+
+-- src/lib.rt:48:1
+returns : tie.Need-returns Inv-loop μ-loop
+returns c = let L = (c .before .loop) in let e : L .t ≡ places = omega arith in
+    L .inv .1 .0 ∙ fill-end _ _ places _ (L .inv .1 .1) (search needs) ∙ rw e
+
+pub words-at-spec : {M : Type 1} → statement M
+words-at-spec =
+    tie.close
+    (tie.spec
+    Inv-loop
+    μ-loop
+    loop-holds
+    mul-word-at
+    add-word-at
+    word-at-requires
+    mul-v
+    array-write-v
+    add-t
+    loop-less
+    loop-again
+    returns)

@@ -1,0 +1,328 @@
+-- What the code reads of an image that a table has is that table.
+use Prim.Native.Nat.{ℕ, zero, suc, _+_, _-_, _*_, _/_, _%_, _<_, _≤_}
+use mathlib.Core.Path.{_≡_, refl, sym, ap, _∙_, fun-ext}
+use mathlib.Core.Bool.{Bool, true, false, not}
+use mathlib.Core.List.{List, []}
+use mathlib.Core.Option.{Option, none, some}
+use native.Mathlib.Omega.{arith}
+use native.Mathlib.Decide.{decLt}
+use borrow.Author.Tests.{lt-ltb, le-ltb, eq-eqb, ne-eqb}
+use lib.Dec.{ltb, eqb}
+use lib.ListN.{length, getD, replicate}
+use Rattle.laws.specs.Loop.{pick, cases}
+use Rattle.laws.specs.Says.{apart, clash}
+use Rattle.laws.specs.Update.{same-or}
+use Rattle.laws.specs.From.{from1, from1-is}
+use Rattle.laws.specs.Tab.{tab, length-tab, getD-tab, getD-tab-out}
+use Rattle.laws.specs.Each.{each-in}
+use Rattle.laws.specs.Cat.{cat, part}
+use Rattle.clock.specs.Vectors.{places, place}
+use Rattle.machine.specs.Table as machine
+use Rattle.machine.specs.Table.{State, Vec, zeros, Name}
+use Rattle.machine.specs.Steps.{isNone, isOpen, openCount}
+use Rattle.machine.specs.Rules.{In, Rules}
+use Rattle.table.specs.declared.Cell.{Cell}
+use Rattle.table.specs.declared.Desk.{Desk}
+use Rattle.table.specs.declared.Open.{Open}
+use Rattle.table.specs.declared.Table.{Table}
+use Rattle.table.specs.Value.{desk0, desk-cells, all-cells, cellAt, entries, openAt, isFree}
+use Rattle.table.specs.Names.{number, named, namedAt, free-named, own-named, named-is}
+use Rattle.table.specs.Model.{cellM, openM, appliedVec, clockVec, appliedM, clockM, cellsM, opensM, slot, cell-in, cell-out, modelOf, model, state-path}
+use Rattle.table.specs.Opens.{Unique, opens-at, opens-none}
+use Rattle.table.specs.Sound.{Sound, SoundTable, AllZero}
+use Rattle.table.specs.Begin.{zeros-at, place-zeros}
+use Rattle.image.specs.Names.{names, no-name, length-names, OpenName, names-open, open-named}
+use Rattle.image.specs.Distinct.{names-distinct}
+use native.Mathlib.Nat.{div-add-mod}
+use Rattle.image.specs.Encode.{words, cellPart, cellBytes, perDesk, openBlocks, encode}
+use Rattle.image.specs.Places.{length-encode, part-3}
+use Rattle.image.specs.Fields.{vec-words, vecOf, cellOf, openOf, writerIn, numberIn}
+use Rattle.image.specs.Decode.{nIn, mIn, countIn, deskPlace, cellPlace, openPlace, deskIn, cellIn, entryIn, decode, Shows, n-back, m-back, count-back, applied-back, clock-back, cell-back, shows-at, open-name}
+use Rattle.load.specs.Read.{wordsFrom, cellFrom, openFrom, deskFrom, noDesk, noCell, noOpen, deskFor, cellFor, openFor, Fits, CellsRead, OpensRead, getD-part, part-part, place-words, cell-read, open-read}
+
+-- desks: one part of them, read at p of the payload
+module _ (b : List ℕ) (n : ℕ) (h : n ≤ places) (g : Desk → Vec) (p : ℕ) (reads : (i : ℕ) → g (deskFrom b i) ≡ vecOf (part (deskPlace p i) 16 b)) (past : g noDesk ≡ zeros) (none-there : g desk0 ≡ zeros) where
+  desk-at : (i : ℕ) → i < n → g (getD (tab places (deskFor b n)) i desk0) ≡ vecOf (part (deskPlace p i) 16 b)
+  unfolding deskFor
+  desk-at i l = rw (getD-tab (deskFor b n) places i desk0 (omega arith), lt-ltb i n l) (reads i)
+
+  desk-off : (i : ℕ) → n ≤ i → g (getD (tab places (deskFor b n)) i desk0) ≡ zeros
+  unfolding deskFor
+  desk-off i l = go (decLt i places)
+    where
+      go : Dec (i < places) → g (getD (tab places (deskFor b n)) i desk0) ≡ zeros
+      go (yes q) = rw (getD-tab (deskFor b n) places i desk0 q, le-ltb i n l) past
+      go (no q) = let o : places ≤ i = omega arith in rw (getD-tab-out (deskFor b n) places i desk0 o) none-there
+
+-- the desks that were read are those of the definition
+module _ (b : List ℕ) (n : ℕ) (h : n ≤ places) where
+  pub applied-read : appliedM (tab places (deskFor b n)) ≡ deskIn n b 4
+  unfolding appliedM
+  applied-read =
+      sym (from1-is zeros n (λ i. vecOf (part (deskPlace 4 i) 16 b)) (appliedM (tab places (deskFor b n)))
+      (λ i l. sym (desk-at b n h appliedVec 4 (λ i. place-words b (deskPlace 4 i)) (place-zeros places) (place-zeros 0) i l))
+      off)
+    where
+      off : (i : ℕ) → (1 ≤ i → i ≤ n → ⊥) → appliedM (tab places (deskFor b n)) i ≡ zeros
+      off zero o = place-zeros 0
+      off (suc i) o = desk-off b n h appliedVec 4 (λ i. place-words b (deskPlace 4 i)) (place-zeros places) (place-zeros 0) i (past (decLt i n))
+        where
+          past : Dec (i < n) → n ≤ i
+          past (yes l) = absurd (o (omega arith) l)
+          past (no l) = omega arith
+
+  pub clock-read : clockM (tab places (deskFor b n)) ≡ deskIn n b 20
+  unfolding clockM
+  clock-read =
+      sym (from1-is zeros n (λ i. vecOf (part (deskPlace 20 i) 16 b)) (clockM (tab places (deskFor b n)))
+      (λ i l. sym (desk-at b n h clockVec 20 (λ i. place-words b (deskPlace 20 i)) (place-zeros places) (place-zeros 0) i l))
+      off)
+    where
+      off : (i : ℕ) → (1 ≤ i → i ≤ n → ⊥) → clockM (tab places (deskFor b n)) i ≡ zeros
+      off zero o = place-zeros 0
+      off (suc i) o = desk-off b n h clockVec 20 (λ i. place-words b (deskPlace 20 i)) (place-zeros places) (place-zeros 0) i (past (decLt i n))
+        where
+          past : Dec (i < n) → n ≤ i
+          past (yes l) = absurd (o (omega arith) l)
+          past (no l) = omega arith
+
+-- cells
+module _ (b : List ℕ) (n m : ℕ) (hn : n ≤ places) (hm : m ≤ desk-cells) (cs : List ℕ) (read : CellsRead b n m cs) where
+  row-of : (i x : ℕ) → x < desk-cells → ((i * desk-cells + x) / desk-cells ≡ i) × ((i * desk-cells + x) % desk-cells ≡ x)
+  row-of i x h = (omega arith, omega arith)
+
+  at-row : (i x : ℕ) → i < places → x < desk-cells → cellsM cs (suc i) (suc x) ≡ cellM (cellFor b n m (i * desk-cells + x))
+  at-row i x hi hx =
+      let a : suc i - 1 ≡ i = omega arith in
+      let c : suc x - 1 ≡ x = omega arith in
+      rw (a, c) at (cell-in cs (suc i) (suc x) (omega arith, omega arith) (omega arith, omega arith)) ∙ ap cellM (read (i * desk-cells + x) (omega arith))
+
+  cell-on : (i x : ℕ) → i < n → x < m → cellOf (part (cellPlace n m i x) 20 b) ≡ cellsM cs (suc i) (suc x)
+  unfolding cellFor
+  cell-on i x hi hx =
+      let r = row-of i x (omega arith) in
+      sym (at-row i x (omega arith) (omega arith) ∙ rw (r .0, r .1, lt-ltb i n hi, lt-ltb x m hx) (cell-read b (cellPlace n m i x)))
+
+  cell-off : (i x : ℕ) → ((i < n) × (x < m) → ⊥) → cellsM cs (suc i) (suc x) ≡ machine.blank
+  unfolding cellFor
+  cell-off i x o = go (decLt i places) (decLt x desk-cells)
+    where
+      off : (s : ℕ) → ((s / desk-cells < n) × (s % desk-cells < m) → ⊥) → cellM (cellFor b n m s) ≡ machine.blank
+      off s q = go2 (decLt (s / desk-cells) n) (decLt (s % desk-cells) m)
+        where
+          go2 : Dec (s / desk-cells < n) → Dec (s % desk-cells < m) → cellM (cellFor b n m s) ≡ machine.blank
+          go2 (yes a) (yes c) = absurd (q (a, c))
+          go2 (yes a) (no c) = let l : m ≤ s % desk-cells = omega arith in rw (lt-ltb (s / desk-cells) n a, le-ltb (s % desk-cells) m l)
+          go2 (no a) c = let l : n ≤ s / desk-cells = omega arith in rw (le-ltb (s / desk-cells) n l)
+
+      go : Dec (i < places) → Dec (x < desk-cells) → cellsM cs (suc i) (suc x) ≡ machine.blank
+      go (yes a) (yes c) =
+          let r = row-of i x c in
+          at-row i x a c ∙ off (i * desk-cells + x) (λ q. o (rw (r .0) at (q .0), rw (r .1) at (q .1)))
+      go (yes a) (no c) = cell-out cs (suc i) (suc x) (λ p q. c (q .1))
+      go (no a) c = cell-out cs (suc i) (suc x) (λ p q. a (p .1))
+
+  pub cells-read : cellsM cs ≡ cellIn n m b
+  cells-read =
+      sym (from1-is (λ x. machine.blank) n (λ i. from1 machine.blank m (λ x. cellOf (part (cellPlace n m i x) 20 b))) (cellsM cs)
+      (λ i hi. from1-is machine.blank m (λ x. cellOf (part (cellPlace n m i x) 20 b)) (cellsM cs (suc i)) (λ x hx. cell-on i x hi hx) (row-off i))
+      desk-off)
+    where
+      row-off : (i x : ℕ) → (1 ≤ x → x ≤ m → ⊥) → cellsM cs (suc i) x ≡ machine.blank
+      row-off i zero o = cell-out cs (suc i) zero (λ p q. omega (arith, q .0))
+      row-off i (suc x) o = cell-off i x (λ q. o (omega arith) (q .1))
+
+      desk-off : (i : ℕ) → (1 ≤ i → i ≤ n → ⊥) → cellsM cs i ≡ (λ x. machine.blank)
+      desk-off zero o = fun-ext (λ x. cell-out cs zero x (λ p q. omega (arith, p .0)))
+      desk-off (suc i) o = fun-ext (λ x. each x)
+        where
+          each : (x : ℕ) → cellsM cs (suc i) x ≡ machine.blank
+          each zero = cell-out cs (suc i) zero (λ p q. omega (arith, q .0))
+          each (suc x) = cell-off i x (λ q. o (omega arith) (q .0))
+
+-- open writes
+module _ (b : List ℕ) (n m count : ℕ) (few : count ≤ entries) (os : List ℕ) (read : OpensRead b n m count os) where
+  entry-on : (p : ℕ) → p < count → openAt os p ≡ openFrom b (openPlace n m p)
+  unfolding openFor
+  entry-on p h = read p (omega arith) ∙ rw (lt-ltb p count h)
+
+  entry-off : (p : ℕ) → p < entries → count ≤ p → isFree (openAt os p) ≡ true
+  unfolding openFor
+  entry-off p h l = rw (read p h, le-ltb p count l)
+
+  writer-read : (p : ℕ) → p < count → openAt os p .writer ≡ writerIn (part (openPlace n m p) 28 b)
+  writer-read p h =
+      let z : openPlace n m p + 0 ≡ openPlace n m p = omega arith in
+      ap (λ (o : Open). o .writer) (entry-on p h) ∙ sym (getD-part b (openPlace n m p) 28 0 (omega arith) ∙ rw z)
+
+  number-read : (p : ℕ) → p < count → number (openAt os p) ≡ numberIn (part (openPlace n m p) 28 b)
+  unfolding numberIn
+  number-read p h =
+      rw (← writer-read p h, part-part b (openPlace n m p) 4 16 28 (omega arith), ← place-words b (openPlace n m p + 4), entry-on p h)
+
+  whole-read : (p : ℕ) → p < count → openM (openAt os p) ≡ openOf (part (openPlace n m p) 28 b)
+  whole-read p h = ap openM (entry-on p h) ∙ open-read b (openPlace n m p)
+
+-- all of it, of the image of a table s that keeps the rules
+module _ (s : State) (ok : Rules s) (os : List ℕ) (read : OpensRead (encode s) (s .desks) (s .cells) (openCount s) os) where
+  abbrev at : ℕ → Name
+  at p = getD (names s) p no-name
+
+  few : openCount s ≤ entries
+  few = ok .frame .ranges .few
+
+  is-open : (p : ℕ) → p < openCount s → OpenName s (at p)
+  is-open p h = each-in (OpenName s) (names s) no-name (names-open s) p (omega (arith, length-names s))
+
+  shows : (p : ℕ) → p < openCount s → Shows s (at p .writer) (at p .number) (part (openPlace (s .desks) (s .cells) p) 28 (encode s))
+  shows p h = shows-at s ok p h
+
+  writer-is : (p : ℕ) → p < openCount s → openAt os p .writer ≡ at p .writer
+  writer-is p h = writer-read (encode s) (s .desks) (s .cells) (openCount s) few os read p h ∙ shows p h .writer
+
+  number-is : (p : ℕ) → p < openCount s → number (openAt os p) ≡ at p .number
+  number-is p h = number-read (encode s) (s .desks) (s .cells) (openCount s) few os read p h ∙ shows p h .number
+
+  in-use : (p : ℕ) → p < openCount s → isFree (openAt os p) ≡ false
+  in-use p h = ne-eqb (openAt os p .writer) 0 (λ e. (let w = writer-is p h in let i = is-open p h .writer-in .0 in omega arith))
+
+  named-so : (p : ℕ) → p < openCount s → namedAt os (at p .writer) (at p .number) p ≡ true
+  named-so p h = rw (← writer-is p h, ← number-is p h) (own-named (openAt os p) (in-use p h))
+
+  -- an entry with a name is one of those that were counted, and the name is its own
+  is-counted : (p u k : ℕ) → p < entries → namedAt os u k p ≡ true → p < openCount s
+  is-counted p u k h t = go (decLt p (openCount s))
+    where
+      go : Dec (p < openCount s) → p < openCount s
+      go (yes l) = l
+      go (no l) =
+          absurd (apart (namedAt os u k p) t (free-named (openAt os p) u k (entry-off (encode s) (s .desks) (s .cells) (openCount s) few os read p h (omega arith))))
+
+  own-name : (p u k : ℕ) → p < openCount s → namedAt os u k p ≡ true → (at p .writer ≡ u) × (at p .number ≡ k)
+  own-name p u k h t = let q = named-is (openAt os p) u k t in (sym (writer-is p h) ∙ q .1, sym (number-is p h) ∙ q .2)
+
+  pub unique-read : Unique os
+  unique-read e j he hj ne u k t r =
+      let a = is-counted e u k he t in
+      let b = is-counted j u k hj r in
+      let x = own-name e u k a t in
+      let y = own-name j u k b r in
+      let w : at e .writer ≡ at j .writer = x .0 ∙ sym (y .0) in
+      let v : at e .number ≡ at j .number = x .1 ∙ sym (y .1) in
+      let z : at e ≡ at j = λ i. record { writer = w i; number = v i } in
+      ne (names-distinct s ok e j (omega (arith, length-names s)) (omega (arith, length-names s)) z)
+
+  opens-is : (u k : ℕ) (o : Option machine.Open) → s .opens u k ≡ o → opensM os u k ≡ o
+  opens-is u k none e =
+      opens-none os u k (λ p h. cases (namedAt os u k p)
+      (λ t. let c = is-counted p u k h t in
+      let x = own-name p u k c t in
+      let i : isOpen s u k ≡ true = rw (x .0, x .1) at (is-open p c .is-open) in
+      clash (sym (ap (λ (o : Option machine.Open). not (isNone o)) e) ∙ i))
+      (λ t. t))
+  opens-is u k (some w) e =
+      let g = open-named s u k (open-name s ok u k (ap (λ (o : Option machine.Open). not (isNone o)) e)) in
+      let p : ℕ = g .at in
+      let c : p < openCount s = omega (arith, g .small, length-names s) in
+      let w1 : at p .writer ≡ u = ap (λ (x : Name). x .writer) (g .is) in
+      let w2 : at p .number ≡ k = ap (λ (x : Name). x .number) (g .is) in
+      let t : namedAt os u k p ≡ true = rw (w1, w2) at (named-so p c) in
+      let sh : some (openOf (part (openPlace (s .desks) (s .cells) p) 28 (encode s))) ≡ s .opens u k = rw (w1, w2) at (shows p c .whole) in
+      opens-at os p u k unique-read (omega (arith, few)) t
+      ∙ ap some (whole-read (encode s) (s .desks) (s .cells) (openCount s) few os read p c) ∙ sh ∙ e
+
+  pub opens-read : opensM os ≡ s .opens
+  opens-read = fun-ext (λ u. fun-ext (λ k. opens-is u k (s .opens u k) refl))
+
+-- unset cells
+zero-vector : (t : ℕ) → vecOf (replicate 16 0) t ≡ 0
+unfolding words cat
+zero-vector t = ap (λ (v : Vec). v t) (vec-words zeros (λ u l. absurd (omega arith)))
+
+module _ (b : List ℕ) (p : ℕ) where
+  blank-from : part p 20 b ≡ replicate 20 0 → AllZero (cellFrom b p)
+  unfolding part
+  blank-from e =
+      record {
+        status = sym (getD-part b p 20 1 (omega arith)) ∙ ap (λ (l : List ℕ). getD l 1 0) e;
+        vector = λ t. ap (λ (v : Vec). v t) (place-words b (p + 4) ∙ ap vecOf (sym (part-part b p 4 16 20 (omega arith)) ∙ ap (λ (l : List ℕ). part 4 16 l) e)) ∙ zero-vector t;
+      }
+
+module _ (s : State) (ok : Rules s) where
+  blank-cell : (i x p : ℕ) (c : machine.Cell) → s .cell i x ≡ c → part p 20 (encode s) ≡ cellBytes c → cellFrom (encode s) p .writer ≡ 0 → AllZero (cellFrom (encode s) p)
+  unfolding cellBytes
+  blank-cell i x p machine.blank q e w = blank-from (encode s) p e
+  blank-cell i x p (machine.set v u y) q e w =
+      let z : p + 0 ≡ p = omega arith in
+      let a : getD (part p 20 (encode s)) 0 0 ≡ 0 = getD-part (encode s) p 20 0 (omega arith) ∙ rw z w in
+      let c : u ≡ 0 = sym (ap (λ (l : List ℕ). getD l 0 0) e) ∙ a in
+      absurd (omega (arith, ok .frame .cell i x v u y q .writer-in .0))
+
+  pub blanks-read : (cs : List ℕ) → CellsRead (encode s) (s .desks) (s .cells) cs → (t : ℕ) → t < all-cells → cellAt cs t .writer ≡ 0 → AllZero (cellAt cs t)
+  unfolding cellFor cellPart perDesk
+  blanks-read cs read t h w = go (decLt (t / desk-cells) (s .desks)) (decLt (t % desk-cells) (s .cells))
+    where
+      i : ℕ
+      i = t / desk-cells
+
+      x : ℕ
+      x = t % desk-cells
+
+      none-there : cellFor (encode s) (s .desks) (s .cells) t ≡ noCell → AllZero (cellAt cs t)
+      none-there e = rw (read t h ∙ e) (record { status = refl; vector = λ k. ap (λ (v : Vec). v k) (place-zeros places) })
+
+      go : Dec (t / desk-cells < s .desks) → Dec (t % desk-cells < s .cells) → AllZero (cellAt cs t)
+      go (yes a) (yes c) =
+          let p : ℕ = cellPlace (s .desks) (s .cells) (t / desk-cells) (t % desk-cells) in
+          let f : cellAt cs t ≡ cellFrom (encode s) p = read t h ∙ rw (lt-ltb (t / desk-cells) (s .desks) a, lt-ltb (t % desk-cells) (s .cells) c) in
+          let e : part p 20 (encode s) ≡ cellBytes (s .cell (suc (t / desk-cells)) (suc (t % desk-cells))) =
+          rw (div-add-mod (t % desk-cells) 25) at (part-3 s (t / desk-cells) (t % desk-cells / 25) (t % desk-cells % 25) a (omega arith) (omega arith)) in
+          rw f (blank-cell (suc (t / desk-cells)) (suc (t % desk-cells)) p (s .cell (suc (t / desk-cells)) (suc (t % desk-cells))) refl e (rw f at w))
+      go (yes a) (no c) = let l : s .cells ≤ t % desk-cells = omega arith in none-there (rw (lt-ltb (t / desk-cells) (s .desks) a, le-ltb (t % desk-cells) (s .cells) l))
+      go (no a) c = let l : s .desks ≤ t / desk-cells = omega arith in none-there (rw (le-ltb (t / desk-cells) (s .desks) l))
+
+  -- its sizes fit
+  pub fits-image : Fits (encode s)
+  unfolding openBlocks
+  fits-image =
+      record {
+        desks = rw (n-back s ok) (ok .frame .ranges .desks);
+        cells = rw (m-back s ok) (ok .frame .ranges .cells);
+        few = rw (count-back s ok) (ok .frame .ranges .few);
+        size = rw (n-back s ok, m-back s ok, count-back s ok) (length-encode s);
+      }
+
+-- a table whose parts were read from b
+pub record ReadAs (b : List ℕ) (t : Table) : Type 0 where
+  pub n-is : t .core .n ≡ nIn b
+  pub m-is : t .core .m ≡ mIn b
+  pub desks : t .core .desks ≡ tab places (deskFor b (nIn b))
+  pub cells : CellsRead b (nIn b) (mIn b) (t .cells)
+  pub opens : OpensRead b (nIn b) (mIn b) (countIn b) (t .opens)
+
+-- a reader that reads images right
+abbrev pub Reads : List ℕ → Table → Type 0
+Reads b t = (s : State) → Rules s → encode s ≡ b → (modelOf t ≡ s) × SoundTable t
+
+pub read-image : (s : State) → Rules s → (t : Table) → ReadAs (encode s) t → (modelOf t ≡ s) × SoundTable t
+read-image s ok t h =
+    let n8 = ok .frame .ranges .desks .1 in
+    let m64 = ok .frame .ranges .cells .1 in
+    let en : t .core .n ≡ s .desks = h .n-is ∙ n-back s ok in
+    let em : t .core .m ≡ s .cells = h .m-is ∙ m-back s ok in
+    let ed : t .core .desks ≡ tab places (deskFor (encode s) (s .desks)) = rw (n-back s ok) at (h .desks) in
+    let rc : CellsRead (encode s) (s .desks) (s .cells) (t .cells) = rw (n-back s ok, m-back s ok) at (h .cells) in
+    let ro : OpensRead (encode s) (s .desks) (s .cells) (openCount s) (t .opens) = rw (n-back s ok, m-back s ok, count-back s ok) at (h .opens) in
+    let e : modelOf t ≡ s = state-path (modelOf t) s en em
+    (ap appliedM ed ∙ applied-read (encode s) (s .desks) n8 ∙ applied-back s ok)
+    (ap clockM ed ∙ clock-read (encode s) (s .desks) n8 ∙ clock-back s ok)
+    (cells-read (encode s) (s .desks) (s .cells) n8 m64 (t .cells) rc ∙ cell-back s ok)
+    (opens-read s ok (t .opens) ro) in
+    (e, record { rules = rw e ok; blanks = blanks-read s ok (t .cells) rc; unique = unique-read s ok (t .opens) ro })
+
+pub reads-right : (b : List ℕ) (t : Table) → ReadAs b t → Reads b t
+reads-right b t h s ok e = read-image s ok t (rw (← e) at h)
+
+-- an image whose sizes do not fit is none
+pub reads-none : (b : List ℕ) (t : Table) → (Fits b → ⊥) → Reads b t
+reads-none b t f s ok e = absurd (f (rw e at (fits-image s ok)))

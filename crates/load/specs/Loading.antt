@@ -1,0 +1,94 @@
+-- The answer to a load: document 01's number and values for every case of it.
+use Prim.Native.Nat.{ℕ, _+_, _<_, _≤_}
+use mathlib.Core.Path.{_≡_, refl, sym, ap, _∙_}
+use mathlib.Core.Bool.{Bool, true, false}
+use mathlib.Core.List.{List, _++_}
+use native.Mathlib.Omega.{arith}
+use native.Mathlib.Nat.{zero-add}
+use lib.ListN.{length, getD, take, drop, replicate, length-replicate}
+use lib.Seq.{sets, sets-eq, take-append-seam, length-sets, ext-getD, getD-take, length-take-le}
+use Rattle.laws.specs.Says.{Says, apart, says-as}
+use Rattle.machine.specs.Table.{State}
+use Rattle.machine.specs.Answer.{Refusal, damaged, broken}
+use Rattle.machine.specs.Rules.{Rules}
+use Rattle.table.specs.declared.Table.{Table}
+use Rattle.table.specs.Begin.{freshTable}
+use Rattle.table.specs.Model.{modelOf}
+use Rattle.table.specs.Sound.{SoundTable}
+use Rattle.image.specs.Encode.{encode}
+use Rattle.image.specs.Bytes.{most-blocks}
+use Rattle.image.specs.Places.{length-encode}
+use Rattle.image.specs.Sound as whole
+use Rattle.image.specs.Load.{Loaded, refused, loaded, Loads, by-damage, by-rule, as-saved}
+use Rattle.load.specs.declared.Outcome.{Outcome}
+use Rattle.load.specs.declared.Outcome.the-variants as outcome
+use Rattle.load.specs.Back.{Reads}
+
+-- the table, or a refusal
+abbrev pub loadedOf : Outcome → Table → Loaded
+loadedOf outcome.Accepted t = loaded (modelOf t)
+-- 12
+loadedOf outcome.Damaged t = refused damaged
+-- 13
+loadedOf outcome.Broken t = refused broken
+
+-- "Load: 12, 13." A table is accepted exactly if it keeps the rules and its image is the bytes; a refusal hands back zeros.
+abbrev pub Answers : List ℕ → Outcome → Table → Type 0
+Answers b outcome.Accepted t = SoundTable t × (encode (modelOf t) ≡ b)
+Answers b outcome.Damaged t = whole.Damaged b × (t ≡ freshTable 0 0)
+Answers b outcome.Broken t = (whole.Sound b × ((s : State) → Rules s → encode s ≡ b → ⊥)) × (t ≡ freshTable 0 0)
+
+-- that is what loading comes to, so it comes to one thing only (one-load)
+pub answers-loads : (b : List ℕ) (o : Outcome) (t : Table) → Answers b o t → Loads b (loadedOf o t)
+answers-loads b outcome.Accepted t h = as-saved (modelOf t) (h .0 .rules) (h .1)
+answers-loads b outcome.Damaged t h = by-damage (h .0)
+answers-loads b outcome.Broken t h = by-rule (h .0 .0) (h .0 .1)
+
+-- the candidate breaks the rules, or its image is another
+pub not-sound : (b : List ℕ) (t : Table) → Reads b t → (SoundTable t → ⊥) → (s : State) → Rules s → encode s ≡ b → ⊥
+not-sound b t r f s ok e = f (r s ok e .1)
+
+pub not-image : (b : List ℕ) (t : Table) → Reads b t → (encode (modelOf t) ≡ b → ⊥) → (s : State) → Rules s → encode s ≡ b → ⊥
+not-image b t r f s ok e = f (ap encode (r s ok e .0) ∙ e)
+
+-- the comparison: what was saved from the start of a buffer on --
+
+pub saved-part : (out vs : List ℕ) → length vs ≤ length out → take (length vs) (sets out 0 vs) ≡ vs
+saved-part out vs h =
+    ap (λ (l : List ℕ). take (length vs) l) (sets-eq vs out 0 (rw zero-add h)) ∙ take-append-seam vs (drop (0 + length vs) out)
+
+pub same-so : (b out vs : List ℕ) → length b ≡ length vs → length vs ≤ length out → b ≡ take (length b) (sets out 0 vs) → vs ≡ b
+same-so b out vs e h q = sym (q ∙ rw e (saved-part out vs h))
+
+pub same-not : (b out vs : List ℕ) → length vs ≤ length out → (b ≡ take (length b) (sets out 0 vs) → ⊥) → vs ≡ b → ⊥
+same-not b out vs h f e = f (rw (← e) (sym (saved-part out vs h)))
+
+-- two lists by their elements
+pub same-all : (a b : List ℕ) → length a ≤ length b → ((i : ℕ) → i < length a → getD a i 0 ≡ getD b i 0) → a ≡ take (length a) b
+same-all a b h f =
+    ext-getD 0 a (take (length a) b) (sym (length-take-le (length a) b h)) (λ i l. f i l ∙ sym (getD-take (length a) b i 0 l))
+
+pub same-at : (a b : List ℕ) (i : ℕ) → i < length a → a ≡ take (length a) b → getD a i 0 ≡ getD b i 0
+same-at a b i h e = ap (λ (l : List ℕ). getD l i 0) e ∙ getD-take (length a) b i 0 h
+
+pub same-says : (r : Bool) (b out after vs : List ℕ) → after ≡ sets out 0 vs → length b ≡ length vs → length vs ≤ length out → Says r (b ≡ take (length b) after) → Says r (vs ≡ b)
+same-says r b out after vs ea e h s =
+    says-as r s (λ q. same-so b out vs e h (rw ea at q)) (λ q. rw (ea, e) (sym (saved-part out vs h ∙ q)))
+
+-- "The largest image is 37 blocks."
+pub image-most : (s : State) → Rules s → length (encode s) ≤ 18944
+image-most s r = omega (arith, most-blocks s r, length-encode s)
+
+-- the answers, by the code's tests
+pub damaged-so : (b : List ℕ) (o : Outcome) (t : Table) → o ≡ outcome.Damaged → t ≡ freshTable 0 0 → whole.sound b ≡ false → Answers b o t
+damaged-so b o t eo et f = rw eo (λ s. apart (whole.sound b) (whole.says-sound b .from s) f, et)
+
+pub broken-so : (b : List ℕ) (o : Outcome) (t : Table) → o ≡ outcome.Broken → t ≡ freshTable 0 0 → whole.sound b ≡ true → ((s : State) → Rules s → encode s ≡ b → ⊥) → Answers b o t
+broken-so b o t eo et f g = rw eo ((whole.says-sound b .to f, g), et)
+
+-- in a buffer of 37 blocks
+pub buffer-long : (after vs : List ℕ) → after ≡ sets (replicate 18944 0) 0 vs → length after ≡ 18944
+buffer-long after vs e = ap length e ∙ length-sets (replicate 18944 0) 0 vs ∙ length-replicate {A = ℕ} 18944 0
+
+pub buffer-says : (r : Bool) (b after vs : List ℕ) → after ≡ sets (replicate 18944 0) 0 vs → length b ≡ length vs → length vs ≤ 18944 → Says r (b ≡ take (length b) after) → Says r (vs ≡ b)
+buffer-says r b after vs ea e h s = same-says r b (replicate 18944 0) after vs ea e (rw (length-replicate 18944) h) s

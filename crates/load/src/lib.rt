@@ -1,0 +1,376 @@
+// A table read from its saved image (document 01, "Saved image").
+ghost use mathlib.Core.Path.{_≡_};
+ghost use Prim.Native.Nat.{ℕ, _+_, _*_, _/_, _<_, _≤_};
+ghost use lib.ListN.{length, take};
+ghost use Rattle.laws.specs.Says.{Says};
+ghost use Rattle.laws.specs.Tab.{tab};
+ghost use Rattle.clock.specs.Vectors.{places};
+ghost use Rattle.table.specs.Value.{desk-cells, all-cells, entries};
+ghost use Rattle.table.specs.Model.{model};
+ghost use Rattle.table.specs.Sound.{Sound};
+ghost use Rattle.table.specs.Begin.{freshTable};
+ghost use Rattle.image.specs.Encode.{perDesk, encode};
+ghost use Rattle.image.specs.Decode.{nIn, mIn, countIn};
+ghost use Rattle.load.specs.Read.{wordAt, wordsFrom, bytesFrom, cellFrom, openFrom, deskFrom, deskFor, cellFor, openFor, Fits, CellsRead, OpensRead};
+ghost use Rattle.load.specs.Back.{ReadAs, Reads};
+ghost use Rattle.load.specs.Loading.{Answers};
+use clock::Clock;
+use clock::PLACES;
+use image::BLOCK;
+use table::CELL;
+use table::CELLS;
+use table::Cell;
+use table::Core;
+use table::Desk;
+use table::OPEN;
+use table::OPENS;
+use table::Open;
+use table::Table;
+
+// Fields --
+
+fn wide(x: u8) -> u16
+    ensures { λ r. ⌜ (r ≡ x) × (r < 256) ⌝ }
+{
+    x as u16
+}
+
+fn size(x: u8) -> usize
+    ensures { λ r. ⌜ (r ≡ x) × (r < 256) ⌝ }
+{
+    x as usize
+}
+
+fn word_at(b: &[u8], at: usize) -> u16
+    requires { ⌜ at + 2 ≤ length (now b) ⌝ }
+    ensures { λ r. ⌜ r ≡ wordAt (now (b .entry)) at ⌝ }
+{
+    let lo = wide(b[at]);
+    let hi = wide(b[at + 1]);
+    lo + 256 * hi
+}
+
+fn words_at(b: &[u8], at: usize) -> [u16; PLACES]
+    requires { ⌜ at + 16 ≤ length (now b) ⌝ }
+    ensures { λ r. ⌜ r ≡ wordsFrom (now (b .entry)) at ⌝ }
+{
+    let mut v = [0u16; PLACES];
+    let mut t = 0;
+    while t < PLACES {
+        v[t] = word_at(b, at + 2 * t);
+        t += 1;
+    }
+    v
+}
+
+fn bytes_at(b: &[u8], at: usize) -> [u16; PLACES]
+    requires { ⌜ at + 8 ≤ length (now b) ⌝ }
+    ensures { λ r. ⌜ r ≡ bytesFrom (now (b .entry)) at ⌝ }
+{
+    let mut v = [0u16; PLACES];
+    let mut t = 0;
+    while t < PLACES {
+        v[t] = wide(b[at + t]);
+        t += 1;
+    }
+    v
+}
+
+fn read_cell(b: &[u8], at: usize) -> Cell
+    requires { ⌜ at + 20 ≤ length (now b) ⌝ }
+    ensures { λ r. ⌜ r ≡ cellFrom (now (b .entry)) at ⌝ }
+{
+    let writer = wide(b[at]);
+    let status = wide(b[at + 1]);
+    let vector = words_at(b, at + 4);
+    Cell {
+        writer: writer,
+        status: status,
+        vector: vector,
+    }
+}
+
+fn read_open(b: &[u8], at: usize) -> Open
+    requires { ⌜ at + 28 ≤ length (now b) ⌝ }
+    ensures { λ r. ⌜ r ≡ openFrom (now (b .entry)) at ⌝ }
+{
+    let writer = wide(b[at]);
+    let status = wide(b[at + 1]);
+    let cell = wide(b[at + 2]);
+    let vector = words_at(b, at + 4);
+    let marks = bytes_at(b, at + 20);
+    Open {
+        writer: writer,
+        status: status,
+        cell: cell,
+        vector: vector,
+        marks: marks,
+    }
+}
+
+// The block of desk i, from 0.
+fn read_desk(b: &[u8], i: usize) -> Desk
+    requires { ⌜ (i < places) × (1024 + 512 * i ≤ length (now b)) ⌝ }
+    ensures { λ r. ⌜ r ≡ deskFrom (now (b .entry)) i ⌝ }
+{
+    let at = BLOCK + (BLOCK * i + 8);
+    let applied = words_at(b, at);
+    let v = words_at(b, at + 16);
+    let clock = Clock { at: v };
+    Desk {
+        applied: applied,
+        clock: clock,
+    }
+}
+
+// The candidate: each field at its place, whatever stands around it --
+
+// The sizes are in range, and the image is as long as they say.
+fn sizes_fit(b: &[u8]) -> bool
+    ensures { λ r. ⌜ Says r (Fits (now (b .entry))) ⌝ }
+{
+    if b.len() < BLOCK {
+        return false;
+    }
+    let n = size(b[4]);
+    let m = size(b[5]);
+    let count = size(b[6]);
+    if n == 0 {
+        return false;
+    }
+    if PLACES < n {
+        return false;
+    }
+    if m == 0 {
+        return false;
+    }
+    if CELLS < m {
+        return false;
+    }
+    if OPENS < count {
+        return false;
+    }
+    if b.len() != image::length_of(n, m, count) {
+        return false;
+    }
+    true
+}
+
+fn desk_or(b: &[u8], n: usize, i: usize) -> Desk
+    requires { ⌜ (n ≤ places) × (512 + 512 * n ≤ length (now b)) ⌝ }
+    ensures { λ r. ⌜ r ≡ deskFor (now (b .entry)) n i ⌝ }
+{
+    if i < n {
+        return read_desk(b, i);
+    }
+    let zero = [0u16; PLACES];
+    let clock = Clock { at: zero };
+    Desk {
+        applied: zero,
+        clock: clock,
+    }
+}
+
+fn read_desks(b: &[u8], n: usize) -> [Desk; PLACES]
+    requires { ⌜ (n ≤ places) × (512 + 512 * n ≤ length (now b)) ⌝ }
+    ensures { λ r. ⌜ r ≡ tab places (deskFor (now (b .entry)) n) ⌝ }
+{
+    let first = desk_or(b, n, 0);
+    let mut desks = [first; PLACES];
+    let mut i = 0;
+    while i < PLACES {
+        let d = desk_or(b, n, i);
+        desks[i] = d;
+        i += 1;
+    }
+    desks
+}
+
+// Where a field stands: r of the payload of a block, the q-th after k blocks that follow the desks'.
+fn field_place(n: usize, k: usize, q: usize, r: usize) -> usize
+    requires { ⌜ (n ≤ places) × ((k ≤ 24) × ((q < 4) × (r < 504))) ⌝ }
+    ensures { λ a. ⌜ a ≡ 512 + (512 * n + (512 * k + (512 * q + (4 + r)))) ⌝ }
+{
+    BLOCK + (BLOCK * n + (BLOCK * k + (BLOCK * q + (4 + r))))
+}
+
+// Row s of the cells, where a desk's cells take c blocks.
+fn cell_or(b: &[u8], n: usize, m: usize, c: usize, s: usize) -> Cell
+    requires { ⌜ (Fits (now b)) × ((n ≡ nIn (now b)) × ((m ≡ mIn (now b)) × ((c ≡ perDesk m) × (s < all-cells)))) ⌝ }
+    ensures { λ r. ⌜ r ≡ cellFor (now (b .entry)) n m s ⌝ }
+{
+    let i = s / CELLS;
+    let x = s % CELLS;
+    if i < n {
+        if x < m {
+            let at = field_place(n, c * i, x / 25, 20 * (x % 25));
+            return read_cell(b, at);
+        }
+    }
+    let zero = [0u16; PLACES];
+    Cell {
+        writer: 0,
+        status: 0,
+        vector: zero,
+    }
+}
+
+fn read_cells(b: &[u8], n: usize, m: usize, c: usize, cells: &mut [u16; PLACES * CELLS * CELL])
+    requires { ⌜ (Fits (now b)) × ((n ≡ nIn (now b)) × ((m ≡ mIn (now b)) × (c ≡ perDesk m))) ⌝ }
+    ensures { λ _. ⌜ CellsRead (now (b .entry)) n m (now (cells .exit)) ⌝ }
+{
+    let mut s = 0;
+    while s < PLACES * CELLS {
+        let x = cell_or(b, n, m, c, s);
+        table::put_cell(cells, s, x);
+        s += 1;
+    }
+}
+
+// Entry p of the open writes.
+fn open_or(b: &[u8], n: usize, m: usize, c: usize, count: usize, p: usize) -> Open
+    requires { ⌜ (Fits (now b)) × ((n ≡ nIn (now b)) × ((m ≡ mIn (now b)) × ((c ≡ perDesk m) × ((count ≡ countIn (now b)) × (p < entries))))) ⌝ }
+    ensures { λ r. ⌜ r ≡ openFor (now (b .entry)) n m count p ⌝ }
+{
+    if p < count {
+        let at = field_place(n, c * n, p / 18, 28 * (p % 18));
+        return read_open(b, at);
+    }
+    let zero = [0u16; PLACES];
+    Open {
+        writer: 0,
+        status: 0,
+        cell: 0,
+        vector: zero,
+        marks: zero,
+    }
+}
+
+fn read_opens(b: &[u8], n: usize, m: usize, c: usize, count: usize, opens: &mut [u16; OPENS * OPEN])
+    requires { ⌜ (Fits (now b)) × ((n ≡ nIn (now b)) × ((m ≡ mIn (now b)) × ((c ≡ perDesk m) × (count ≡ countIn (now b))))) ⌝ }
+    ensures { λ _. ⌜ OpensRead (now (b .entry)) n m count (now (opens .exit)) ⌝ }
+{
+    let mut p = 0;
+    while p < OPENS {
+        let o = open_or(b, n, m, c, count, p);
+        table::put_open(opens, p, o);
+        p += 1;
+    }
+}
+
+fn zeros() -> Table
+    ensures { λ r. ⌜ r ≡ freshTable 0 0 ⌝ }
+{
+    let none = table::begin(0, 0);
+    none.table
+}
+
+// The table that an image seems to hold; zeros where its sizes can't be right.
+fn candidate(b: &[u8]) -> Table
+    ensures { λ r. ⌜ Reads (now (b .entry)) r ⌝ }
+{
+    if !sizes_fit(b) {
+        return zeros();
+    }
+    read_table(b)
+}
+
+fn read_table(b: &[u8]) -> Table
+    requires { ⌜ Fits (now b) ⌝ }
+    ensures { λ r. ⌜ ReadAs (now (b .entry)) r ⌝ }
+{
+    let n = size(b[4]);
+    let m = size(b[5]);
+    let count = size(b[6]);
+    let desks = read_desks(b, n);
+    let core = Core {
+        n: n,
+        m: m,
+        desks: desks,
+    };
+    let c = image::per_desk(m);
+    let mut cells = [0u16; PLACES * CELLS * CELL];
+    read_cells(b, n, m, c, &mut cells);
+    let mut opens = [0u16; OPENS * OPEN];
+    read_opens(b, n, m, c, count, &mut opens);
+    Table {
+        core: core,
+        cells: cells,
+        opens: opens,
+    }
+}
+
+// The comparison --
+
+// Does b stand at the start of l?
+fn starts(l: &[u8], b: &[u8]) -> bool
+    requires { ⌜ length (now b) ≤ length (now l) ⌝ }
+    ensures { λ r. ⌜ Says r (now (b .entry) ≡ take (length (now (b .entry))) (now (l .entry))) ⌝ }
+{
+    let mut i = 0;
+    while i < b.len() {
+        if b[i] != l[i] {
+            return false;
+        }
+        i += 1;
+    }
+    true
+}
+
+// Is b the image of a table that keeps the rules?
+fn saves_to(core: Core, cells: &[u16; PLACES * CELLS * CELL], opens: &[u16; OPENS * OPEN], b: &[u8]) -> bool
+    requires { ⌜ Sound (core .n) (core .m) (core .desks) (now cells) (now opens) ⌝ }
+    ensures { λ r. ⌜ Says r (encode (model (core .n) (core .m) (core .desks) (now (cells .entry)) (now (opens .entry))) ≡ now (b .entry)) ⌝ }
+{
+    let mut out = [0u8; 18944];
+    let n = image::save_parts(core, cells, opens, &mut out);
+    if b.len() != n {
+        return false;
+    }
+    starts(&out, b)
+}
+
+// What load answers: a table, or refusal 12 (Damaged) or 13 (Broken) and nothing but zeros.
+pub enum Outcome {
+    Accepted,
+    Damaged,
+    Broken,
+}
+
+pub struct Loading {
+    pub answer: Outcome,
+    pub table: Table,
+}
+
+fn refused(o: Outcome) -> Loading
+    ensures { λ r. ⌜ (r .answer ≡ o) × (r .table ≡ freshTable 0 0) ⌝ }
+{
+    let z = zeros();
+    Loading {
+        answer: o,
+        table: z,
+    }
+}
+
+// The lengths and the checks; then the fields are read, the rules tested, and the image of what was read compared.
+pub fn load(b: &[u8]) -> Loading
+    ensures { λ r. ⌜ Answers (now (b .entry)) (r .answer) (r .table) ⌝ }
+{
+    if !image::sound_image(b) {
+        return refused(Outcome::Damaged);
+    }
+    let t = candidate(b);
+    let core = t.core;
+    let cells = t.cells;
+    let opens = t.opens;
+    if !rules::keeps_rules(core, &cells, &opens) {
+        return refused(Outcome::Broken);
+    }
+    if !saves_to(core, &cells, &opens, b) {
+        return refused(Outcome::Broken);
+    }
+    Loading {
+        answer: Outcome::Accepted,
+        table: t,
+    }
+}
