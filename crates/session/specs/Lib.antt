@@ -6,3 +6,4 @@ pub mod Examples
 pub mod Line
 pub mod Holds
 pub mod Act
+pub mod Run
