@@ -2,11 +2,12 @@
 use mathlib.Core.Path.{_≡_, refl, sym, ap, subst, _∙_}
 use mathlib.Core.List.{List, [], _++_, append-assoc}
 use mathlib.Core.Option.{Option, none}
-use mathlib.Core.Bool.{Bool}
+use mathlib.Core.Bool.{Bool, true}
 use Prim.Native.Nat.{ℕ, _+_, _<_, _≤_, min, max}
 use native.Mathlib.Omega.{arith}
 use native.Mathlib.Nat.{zero-add}
-use lib.Dec.{ltb}
+use lib.Dec.{leb, ltb}
+use borrow.Author.Tests.{le-leb}
 use lib.ListN.{length, getD, set, take, drop, length-append}
 use lib.Seq.{sets, sets-eq, length-sets, take-at}
 use Rattle.laws.specs.Loop.{pick}
@@ -17,6 +18,9 @@ use Rattle.schedule.specs.Grammar.{Line as Said, lineOf}
 use Rattle.schedule.specs.Lines.{lineAt, endedAt, nextAt}
 use Rattle.schedule.specs.LineLaws.{ended-is, next-is, next-more, next-le}
 use Rattle.answer.specs.Bytes.{answerLine}
+use Rattle.answer.specs.Outcome.{written, buffer}
+use Rattle.answer.specs.declared.Written.{Written}
+use Rattle.answer.specs.declared.Written.the-variants.{Upto, Short}
 use Rattle.table.specs.declared.Desk.{Desk}
 use Rattle.session.specs.Session.{Session, Turn, turn}
 use Rattle.session.specs.Transcript.{transcriptFrom, most-text, transcript}
@@ -143,6 +147,23 @@ pub next-place : (text : List ℕ) (at : ℕ) {line : List ℕ} {end at′ : ℕ
 next-place text at {line} {end} {at′} h el ee ea =
     let q : end ≡ at + length (lineAt text at) = ee ∙ ap (λ (x : List ℕ). at + length x) el in
     ea ∙ ap (λ (x : ℕ). min (x + 1) (length text)) q ∙ sym (next-is text at h)
+
+-- a line that has room
+module _ (out : List ℕ) (at : ℕ) (line out′ : List ℕ) (w : Written) (h : at + most-answer ≤ length out)
+    (e : (w ≡ written out at line) × ((out′ ≡ buffer out at line) × (length line ≤ most-answer))) where
+  room : leb (at + length line) (length out) ≡ true
+  room = le-leb (at + length line) (length out) (omega (arith, e .1 .1))
+
+  pub print-upto : (p : ℕ) → w ≡ Upto p → Stored out at line out′ p × (p ≤ length out)
+  print-upto p q =
+      let a : w ≡ Upto (at + length line) = rw room at (e .0) in
+      let r : p ≡ at + length line = cc in
+      (record { stored = rw room at (e .1 .0); behind = r }, omega (arith, e .1 .1))
+
+  pub print-short : {R : Type 0} → w ≡ Short → R
+  print-short q =
+      let a : w ≡ Upto (at + length line) = rw room at (e .0) in
+      absurd (let z : _≡_ {A = ℕ} 0 1 = cc in omega arith)
 
 -- The whole text: a call of the run after another, each part of the buffer printed --
 

@@ -9,13 +9,18 @@ ghost use Rattle.clock.specs.Vectors.{places};
 ghost use Rattle.machine.specs.Steps.{begins};
 ghost use Rattle.schedule.specs.Grammar.{lineOf};
 ghost use Rattle.session.specs.Line.{cellCount, Means, actor, seatOf};
-ghost use Rattle.session.specs.Holds.{ownAt};
+ghost use Rattle.session.specs.Holds.{ownAt, SomeSession};
 ghost use Rattle.session.specs.Act.{Acting, Acts, SomeSeat, Turns, nextOf, begunOf, noStepOf, firstOf};
 ghost use Rattle.answer.specs.declared.Answer.the-variants.{Refused};
+ghost use Rattle.answer.specs.Bytes.{answerLine};
+ghost use Rattle.answer.specs.Meaning.{answerOf};
+ghost use Rattle.laws.specs.Stores.{Stored};
+ghost use Rattle.session.specs.Run.{most-answer, Runs};
 ghost use Rattle.machine.specs.Steps.{Trip};
 ghost use Rattle.steps.specs.LookTurn.{SomeLook, Looks};
 use answer::Answer;
 use answer::Refusal;
+use answer::Written;
 use clock::PLACES;
 use schedule::Line;
 use steps::Turn;
@@ -236,4 +241,77 @@ fn behind(end: usize, len: usize) -> usize
     ensures { λ r. ⌜ r ≡ min (end + 1) len ⌝ }
 {
     if end < len { end + 1 } else { len }
+}
+
+// The line of an answer, where a line of any answer has room.
+fn print(out: &mut [u8], at: usize, a: Answer, names: &[u16; NAMES]) -> usize
+    requires { ⌜ at + most-answer ≤ length (now out) ⌝ }
+    ensures { λ r. ⌜ Stored (now (out .entry)) at (answerLine (answerOf a (now (names .entry)))) (now (out .exit)) r ⌝ }
+    ensures { λ r. ⌜ r ≤ length (now (out .entry)) ⌝ }
+{
+    match answer::put(out, at, a, names) {
+        Written::Upto(p) => p,
+        Written::Short => at,
+    }
+}
+
+// The table, n = 0 while there is none, how far the text is read, and how many bytes of answers there are.
+pub struct Progress {
+    pub core: Core,
+    pub at: usize,
+    pub len: usize,
+}
+
+// Runs the lines from a place on, while there are any and an answer of any length has room.
+pub fn run(
+    core: Core,
+    cells: &mut [u16; PLACES * CELLS * CELL],
+    opens: &mut [u16; OPENS * OPEN],
+    text: &[u8],
+    at: usize,
+    out: &mut [u8],
+) -> Progress
+    requires { ⌜ SomeSession (core .n) (core .m) (core .desks) (now cells) (now opens) ⌝ }
+    ensures { λ r. ⌜ Runs (core .n) (core .m) (core .desks) (now (cells .entry)) (now (opens .entry)) (now (text .entry)) at (now (out .entry)) (r .core .n) (r .core .m) (r .core .desks) (now (cells .exit)) (now (opens .exit)) (r .at) (r .len) (now (out .exit)) ⌝ }
+{
+    let mut n = core.n;
+    let mut m = core.m;
+    let mut desks = core.desks;
+    table::desks_shape(desks);
+    let mut own = owns(desks);
+    let mut names = [0u16; NAMES];
+    let mut list = [0u16; LIST];
+    let mut place = at;
+    let mut len = 0;
+    while place < text.len() {
+        if out.len() - len < LONGEST_ANSWER {
+            break;
+        }
+        let line = schedule::line_at(text, place);
+        let end = place + line.len();
+        let s = said(line, end < text.len(), &mut list);
+        let p = seat(actor(s));
+        table::desks_shape(desks);
+        table::cells_size(cells);
+        table::opens_size(opens);
+        let t = turn(n, m, desks[p], own, cells, opens, &mut names, &list, s);
+        n = t.n;
+        m = t.m;
+        let d = t.desk;
+        let a = d.applied;
+        desks[p] = d;
+        own[p] = a[p];
+        let answer = t.answer;
+        len = print(out, len, answer, &names);
+        place = behind(end, text.len());
+    }
+    Progress {
+        core: Core {
+            n: n,
+            m: m,
+            desks: desks,
+        },
+        at: place,
+        len: len,
+    }
 }
