@@ -256,11 +256,12 @@ fn put_answer(out: &mut [u8], at: usize, a: Answer, names: &[u16; 128]) -> usize
 pub fn put(out: &mut [u8], at: usize, a: Answer, names: &[u16; 128]) -> Written
     ensures { λ r. ⌜ r ≡ written (now (out .entry)) at (answerLine (answerOf a (now (names .entry)))) ⌝ }
     ensures { λ _. ⌜ now (out .exit) ≡ buffer (now (out .entry)) at (answerLine (answerOf a (now (names .entry)))) ⌝ }
+    ensures { λ _. ⌜ length (answerLine (answerOf a (now (names .entry)))) ≤ 770 ⌝ }
 {
+    let n = answer_length(a, names);
     if out.len() < at {
         return Written::Short;
     }
-    let n = answer_length(a, names);
     if out.len() - at <= n {
         return Written::Short;
     }

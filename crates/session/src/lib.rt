@@ -1,0 +1,317 @@
+// A text against the session so far: no table yet, or a table.
+ghost use mathlib.Core.Path.{_≡_};
+ghost use Prim.Native.Nat.{ℕ, _+_, _-_, _<_, _≤_, min};
+ghost use lib.ListN.{length, take};
+ghost use mathlib.Core.Option.{none};
+ghost use Rattle.laws.specs.Loop.{pick};
+ghost use Rattle.laws.specs.Tab.{tab};
+ghost use Rattle.clock.specs.Vectors.{places};
+ghost use Rattle.machine.specs.Steps.{begins};
+ghost use Rattle.schedule.specs.Grammar.{lineOf};
+ghost use Rattle.session.specs.Line.{cellCount, Means, actor, seatOf};
+ghost use Rattle.session.specs.Holds.{ownAt, SomeSession};
+ghost use Rattle.session.specs.Act.{Acting, Acts, SomeSeat, Turns, nextOf, begunOf, noStepOf, firstOf};
+ghost use Rattle.answer.specs.declared.Answer.the-variants.{Refused};
+ghost use Rattle.answer.specs.Bytes.{answerLine};
+ghost use Rattle.answer.specs.Meaning.{answerOf};
+ghost use Rattle.laws.specs.Stores.{Stored};
+ghost use Rattle.session.specs.Run.{most-answer, Runs};
+ghost use Rattle.machine.specs.Steps.{Trip};
+ghost use Rattle.steps.specs.LookTurn.{SomeLook, Looks};
+use answer::Answer;
+use answer::Refusal;
+use answer::Written;
+use clock::PLACES;
+use schedule::Line;
+use steps::Turn;
+use steps::deliver::NAMES;
+use table::CELL;
+use table::CELLS;
+use table::Core;
+use table::Desk;
+use table::OPEN;
+use table::OPENS;
+
+// The numbers of a trip's cells that a line can hold, and more.
+const LIST: usize = 64;
+
+// The most bytes of an answer's line: A and 64 names of 12 bytes, and the LF.
+const LONGEST_ANSWER: usize = 770;
+
+// The size of the table after a line, 0 while there is none, the acting desk, and the answer.
+struct Next {
+    n: usize,
+    m: usize,
+    desk: Desk,
+    answer: Answer,
+}
+
+// The desk that a line names first; 0 where it names none.
+fn actor(s: Line) -> usize
+    ensures { λ r. ⌜ r ≡ actor s ⌝ }
+{
+    match s {
+        Line::New(_, _) => 0,
+        Line::Read(i, _) => i,
+        Line::Write(i, _, _) => i,
+        Line::Deliver(i, _, _) => i,
+        Line::Trip(i, _) => i,
+        Line::NoStep => 0,
+    }
+}
+
+// Its place in the array of desks, and 0 for a number that is no desk: the step then leaves the desk there as it is.
+fn seat(i: usize) -> usize
+    ensures { λ r. ⌜ (r ≡ seatOf i) × (r < places) ⌝ }
+{
+    if table::inside(PLACES, i) {
+        return i - 1;
+    }
+    0
+}
+
+fn begins(n: usize, m: usize) -> bool
+    ensures { λ r. ⌜ r ≡ begins n m ⌝ }
+{
+    if table::inside(PLACES, n) {
+        table::inside(CELLS, m)
+    } else {
+        false
+    }
+}
+
+// Still no table.
+fn none_yet(d: Desk, why: Refusal) -> Next
+    ensures { λ r. ⌜ r ≡ nextOf 0 0 d (Refused why) ⌝ }
+{
+    Next {
+        n: 0,
+        m: 0,
+        desk: d,
+        answer: Answer::Refused(why),
+    }
+}
+
+// N n m: every number of the table is 0 already.
+fn begun(d: Desk, n: usize, m: usize) -> Next
+    ensures { λ r. ⌜ r ≡ begunOf d n m ⌝ }
+{
+    if begins(n, m) {
+        return Next {
+            n: n,
+            m: m,
+            desk: d,
+            answer: Answer::Begun,
+        };
+    }
+    none_yet(d, Refusal::NoSize)
+}
+
+// A line before there is a table.
+fn first(d: Desk, s: Line) -> Next
+    ensures { λ r. ⌜ r ≡ firstOf d s ⌝ }
+{
+    match s {
+        Line::New(n, m) => begun(d, n, m),
+        Line::Read(_, _) => none_yet(d, Refusal::NoStep),
+        Line::Write(_, _, _) => none_yet(d, Refusal::NoStep),
+        Line::Deliver(_, _, _) => none_yet(d, Refusal::NoStep),
+        Line::Trip(_, _) => none_yet(d, Refusal::NoStep),
+        Line::NoStep => none_yet(d, Refusal::NoStep),
+    }
+}
+
+// T i x x ..: the cells are the first of the list.
+fn trip(
+    n: usize,
+    m: usize,
+    d: Desk,
+    cells: &[u16; PLACES * CELLS * CELL],
+    i: usize,
+    list: &[u16],
+    count: usize,
+) -> Turn
+    requires { ⌜ (count ≤ length (now list)) × (SomeLook n m (now cells) i d) ⌝ }
+    ensures { λ r. ⌜ Looks n m (now (cells .entry)) i d (Trip i (take count (now (list .entry)))) r ⌝ }
+{
+    steps::look::trip_at(n, m, d, cells, i, &list[..count])
+}
+
+fn no_step(d: Desk) -> Turn
+    ensures { λ r. ⌜ r ≡ noStepOf d ⌝ }
+{
+    Turn {
+        desk: d,
+        answer: Answer::Refused(Refusal::NoStep),
+    }
+}
+
+// A line on a table of n desks and m cells: d is the desk that it names first, list has the cells of a trip.
+fn act(
+    n: usize,
+    m: usize,
+    d: Desk,
+    own: [u16; PLACES],
+    cells: &mut [u16; PLACES * CELLS * CELL],
+    opens: &mut [u16; OPENS * OPEN],
+    names: &mut [u16; NAMES],
+    list: &[u16; LIST],
+    s: Line,
+) -> Turn
+    requires { ⌜ (cellCount s ≤ 62) × (Acting n m (now cells) (now opens) own (actor s) d) ⌝ }
+    ensures { λ r. ⌜ Acts n m d own (now (cells .entry)) (now (opens .entry)) (now (list .entry)) s r (now (cells .exit)) (now (opens .exit)) (now (names .exit)) ⌝ }
+{
+    match s {
+        Line::Deliver(i, u, k) => {
+            steps::deliver::deliver_at(n, d, own, cells, opens, names, i, u, k)
+        }
+        Line::Read(i, x) => steps::look::read_at(n, m, d, cells, i, x),
+        Line::Write(i, x, v) => steps::write::write_at(n, m, d, cells, opens, i, x, v),
+        Line::Trip(i, count) => trip(n, m, d, cells, i, list, count),
+        Line::New(_, _) => no_step(d),
+        Line::NoStep => no_step(d),
+    }
+}
+
+// A line on what there is so far.
+fn turn(
+    n: usize,
+    m: usize,
+    d: Desk,
+    own: [u16; PLACES],
+    cells: &mut [u16; PLACES * CELLS * CELL],
+    opens: &mut [u16; OPENS * OPEN],
+    names: &mut [u16; NAMES],
+    list: &[u16; LIST],
+    s: Line,
+) -> Next
+    requires { ⌜ (cellCount s ≤ 62) × (SomeSeat n m (now cells) (now opens) own (actor s) d) ⌝ }
+    ensures { λ r. ⌜ Turns n m d own (now (cells .entry)) (now (opens .entry)) (now (list .entry)) s r (now (cells .exit)) (now (opens .exit)) (now (names .exit)) ⌝ }
+{
+    if n == 0 {
+        return first(d, s);
+    }
+    let t = act(n, m, d, own, cells, opens, names, list, s);
+    let after = t.desk;
+    let answer = t.answer;
+    Next {
+        n: n,
+        m: m,
+        desk: after,
+        answer: answer,
+    }
+}
+
+fn seen(l: &[u16]) {}
+
+// Nothing is done here: the contract hands the caller what the type says.
+fn list_size(list: &[u16; LIST])
+    ensures { λ _. ⌜ length (now (list .entry)) ≡ 64 ⌝ }
+{
+    seen(list);
+}
+
+// What a line says: nothing where no LF ended it. The cells of a trip go to the list.
+fn said(line: &[u8], ended: bool, list: &mut [u16; LIST]) -> Line
+    ensures { λ r. ⌜ Means (pick ended (lineOf (now (line .entry))) none) r (now (list .exit)) ⌝ }
+{
+    if ended {
+        list_size(list);
+        return schedule::line_of(line, list);
+    }
+    Line::NoStep
+}
+
+// How many writes each desk has made.
+fn owns(desks: [Desk; PLACES]) -> [u16; PLACES]
+    ensures { λ r. ⌜ r ≡ tab places (ownAt desks) ⌝ }
+{
+    let mut own = [0u16; PLACES];
+    for i in 0..PLACES {
+        let d = desks[i];
+        let a = d.applied;
+        own[i] = a[i];
+    }
+    own
+}
+
+// Behind a line that ends at a place: past its LF, or the end of all.
+fn behind(end: usize, len: usize) -> usize
+    requires { ⌜ end ≤ len ⌝ }
+    ensures { λ r. ⌜ r ≡ min (end + 1) len ⌝ }
+{
+    if end < len { end + 1 } else { len }
+}
+
+// The line of an answer, where a line of any answer has room.
+fn print(out: &mut [u8], at: usize, a: Answer, names: &[u16; NAMES]) -> usize
+    requires { ⌜ at + most-answer ≤ length (now out) ⌝ }
+    ensures { λ r. ⌜ Stored (now (out .entry)) at (answerLine (answerOf a (now (names .entry)))) (now (out .exit)) r ⌝ }
+    ensures { λ r. ⌜ r ≤ length (now (out .entry)) ⌝ }
+{
+    match answer::put(out, at, a, names) {
+        Written::Upto(p) => p,
+        Written::Short => at,
+    }
+}
+
+// The table, n = 0 while there is none, how far the text is read, and how many bytes of answers there are.
+pub struct Progress {
+    pub core: Core,
+    pub at: usize,
+    pub len: usize,
+}
+
+// Runs the lines from a place on, while there are any and an answer of any length has room.
+pub fn run(
+    core: Core,
+    cells: &mut [u16; PLACES * CELLS * CELL],
+    opens: &mut [u16; OPENS * OPEN],
+    text: &[u8],
+    at: usize,
+    out: &mut [u8],
+) -> Progress
+    requires { ⌜ SomeSession (core .n) (core .m) (core .desks) (now cells) (now opens) ⌝ }
+    ensures { λ r. ⌜ Runs (core .n) (core .m) (core .desks) (now (cells .entry)) (now (opens .entry)) (now (text .entry)) at (now (out .entry)) (r .core .n) (r .core .m) (r .core .desks) (now (cells .exit)) (now (opens .exit)) (r .at) (r .len) (now (out .exit)) ⌝ }
+{
+    let mut n = core.n;
+    let mut m = core.m;
+    let mut desks = core.desks;
+    table::desks_shape(desks);
+    let mut own = owns(desks);
+    let mut names = [0u16; NAMES];
+    let mut list = [0u16; LIST];
+    let mut place = at;
+    let mut len = 0;
+    while place < text.len() {
+        if out.len() - len < LONGEST_ANSWER {
+            break;
+        }
+        let line = schedule::line_at(text, place);
+        let end = place + line.len();
+        let s = said(line, end < text.len(), &mut list);
+        let p = seat(actor(s));
+        table::desks_shape(desks);
+        table::cells_size(cells);
+        table::opens_size(opens);
+        let t = turn(n, m, desks[p], own, cells, opens, &mut names, &list, s);
+        n = t.n;
+        m = t.m;
+        let d = t.desk;
+        let a = d.applied;
+        desks[p] = d;
+        own[p] = a[p];
+        let answer = t.answer;
+        len = print(out, len, answer, &names);
+        place = behind(end, text.len());
+    }
+    Progress {
+        core: Core {
+            n: n,
+            m: m,
+            desks: desks,
+        },
+        at: place,
+        len: len,
+    }
+}

@@ -1,6 +1,10 @@
 -- The line is stored where it fits, and else nothing is.
-use Prim.Native.Nat.{ℕ}
-use mathlib.Core.List.{List}
+use Prim.Native.Nat.{ℕ, _≤_}
+use mathlib.Core.Path.{_≡_}
+use mathlib.Core.List.{List, _++_}
+use native.Mathlib.Omega.{arith}
+use lib.ListN.{length, length-append}
+use Rattle.laws.specs.Text.{text}
 use borrow.Author.Needs.{needs}
 use Rattle.answer.specs.declared.Answer.{Answer}
 use Rattle.answer.specs.Meaning.{answerOf}
@@ -12,17 +16,26 @@ use Rattle.answer.proofs.put.Tie as tie
 abbrev bytes : Answer → List ℕ → List ℕ
 bytes a names = answerBytes (answerOf a names)
 
-returns : tie.Need-returns
-returns c = let a = c .before .before .args in kept (a .out .now) (a .at) (bytes (a .a) (a .names .now)) (search needs)
+short : (b : List ℕ) (n : ℕ) → (n ≡ length b) × (n ≤ 769) → length (b ++ text "\n") ≤ 770
+short b n h = omega (arith, h .0, h .1, length-append b (text "\n"))
 
 answer-length-requires : tie.Need-answer-length-requires
 answer-length-requires c κs = search needs
+
+returns : tie.Need-returns
+returns c =
+    let a = c .before .before .before .args in
+    let k = kept (a .out .now) (a .at) (bytes (a .a) (a .names .now)) (search needs) in
+    (k .0, (k .1, short (bytes (a .a) (a .names .now)) _ (c .before .answer-length .ensures)))
 
 sub-if2 : tie.Need-sub-if2
 sub-if2 c = search needs
 
 returns-2 : tie.Need-returns-2
-returns-2 c = let a = c .before .before .before .before .args in kept (a .out .now) (a .at) (bytes (a .a) (a .names .now)) (search needs)
+returns-2 c =
+    let a = c .before .before .before .before .args in
+    let k = kept (a .out .now) (a .at) (bytes (a .a) (a .names .now)) (search needs) in
+    (k .0, (k .1, short (bytes (a .a) (a .names .now)) _ (c .before .before .answer-length .ensures)))
 
 put-answer-requires : tie.Need-put-answer-requires
 put-answer-requires c κs = search needs
@@ -37,15 +50,17 @@ same-length : tie.Need-same-length
 same-length c = search needs
 
 returns-3 : tie.Need-returns-3
-returns-3 c = let a = c .before .before .before .before .before .before .before .before .args in
-    ended (a .out .now) (a .at) (bytes (a .a) (a .names .now)) _ _ (search needs) (c .before .before .put-answer .ensures)
+returns-3 c =
+    let a = c .before .before .before .before .before .before .before .before .args in
+    let k = ended (a .out .now) (a .at) (bytes (a .a) (a .names .now)) _ _ (search needs) (c .before .before .put-answer .ensures) in
+    (k .0, (k .1, short (bytes (a .a) (a .names .now)) _ (c .before .before .before .before .before .before .answer-length .ensures)))
 
 pub put-spec : {M : Type 1} → statement M
 put-spec =
     tie.close
     (tie.spec
-    returns
     answer-length-requires
+    returns
     sub-if2
     returns-2
     put-answer-requires

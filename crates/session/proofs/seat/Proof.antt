@@ -1,0 +1,26 @@
+use mathlib.Core.Path.{sym, _∙_}
+use native.Mathlib.Omega.{arith}
+use Rattle.clock.specs.Vectors.{places}
+use Rattle.machine.specs.Rules.{In}
+use Rattle.machine.specs.Proofs.Refusals.{says-within}
+use borrow.Author.Needs.{needs}
+use Rattle.session.proofs.seat.Statement.{statement}
+use Rattle.session.proofs.seat.Tie as tie
+
+inside-requires : tie.Need-inside-requires
+inside-requires c κs = search needs
+
+within-here : (c : tie.Then1) → In places (c .before .before .args .i)
+within-here c = says-within _ _ .to (sym (c .before .inside .ensures) ∙ c .if1 .taken)
+
+sub-result : tie.Need-sub-result
+sub-result c = within-here c .0
+
+returns : tie.Need-returns
+returns c = let h = within-here c in (rw (says-within _ _ .from h), omega (arith, h .0, h .1))
+
+returns-2 : tie.Need-returns-2
+returns-2 c = (rw (← c .before .inside .ensures, c .if1 .left), search needs)
+
+pub seat-spec : {M : Type 1} → statement M
+seat-spec = tie.close (tie.spec inside-requires sub-result returns returns-2)

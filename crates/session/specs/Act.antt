@@ -1,0 +1,252 @@
+-- A line against the code's values: what it asks of them, and that it is the session's turn.
+use mathlib.Core.Path.{_≡_, refl, sym, ap, subst, _∙_}
+use mathlib.Core.List.{List, []}
+use mathlib.Core.Option.{Option, none, some}
+use mathlib.Core.Bool.{Bool, true, false}
+use Prim.Native.Nat.{ℕ, _-_, _*_, _<_, _≤_}
+use native.Mathlib.Omega.{arith}
+use lib.ListN.{length, getD, set, take}
+use lib.Seq.{set-getD}
+use Rattle.laws.specs.Loop.{pick, cases}
+use Rattle.laws.specs.Says.{apart, says-both}
+use Rattle.clock.specs.Vectors.{places}
+use Rattle.machine.specs.Table.{State, fresh, most-desks, most-cells}
+use Rattle.machine.specs.Answer as machine
+use Rattle.machine.specs.Rules.{In}
+use Rattle.machine.specs.Steps.{Step, within, step, begin, begins}
+use Rattle.machine.specs.Steps as steps
+use Rattle.machine.specs.Proofs.Refusals.{says-within, step-cases}
+use Rattle.answer.specs.declared.Answer.{Answer}
+use Rattle.answer.specs.declared.Answer.the-variants.{Begun, Unset, Shown, Wrote, Held, Applied, Yes, No, Unknown, Refused}
+use Rattle.answer.specs.declared.Refusal.the-variants.{NoStep as NoStepAnswer, NoSize}
+use Rattle.answer.specs.Meaning.{answerOf}
+use Rattle.schedule.specs.Grammar.{Line as Said, begin-line, step-line}
+use Rattle.schedule.specs.declared.Line.{Line}
+use Rattle.schedule.specs.declared.Line.the-variants.{New, Read, Write, Deliver, Trip, NoStep}
+use Rattle.table.specs.declared.Desk.{Desk}
+use Rattle.table.specs.Value.{desk0, all-cells, cell-width, entries, open-width}
+use Rattle.table.specs.Shape.{DesksShape}
+use Rattle.table.specs.Model.{model}
+use Rattle.table.specs.Sound.{Sound}
+use Rattle.steps.specs.declared.Turn.{Turn as DeskTurn}
+use Rattle.steps.specs.Stepped.{Placed, putDesk, Stepped}
+use Rattle.session.specs.declared.Next.{Next}
+use Rattle.session.specs.Session.{Session, Turn, turn}
+use Rattle.session.specs.Line.{lineIn, actor, seatOf}
+use Rattle.session.specs.Holds.{Zero, Holds, Owns, begun-holds}
+
+-- On a table --
+
+abbrev pub deskOf : Step → ℕ
+deskOf (steps.Read i x) = i
+deskOf (steps.Write i x v) = i
+deskOf (steps.Deliver i u k) = i
+deskOf (steps.Trip i xs) = i
+
+-- there is a table of which these are a part
+pub record Acting (n m : ℕ) (cs os own : List ℕ) (i : ℕ) (d : Desk) : Type 0 where
+  pub desks : List Desk
+  pub placed : Placed n m desks cs os own i d
+
+-- the turn of the line o
+pub record Acted (n m : ℕ) (ds : List Desk) (cs os : List ℕ) (i : ℕ) (d : Desk) (o : Option Said) (d′ : Desk) (cs′ os′ : List ℕ) (answer : machine.Answer) : Type 0 where
+  pub answer-is : answer ≡ turn (some (model n m ds cs os)) o .answer
+  pub session-is : some (model n m (putDesk n ds i d′) cs′ os′) ≡ turn (some (model n m ds cs os)) o .session
+  pub sound : Sound n m (putDesk n ds i d′) cs′ os′
+  pub outside : within n i ≡ false → d′ ≡ d
+
+abbrev pub Acts : (n m : ℕ) (d : Desk) (own cs os list : List ℕ) (s : Line) (r : DeskTurn) (cs′ os′ names′ : List ℕ) → Type 0
+Acts n m d own cs os list s r cs′ os′ names′ =
+    (ds : List Desk) → Placed n m ds cs os own (actor s) d → Acted n m ds cs os (actor s) d (lineIn s list) (r .desk) cs′ os′ (answerOf (r .answer) names′)
+
+outside-refused : (s : State) (a : Step) → within (s .desks) (deskOf a) ≡ false → step s a .answer ≡ machine.refused machine.no-desk
+unfolding step
+outside-refused s (steps.Read i x) e = rw e
+outside-refused s (steps.Write i x v) e = rw e
+outside-refused s (steps.Deliver i u k) e = rw e
+outside-refused s (steps.Trip i xs) e = rw e
+
+module _ {n m : ℕ} {ds : List Desk} {cs os : List ℕ} {d d′ : Desk} {cs′ os′ : List ℕ} {answer : machine.Answer} (a : Step) where
+  pub acted-step : Stepped n m ds cs os (deskOf a) d a d′ cs′ os′ answer → Acted n m ds cs os (deskOf a) d (some (step-line a)) d′ cs′ os′ answer
+  acted-step h = record {
+    answer-is = h .answer-is;
+    session-is = ap some (h .state-is);
+    sound = h .sound;
+    outside = λ e. h .refused-desk machine.no-desk (h .answer-is ∙ outside-refused (model n m ds cs os) a e);
+  }
+
+-- the names stand beside an answer of a delivery alone --
+
+abbrev isApplies : machine.Answer → Bool
+isApplies machine.began = false
+isApplies (machine.shows v) = false
+isApplies (machine.wrote w) = false
+isApplies (machine.holds t) = false
+isApplies (machine.applies l) = true
+isApplies (machine.judged v) = false
+isApplies (machine.refused r) = false
+
+beside : (a : Answer) (names : List ℕ) (x : machine.Answer) → answerOf a [] ≡ x → isApplies x ≡ false → answerOf a names ≡ x
+beside Begun names x e h = e
+beside Unset names x e h = e
+beside (Shown v u k) names x e h = e
+beside (Wrote u k) names x e h = e
+beside (Held t) names x e h = e
+beside (Applied c) names x e h = apart (isApplies x) (sym (ap isApplies e)) h
+beside Yes names x e h = e
+beside No names x e h = e
+beside Unknown names x e h = e
+beside (Refused r) names x e h = e
+
+abbrev Delivery : Step → Bool
+Delivery (steps.Read i x) = false
+Delivery (steps.Write i x v) = false
+Delivery (steps.Deliver i u k) = true
+Delivery (steps.Trip i xs) = false
+
+quiet : (s : State) (a : Step) → Delivery a ≡ false → isApplies (step s a .answer) ≡ false
+quiet s (steps.Read i x) e = step-cases s (steps.Read i x) (λ o. isApplies (o .answer) ≡ false) (λ r. refl) (λ h. refl)
+quiet s (steps.Write i x v) e = step-cases s (steps.Write i x v) (λ o. isApplies (o .answer) ≡ false) (λ r. refl) (λ h. refl)
+quiet s (steps.Deliver i u k) e = apart true refl e
+quiet s (steps.Trip i xs) e = step-cases s (steps.Trip i xs) (λ o. isApplies (o .answer) ≡ false) (λ r. refl) (λ h. refl)
+
+module _ {n m : ℕ} {ds : List Desk} {cs os : List ℕ} {d d′ : Desk} {cs′ os′ : List ℕ} (a : Step) (answer : Answer) (names : List ℕ) where
+  pub acted-quiet : Delivery a ≡ false → Stepped n m ds cs os (deskOf a) d a d′ cs′ os′ (answerOf answer [])
+      → Acted n m ds cs os (deskOf a) d (some (step-line a)) d′ cs′ os′ (answerOf answer names)
+  acted-quiet q h =
+      let e : answerOf answer names ≡ answerOf answer [] = beside answer names _ refl (ap isApplies (h .answer-is) ∙ quiet (model n m ds cs os) a q) in
+      rw e (acted-step a h)
+
+-- a line that is no step on a table
+abbrev pub noStepOf : Desk → DeskTurn
+noStepOf d = record { desk = d; answer = Refused NoStepAnswer }
+
+pub acted-none : {n m : ℕ} {ds : List Desk} {cs os own : List ℕ} {d : Desk} (o : Option Said) → Placed n m ds cs os own 0 d
+    → turn (some (model n m ds cs os)) o ≡ record { answer = machine.refused machine.no-step; session = some (model n m ds cs os) }
+    → Acted n m ds cs os 0 d o d cs os (machine.refused machine.no-step)
+acted-none o p e = record {
+  answer-is = rw e;
+  session-is = rw e;
+  sound = p .sound;
+  outside = λ _. refl;
+}
+
+-- On a session --
+
+-- the code's values hold the session z, and d is the desk at the seat of i
+pub record Seated (n m : ℕ) (ds : List Desk) (cs os own : List ℕ) (i : ℕ) (d : Desk) (z : Session) : Type 0 where
+  pub holds : Holds n m ds cs os z
+  pub owns : Owns own ds
+  pub shape : DesksShape ds
+  pub cells-size : length cs ≡ all-cells * cell-width
+  pub opens-size : length os ≡ entries * open-width
+  pub desk : getD ds (seatOf i) desk0 ≡ d
+
+pub record SomeSeat (n m : ℕ) (cs os own : List ℕ) (i : ℕ) (d : Desk) : Type 0 where
+  pub desks : List Desk
+  pub session : Session
+  pub seated : Seated n m desks cs os own i d session
+
+-- the turn t: with the desk stored back
+pub record Turned (n m : ℕ) (ds : List Desk) (cs os : List ℕ) (i : ℕ) (d : Desk) (answer : machine.Answer) (t : Turn) : Type 0 where
+  pub answer-is : answer ≡ t .answer
+  pub holds : Holds n m (set ds (seatOf i) d) cs os (t .session)
+
+-- whatever the other desks, and whatever session the values hold
+abbrev pub Turns : (n m : ℕ) (d : Desk) (own cs os list : List ℕ) (s : Line) (r : Next) (cs′ os′ names′ : List ℕ) → Type 0
+Turns n m d own cs os list s r cs′ os′ names′ =
+    (ds : List Desk) (z : Session) → Seated n m ds cs os own (actor s) d z
+    → Turned (r .n) (r .m) ds cs′ os′ (actor s) (r .desk) (answerOf (r .answer) names′) (turn z (lineIn s list))
+
+abbrev pub nextOf : ℕ → ℕ → Desk → Answer → Next
+nextOf n m d a = record { n = n; m = m; desk = d; answer = a }
+
+abbrev pub begunOf : Desk → ℕ → ℕ → Next
+begunOf d n m = pick (begins n m) (nextOf n m d Begun) (nextOf 0 0 d (Refused NoSize))
+
+-- a line before there is a table
+abbrev pub firstOf : Desk → Line → Next
+firstOf d (New n m) = begunOf d n m
+firstOf d (Read i x) = nextOf 0 0 d (Refused NoStepAnswer)
+firstOf d (Write i x v) = nextOf 0 0 d (Refused NoStepAnswer)
+firstOf d (Deliver i u k) = nextOf 0 0 d (Refused NoStepAnswer)
+firstOf d (Trip i n) = nextOf 0 0 d (Refused NoStepAnswer)
+firstOf d NoStep = nextOf 0 0 d (Refused NoStepAnswer)
+
+module _ {n m : ℕ} {ds : List Desk} {cs os own : List ℕ} {i : ℕ} {d : Desk} where
+  stays : {z : Session} → Seated n m ds cs os own i d z → set ds (seatOf i) d ≡ ds
+  stays h = rw (← h .desk) (set-getD ds (seatOf i) desk0)
+
+  pub placed : {s : State} → Seated n m ds cs os own i d (some s) → Placed n m ds cs os own i d
+  placed h = record {
+    sound = h .holds .sound;
+    shape = h .shape;
+    cells-size = h .cells-size;
+    opens-size = h .opens-size;
+    desk = λ hi. rw (← seat hi) (h .desk);
+    own-counts = h .owns .counts;
+  }
+    where
+      seat : In n i → seatOf i ≡ i - 1
+      seat hi = rw (says-within places i .from (hi .0, omega (arith, hi .1, h .holds .sound .rules .frame .ranges .desks .1)))
+
+  -- the desk stored at its seat
+  put-seat : {s : State} (d′ : Desk) → Seated n m ds cs os own i d (some s) → (within n i ≡ false → d′ ≡ d) → set ds (seatOf i) d′ ≡ putDesk n ds i d′
+  put-seat d′ h out =
+      cases (within n i)
+      (λ t. let hi = says-within n i .to t in
+      rw (t, says-within places i .from (hi .0, omega (arith, hi .1, h .holds .sound .rules .frame .ranges .desks .1))))
+      (λ t. rw (t, out t) (stays h))
+
+  -- on a table
+  pub turned-act : (z : Session) (o : Option Said) {d′ : Desk} {cs′ os′ : List ℕ} {answer : machine.Answer} → (n ≡ 0 → ⊥) → Seated n m ds cs os own i d z
+      → (Placed n m ds cs os own i d → Acted n m ds cs os i d o d′ cs′ os′ answer) → Turned n m ds cs′ os′ i d′ answer (turn z o)
+  turned-act none o ne h f = absurd (ne (h .holds .size))
+  turned-act (some s) o {d′} {cs′} {os′} {answer} ne h f =
+      let a = f (placed h) in
+      let e = put-seat d′ h (a .outside) in
+      subst (λ (t : State). Turned n m ds cs′ os′ i d′ answer (turn (some t) o)) (h .holds .model-is)
+      (record {
+        answer-is = a .answer-is;
+        holds = subst (λ (z : Session). Holds n m (set ds (seatOf i) d′) cs′ os′ z) (a .session-is) (rw e (record { model-is = refl; sound = a .sound }));
+      })
+
+  -- the values that a table's step may take for granted
+  pub acting : (z : Session) → (n ≡ 0 → ⊥) → Seated n m ds cs os own i d z → Acting n m cs os own i d
+  acting none ne h = absurd (ne (h .holds .size))
+  acting (some s) ne h = record { desks = ds; placed = placed h }
+
+  zero-of : (z : Session) → n ≡ 0 → Seated n m ds cs os own i d z → (z ≡ none) × Zero 0 ds cs os
+  zero-of none e h = (refl, record { size = refl; desks = h .holds .desks; cells = h .holds .cells; opens = h .holds .opens })
+  zero-of (some s) e h = absurd (omega (arith, h .holds .sound .rules .frame .ranges .desks .0))
+
+begin-yes : (a b : ℕ) → begins a b ≡ true → begin a b ≡ record { answer = machine.began; table = some (fresh a b) }
+unfolding begin
+begin-yes a b t = rw (t, begin)
+
+begin-no : (a b : ℕ) → begins a b ≡ false → begin a b ≡ record { answer = machine.refused machine.no-size; table = none }
+unfolding begin
+begin-no a b t = rw (t, begin)
+
+-- before there is a table
+pub turned-first : {n m : ℕ} {ds : List Desk} {cs os own : List ℕ} {d : Desk} (s : Line) (list names : List ℕ) (z : Session) → n ≡ 0
+    → Seated n m ds cs os own (actor s) d z → (let r = firstOf d s in Turned (r .n) (r .m) ds cs os (actor s) (r .desk) (answerOf (r .answer) names) (turn z (lineIn s list)))
+turned-first {n} {m} {ds} {cs} {os} {own} {d} s list names z e h =
+    let y = zero-of z e h in
+    rw (y .0) (go s (stays h) (y .1))
+  where
+    stay : (i : ℕ) → set ds (seatOf i) d ≡ ds → Zero 0 ds cs os → Turned 0 0 ds cs os i d (machine.refused machine.no-step) (record { answer = machine.refused machine.no-step; session = none })
+    stay i q y = record { answer-is = refl; holds = rw q y }
+
+    go : (s : Line) → set ds (seatOf (actor s)) d ≡ ds → Zero 0 ds cs os
+        → (let r = firstOf d s in Turned (r .n) (r .m) ds cs os (actor s) (r .desk) (answerOf (r .answer) names) (turn none (lineIn s list)))
+    go (New a b) q y =
+        cases (begins a b)
+        (λ t. let w = says-both (within most-desks a) (within most-cells b) (says-within most-desks a) (says-within most-cells b) .to t in
+        rw (begin-yes a b t, t) (record { answer-is = refl; holds = rw q (begun-holds a b ds cs os (w .0) (w .1) y) }))
+        (λ t. rw (begin-no a b t, t) (record { answer-is = refl; holds = rw q y }))
+    go (Read i x) q y = stay i q y
+    go (Write i x v) q y = stay i q y
+    go (Deliver i u k) q y = stay i q y
+    go (Trip i n) q y = stay i q y
+    go NoStep q y = stay 0 q y
