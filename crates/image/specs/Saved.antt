@@ -131,8 +131,7 @@ module _ (n m : ℕ) (ds : List Desk) (cs os : List ℕ) (ok : Sound n m ds cs o
           few = omega (arith, ord .size, known .few);
           each = λ p h.
               (let e = held-as p h in
-              let o = r .frame .open-write (at p .writer) (at p .number) (openM (openAt os (getD order p 0))) (is-there p h) in
-              (
+              let o = r .frame .open-write (at p .writer) (at p .number) (openM (openAt os (getD order p 0))) (is-there p h) in (
                 e .0,
                 record {
                   writer = omega (arith, named-is (openAt os (getD order p 0)) (at p .writer) (at p .number) (e .1) .1, is-open p h .writer-in .1, few-desks);

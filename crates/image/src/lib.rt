@@ -273,7 +273,13 @@ fn open_or(opens: &[u16; OPENS * OPEN], order: &[usize; OPENS], count: usize, p:
 }
 
 // Block q of the open writes.
-fn open_block(at: u16, opens: &[u16; OPENS * OPEN], order: &[usize; OPENS], count: usize, q: usize) -> [u8; BLOCK]
+fn open_block(
+    at: u16,
+    opens: &[u16; OPENS * OPEN],
+    order: &[usize; OPENS],
+    count: usize,
+    q: usize,
+) -> [u8; BLOCK]
     requires { ⌜ (q < 4) × OrderFits (now opens) (now order) count ⌝ }
     ensures { λ r. ⌜ r ≡ block 4 at (cat (openPiece (now (opens .entry)) (now (order .entry)) count q) 18) ⌝ }
 {
@@ -345,7 +351,14 @@ fn save_cells(out: &mut [u8], cells: &[u16; PLACES * CELLS * CELL], n: usize, c:
 }
 
 // Kind 4: the c blocks from block k on.
-fn save_opens(out: &mut [u8], k: usize, opens: &[u16; OPENS * OPEN], order: &[usize; OPENS], count: usize, c: usize)
+fn save_opens(
+    out: &mut [u8],
+    k: usize,
+    opens: &[u16; OPENS * OPEN],
+    order: &[usize; OPENS],
+    count: usize,
+    c: usize,
+)
     requires { ⌜ OrderFits (now opens) (now order) count × ((c ≤ 4) × ((k + c ≤ 64) × (512 * k + 512 * c ≤ length (now out)))) ⌝ }
     ensures { λ _. ⌜ now (out .exit) ≡ sets (now (out .entry)) (512 * k) (cat (openBlock (now (opens .entry)) (now (order .entry)) count k) c) ⌝ }
 {
@@ -414,7 +427,14 @@ fn open_count(desks: [Desk; PLACES], n: usize) -> usize
 }
 
 // The entries of desk u's writes lo + 1 to own, u from 1, put into the order from place p on.
-fn order_of(opens: &[u16; OPENS * OPEN], u: usize, lo: u16, own: u16, order: &mut [usize], p: usize) -> usize
+fn order_of(
+    opens: &[u16; OPENS * OPEN],
+    u: usize,
+    lo: u16,
+    own: u16,
+    order: &mut [usize],
+    p: usize,
+) -> usize
     requires { ⌜ (In places u) × ((lo ≤ own) × (p + (own - lo) ≤ length (now order))) ⌝ }
     requires { ⌜ ((k : ℕ) → lo < k → k ≤ own → opensM (now opens) u k ≡ none → ⊥) ⌝ }
     ensures { λ r. ⌜ Listed (now (opens .entry)) u lo own p (now (order .entry)) (now (order .exit)) r ⌝ }
@@ -434,7 +454,12 @@ fn order_of(opens: &[u16; OPENS * OPEN], u: usize, lo: u16, own: u16, order: &mu
 }
 
 // The entries of all open writes in their order, and how many there are.
-fn order_all(opens: &[u16; OPENS * OPEN], desks: [Desk; PLACES], n: usize, order: &mut [usize]) -> usize
+fn order_all(
+    opens: &[u16; OPENS * OPEN],
+    desks: [Desk; PLACES],
+    n: usize,
+    order: &mut [usize],
+) -> usize
     requires { ⌜ (length (now order) ≡ entries) × Known n desks (now opens) ⌝ }
     ensures { λ r. ⌜ Ordered (now (opens .entry)) (counted n (appliedM desks)) (now (order .exit)) r ⌝ }
 {
@@ -497,7 +522,12 @@ pub fn image_length(core: Core) -> usize
 }
 
 // The image of a table that keeps the rules, into a buffer that is long enough. The result is the image's length.
-pub fn save_parts(core: Core, cells: &[u16; PLACES * CELLS * CELL], opens: &[u16; OPENS * OPEN], out: &mut [u8]) -> usize
+pub fn save_parts(
+    core: Core,
+    cells: &[u16; PLACES * CELLS * CELL],
+    opens: &[u16; OPENS * OPEN],
+    out: &mut [u8],
+) -> usize
     requires { ⌜ Sound (core .n) (core .m) (core .desks) (now cells) (now opens) ⌝ }
     requires { ⌜ length (encode (model (core .n) (core .m) (core .desks) (now cells) (now opens))) ≤ length (now out) ⌝ }
     ensures { λ r. ⌜ Saved (model (core .n) (core .m) (core .desks) (now (cells .entry)) (now (opens .entry))) (now (out .entry)) (now (out .exit)) r ⌝ }

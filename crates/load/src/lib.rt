@@ -318,7 +318,12 @@ fn starts(l: &[u8], b: &[u8]) -> bool
 }
 
 // Is b the image of a table that keeps the rules?
-fn saves_to(core: Core, cells: &[u16; PLACES * CELLS * CELL], opens: &[u16; OPENS * OPEN], b: &[u8]) -> bool
+fn saves_to(
+    core: Core,
+    cells: &[u16; PLACES * CELLS * CELL],
+    opens: &[u16; OPENS * OPEN],
+    b: &[u8],
+) -> bool
     requires { ⌜ Sound (core .n) (core .m) (core .desks) (now cells) (now opens) ⌝ }
     ensures { λ r. ⌜ Says r (encode (model (core .n) (core .m) (core .desks) (now (cells .entry)) (now (opens .entry))) ≡ now (b .entry)) ⌝ }
 {

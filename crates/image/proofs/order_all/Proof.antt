@@ -60,9 +60,13 @@ loop-less c = search needs
 
 -- src/lib.rt:402:5
 loop-again : tie.Need-loop-again Inv-loop μ-loop
-loop-again c = let L = (c .before .before .before .before .before .before .before .loop) in let A = (c .before .before .before .before .before .before .before .before .before .args) in
-    (search needs, (ordered-next (A .opens .now) (A .n) (A .desks) (L .order) (c .before .before .order-of .last .1 .1 .1 .1 .0) (L .u) (c .before .before .before .before .lowest .result) (c .before .before .before .before .before .own-count .result) (L .count) (c .before .before .order-of .result) (L .inv .1 .0) (c .before .before .before .before .lowest .ensures) (c .before .before .before .before .before .own-count .ensures) (c .before .before .order-of .ensures),
-    c .before .before .order-of .ensures .long ∙ L .inv .1 .1))
+loop-again c = let L = (c .before .before .before .before .before .before .before .loop) in let A = (c .before .before .before .before .before .before .before .before .before .args) in (
+  search needs,
+  (
+    ordered-next (A .opens .now) (A .n) (A .desks) (L .order) (c .before .before .order-of .last .1 .1 .1 .1 .0) (L .u) (c .before .before .before .before .lowest .result) (c .before .before .before .before .before .own-count .result) (L .count) (c .before .before .order-of .result) (L .inv .1 .0) (c .before .before .before .before .lowest .ensures) (c .before .before .before .before .before .own-count .ensures) (c .before .before .order-of .ensures),
+    c .before .before .order-of .ensures .long ∙ L .inv .1 .1,
+  ),
+)
 
 -- src/lib.rt:396:1
 same-length : tie.Need-same-length Inv-loop μ-loop
