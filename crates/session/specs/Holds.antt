@@ -17,6 +17,7 @@ use Rattle.machine.specs.Rules.{In}
 use Rattle.machine.specs.Proofs.Kept.{fresh-rules}
 use Rattle.laws.specs.Tab.{tab, getD-tab, length-tab}
 use Rattle.laws.specs.Rows.{row, part, length-part}
+use Rattle.table.specs.declared.Core.{Core}
 use Rattle.table.specs.declared.Desk.{Desk}
 use Rattle.table.specs.Value.{desk0, desk-cells, all-cells, cell-width, entries, open-width, cellAt}
 use Rattle.table.specs.Shape.{DesksShape}
@@ -33,6 +34,9 @@ zeroCells = replicate (all-cells * cell-width) 0
 
 abbrev pub zeroOpens : List ℕ
 zeroOpens = replicate (entries * open-width) 0
+
+abbrev pub zeroCore : Core
+zeroCore = record { n = 0; m = 0; desks = zeroDesks }
 
 -- no table yet
 pub record Zero (n : ℕ) (ds : List Desk) (cs os : List ℕ) : Type 0 where
@@ -55,8 +59,9 @@ pub record SomeSession (n m : ℕ) (ds : List Desk) (cs os : List ℕ) : Type 0 
   pub session : Session
   pub holds : Holds n m ds cs os session
 
-pub zero-holds : (m : ℕ) → Holds 0 m zeroDesks zeroCells zeroOpens none
-zero-holds m = record { size = refl; desks = refl; cells = refl; opens = refl }
+-- the start
+pub zero-holds : SomeSession 0 0 zeroDesks zeroCells zeroOpens
+zero-holds = record { session = none; holds = record { size = refl; desks = refl; cells = refl; opens = refl } }
 
 -- "N n m" needs nothing but the two numbers --
 

@@ -9,7 +9,7 @@ ghost use Rattle.clock.specs.Vectors.{places};
 ghost use Rattle.machine.specs.Steps.{begins};
 ghost use Rattle.schedule.specs.Grammar.{lineOf};
 ghost use Rattle.session.specs.Line.{cellCount, Means, actor, seatOf};
-ghost use Rattle.session.specs.Holds.{ownAt, SomeSession};
+ghost use Rattle.session.specs.Holds.{zeroCore, ownAt, SomeSession};
 ghost use Rattle.session.specs.Act.{Acting, Acts, SomeSeat, Turns, nextOf, begunOf, noStepOf, firstOf};
 ghost use Rattle.answer.specs.declared.Answer.the-variants.{Refused};
 ghost use Rattle.answer.specs.Bytes.{answerLine};
@@ -21,6 +21,7 @@ ghost use Rattle.steps.specs.LookTurn.{SomeLook, Looks};
 use answer::Answer;
 use answer::Refusal;
 use answer::Written;
+use clock::Clock;
 use clock::PLACES;
 use schedule::Line;
 use steps::Turn;
@@ -260,6 +261,24 @@ pub struct Progress {
     pub core: Core,
     pub at: usize,
     pub len: usize,
+}
+
+// No table yet: nothing but zeros. The two arrays that are lent are zeros then, too.
+pub fn start() -> Core
+    ensures { λ r. ⌜ r ≡ zeroCore ⌝ }
+{
+    let zero = [0u16; PLACES];
+    let clock = Clock { at: zero };
+    let desk = Desk {
+        applied: zero,
+        clock: clock,
+    };
+    let desks = [desk; PLACES];
+    Core {
+        n: 0,
+        m: 0,
+        desks: desks,
+    }
 }
 
 // Runs the lines from a place on, while there are any and an answer of any length has room.

@@ -5,52 +5,37 @@ use Rattle.session.specs.Act.{acted-step, acted-quiet, acted-none}
 use borrow.Author.Needs.{needs}
 use Rattle.session.proofs.act.Statement.{statement}
 use Rattle.session.proofs.act.Tie as tie
-use Rattle.session.proofs.act.Reads as reads
-use Rattle.session.proofs.act.Lts as lts
-use Rattle.session.proofs.no_step.Reads as no-step-reads
-use Rattle.session.proofs.trip.Reads as trip-reads
-use Rattle.steps.proofs.deliver.deliver_at.Reads as deliver-at-reads
-use Rattle.steps.proofs.look.read_at.Reads as read-at-reads
-use Rattle.steps.proofs.write.write_at.Reads as write-at-reads
 
--- src/lib.rt:160:23
 enum-known-s : tie.Need-enum-known-s
 enum-known-s c = search needs
 
--- src/lib.rt:161:13
 deliver-at-requires : tie.Need-deliver-at-requires
 deliver-at-requires c κs =
     let z = c .before .before .before .before in
     let a = rw (z .s .given .1) at (z .before .before .pre .1) in
     (_, a .desks, a .placed)
 
--- src/lib.rt:163:20
 enum-known-s-2 : tie.Need-enum-known-s-2
 enum-known-s-2 c = search needs
 
--- src/lib.rt:163:29
 read-at-requires : tie.Need-read-at-requires
 read-at-requires c κs =
     let z = c .before .before in
     let a = rw (z .s2 .given .1) at (z .before .before .pre .1) in
     record { desks = a .desks; opens = _; own = _; placed = a .placed }
 
--- src/lib.rt:164:21
 enum-known-s-3 : tie.Need-enum-known-s-3
 enum-known-s-3 c = search needs
 
--- src/lib.rt:164:33
 write-at-requires : tie.Need-write-at-requires
 write-at-requires c κs =
     let z = c .before .before .before in
     let a = rw (z .s3 .given .1) at (z .before .before .pre .1) in
     record { desks = a .desks; own = _; placed = a .placed }
 
--- src/lib.rt:165:20
 enum-known-s-4 : tie.Need-enum-known-s-4
 enum-known-s-4 c = search needs
 
--- src/lib.rt:165:33
 trip-requires : tie.Need-trip-requires
 trip-requires c κs =
     let z = c .before .before .before in
@@ -58,56 +43,46 @@ trip-requires c κs =
     let k = a .0 in
     (omega (arith, k), record { desks = a .1 .desks; opens = _; own = _; placed = a .1 .placed })
 
--- src/lib.rt:166:28
 enum-told : tie.Need-enum-told
 enum-told c = search needs
 
--- src/lib.rt:166:28
 no-step-requires : tie.Need-no-step-requires
 no-step-requires c κs = search needs
 
--- src/lib.rt:167:25
 enum-told-2 : tie.Need-enum-told-2
 enum-told-2 c = search needs
 
--- src/lib.rt:167:25
 no-step-requires-2 : tie.Need-no-step-requires-2
 no-step-requires-2 c κs = search needs
 
--- src/lib.rt:145:1
 returns : tie.Need-returns
 returns c ds p =
     let e = c .before .before .before .before .before .s .given .1 in
     rw e (acted-step (steps.Deliver _ _ _) (c .deliver-at .ensures _ ds (rw e at p) .stepped))
 
--- src/lib.rt:145:1
 returns-2 : tie.Need-returns-2
 returns-2 c ds p =
     let z = c .before .before .before in
     let e = z .s2 .given .1 in
     rw e (acted-quiet (steps.Read _ _) (c .read-at .result .answer) (z .before .before .args .names .now) refl (c .read-at .ensures ds _ _ (rw e at p)))
 
--- src/lib.rt:145:1
 returns-3 : tie.Need-returns-3
 returns-3 c ds p =
     let z = c .before .before .before .before in
     let e = z .s3 .given .1 in
     rw e (acted-quiet (steps.Write _ _ _) (c .write-at .result .answer) (z .before .before .args .names .now) refl (c .write-at .ensures ds _ (rw e at p)))
 
--- src/lib.rt:145:1
 returns-4 : tie.Need-returns-4
 returns-4 c ds p =
     let z = c .before .before .before .before in
     let e = z .s4 .given .1 in
     rw e (acted-quiet (steps.Trip _ _) (c .trip .result .answer) (z .before .before .args .names .now) refl (c .trip .ensures ds _ _ (rw e at p)))
 
--- src/lib.rt:145:1
 returns-5 : tie.Need-returns-5
 returns-5 c ds p =
     let e = c .before .enum-told .given .1 in
     rw (c .no-step .ensures, e) (acted-none _ (rw e at p) refl)
 
--- src/lib.rt:145:1
 returns-6 : tie.Need-returns-6
 returns-6 c ds p =
     let e = c .before .enum-told2 .given .1 in

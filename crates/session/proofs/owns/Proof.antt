@@ -3,14 +3,12 @@ use Prim.Native.Nat.{_≤_, _-_, _+_}
 use mathlib.Core.Path.{_≡_, _∙_}
 use mathlib.Core.List.{_++_}
 use native.Mathlib.Omega.{arith}
-use lib.ListN.{length, getD, drop}
+use lib.ListN.{length, drop}
 use Rattle.laws.specs.Tab.{tab, fill-start, fill-more, fill-end}
 use Rattle.session.specs.Holds.{ownAt}
 use borrow.Author.Needs.{needs}
 use Rattle.session.proofs.owns.Statement.{statement}
 use Rattle.session.proofs.owns.Tie as tie
-use Rattle.session.proofs.owns.Reads as reads
-use Rattle.session.proofs.owns.Lts as lts
 
 abbrev Inv-loop : tie.InvT-loop
 Inv-loop desks own₀ i₀ own i = (i ≤ places) × ((own ≡ tab i (ownAt desks) ++ drop i own₀) × (length own₀ ≡ places))
@@ -18,49 +16,38 @@ Inv-loop desks own₀ i₀ own i = (i ≤ places) × ((own ≡ tab i (ownAt desk
 abbrev μ-loop : tie.MeasureT-loop
 μ-loop desks own₀ i₀ own i = places - i
 
--- src/lib.rt:225:5
 loop-holds : tie.Need-loop-holds Inv-loop μ-loop
 loop-holds c = (search needs, (fill-start _ _, search needs))
 
--- src/lib.rt:226:17
 mul-d : tie.Need-mul-d Inv-loop μ-loop
 mul-d c = search needs
 
--- src/lib.rt:226:17
 array-copy-out-d : tie.Need-array-copy-out-d Inv-loop μ-loop
 array-copy-out-d c = search needs
 
--- src/lib.rt:228:18
 mul-own : tie.Need-mul-own Inv-loop μ-loop
 mul-own c = search needs
 
--- src/lib.rt:228:18
 array-read-own : tie.Need-array-read-own Inv-loop μ-loop
 array-read-own c = search needs
 
--- src/lib.rt:228:9
 mul-own-2 : tie.Need-mul-own-2 Inv-loop μ-loop
 mul-own-2 c = search needs
 
--- src/lib.rt:228:9
 array-write-own : tie.Need-array-write-own Inv-loop μ-loop
 array-write-own c = search needs
 
--- src/lib.rt:225:9
 add-i : tie.Need-add-i Inv-loop μ-loop
 add-i c = search needs
 
--- src/lib.rt:225:5
 loop-less : tie.Need-loop-less Inv-loop μ-loop
 loop-less c = search needs
 
--- src/lib.rt:225:5
 loop-again : tie.Need-loop-again Inv-loop μ-loop
 loop-again c =
     let L = c .before .before .before .loop in
     (search needs, (rw (L .inv .1 .0) (fill-more (ownAt (c .before .before .before .before .args .t1)) _ 0 (L .i) (search needs)), search needs))
 
--- src/lib.rt:221:1
 returns : tie.Need-returns Inv-loop μ-loop
 returns c =
     let L = c .before .loop in

@@ -4,37 +4,27 @@ use Rattle.session.specs.Run.{print-upto, print-short}
 use borrow.Author.Needs.{needs}
 use Rattle.session.proofs.print.Statement.{statement}
 use Rattle.session.proofs.print.Tie as tie
-use Rattle.session.proofs.print.Reads as reads
-use Rattle.session.proofs.print.Lts as lts
-use Rattle.answer.proofs.put.Reads as put-reads
 
--- src/lib.rt:252:11
 put-requires : tie.Need-put-requires
 put-requires c κs = search needs
 
--- src/lib.rt:253:23
 enum-known-p : tie.Need-enum-known-p
 enum-known-p c = search needs
 
--- src/lib.rt:254:27
 enum-told : tie.Need-enum-told
 enum-told c = search needs
 
--- src/lib.rt:247:1
 same-length : tie.Need-same-length
 same-length c = search needs
 
--- src/lib.rt:247:1
 returns : tie.Need-returns
 returns c =
     let g = c .before .before .before .before .before .before .before .before in
     print-upto (g .args .out .now) (g .args .at) _ _ _ (g .pre) (c .before .before .before .before .before .put .ensures) _ (c .before .p .given .1)
 
--- src/lib.rt:247:1
 same-length-2 : tie.Need-same-length-2
 same-length-2 c = search needs
 
--- src/lib.rt:247:1
 returns-2 : tie.Need-returns-2
 returns-2 c =
     let g = c .before .before .before .before .before .before .before in

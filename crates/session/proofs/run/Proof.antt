@@ -1,12 +1,10 @@
-use Prim.Native.Nat.{ℕ, _+_, _-_, _<_, _≤_}
-use mathlib.Core.Path.{_≡_, refl, sym, ap, subst, _∙_}
+use Prim.Native.Nat.{ℕ, _-_, _≤_}
+use mathlib.Core.Path.{_≡_, refl, sym, ap, _∙_}
 use native.Mathlib.Omega.{arith}
-use lib.ListN.{length, getD, set}
+use lib.ListN.{length, getD}
 use Rattle.laws.specs.Stores.{stored-long}
-use Rattle.clock.specs.Vectors.{places}
 use Rattle.schedule.specs.Lines.{lineAt, nextAt}
 use Rattle.schedule.specs.LineLaws.{line-within, next-more}
-use Rattle.table.specs.declared.Desk.{Desk}
 use Rattle.table.specs.Value.{desk0}
 use Rattle.session.specs.Line.{actor, seatOf}
 use Rattle.session.specs.Act.{Seated}
@@ -16,19 +14,6 @@ use Rattle.session.specs.Run.{Going, going-start, going-on, going-end, s
 use borrow.Author.Needs.{needs}
 use Rattle.session.proofs.run.Statement.{statement}
 use Rattle.session.proofs.run.Tie as tie
-use Rattle.session.proofs.run.Reads as reads
-use Rattle.session.proofs.run.Lts as lts
-use Rattle.schedule.proofs.line_at.Reads as line-at-reads
-use Rattle.session.proofs.actor.Reads as actor-reads
-use Rattle.session.proofs.behind.Reads as behind-reads
-use Rattle.session.proofs.owns.Reads as owns-reads
-use Rattle.session.proofs.print.Reads as print-reads
-use Rattle.session.proofs.said.Reads as said-reads
-use Rattle.session.proofs.seat.Reads as seat-reads
-use Rattle.session.proofs.turn.Reads as turn-reads
-use Rattle.table.proofs.cells_size.Reads as cells-size-reads
-use Rattle.table.proofs.desks_shape.Reads as desks-shape-reads
-use Rattle.table.proofs.opens_size.Reads as opens-size-reads
 
 abbrev Inv-loop : tie.InvT-loop
 Inv-loop cells₀ opens₀ text at out₀ n₀ m₀ desks₀ own₀ names₀ list₀ place₀ len₀ cells opens out n m desks own names list place len =
@@ -62,65 +47,50 @@ line-is c = c .line-at .ensures .0
 onward : (c : tie.After-behind Inv-loop μ-loop) → c .behind .result ≡ nextAt (c .before .before .before .before .before .before .before .before .before .before .before .before .before .before .before .before .before .before .before .before .before .before .before .before .before .before .before .before .before .before .before .before .args .text .now) (c .before .before .before .before .before .before .before .before .before .before .before .before .before .before .before .before .before .before .before .before .before .before .before .before .before .before .loop .place)
 onward c = next-place (c .before .before .before .before .before .before .before .before .before .before .before .before .before .before .before .before .before .before .before .before .before .before .before .before .before .before .before .before .before .before .before .before .args .text .now) (c .before .before .before .before .before .before .before .before .before .before .before .before .before .before .before .before .before .before .before .before .before .before .before .before .before .before .loop .place) (omega (arith, c .before .before .before .before .before .before .before .before .before .before .before .before .before .before .before .before .before .before .before .before .before .before .before .before .before .loop-test .taken)) (line-is (c .before .before .before .before .before .before .before .before .before .before .before .before .before .before .before .before .before .before .before .before .before .before .before)) refl (c .behind .ensures)
 
--- src/lib.rt:280:5
 desks-shape-requires : tie.Need-desks-shape-requires Inv-loop μ-loop
 desks-shape-requires c κs = search needs
 
--- src/lib.rt:281:19
 owns-requires : tie.Need-owns-requires Inv-loop μ-loop
 owns-requires c κs = search needs
 
--- src/lib.rt:286:5
 loop-holds : tie.Need-loop-holds Inv-loop μ-loop
 loop-holds c =
     let g = c .before .before .before .before .before .args in
     (rw (c .owns .ensures) (owns-all (g .core .desks) (c .before .desks-shape .ensures .count)), (refl, (search needs, λ z h. going-start h)))
 
--- src/lib.rt:287:12
 sub-if1 : tie.Need-sub-if1 Inv-loop μ-loop
 sub-if1 c = search needs
 
--- src/lib.rt:290:13
 line-at-requires : tie.Need-line-at-requires Inv-loop μ-loop
 line-at-requires c κs = search needs
 
--- src/lib.rt:291:19
 add-end : tie.Need-add-end Inv-loop μ-loop
 add-end c = search needs
 
--- src/lib.rt:292:13
 said-requires : tie.Need-said-requires Inv-loop μ-loop
 said-requires c κs = search needs
 
--- src/lib.rt:293:22
 actor-requires : tie.Need-actor-requires Inv-loop μ-loop
 actor-requires c κs = search needs
 
--- src/lib.rt:293:13
 seat-requires : tie.Need-seat-requires Inv-loop μ-loop
 seat-requires c κs = search needs
 
--- src/lib.rt:294:9
 desks-shape-requires-2 : tie.Need-desks-shape-requires-2 Inv-loop μ-loop
 desks-shape-requires-2 c κs = search needs
 
--- src/lib.rt:295:9
 cells-size-requires : tie.Need-cells-size-requires Inv-loop μ-loop
 cells-size-requires c κs = search needs
 
--- src/lib.rt:296:9
 opens-size-requires : tie.Need-opens-size-requires Inv-loop μ-loop
 opens-size-requires c κs = search needs
 
--- src/lib.rt:297:28
 mul-turn : tie.Need-mul-turn Inv-loop μ-loop
 mul-turn c = search needs
 
--- src/lib.rt:297:28
 array-copy-out-turn : tie.Need-array-copy-out-turn Inv-loop μ-loop
 array-copy-out-turn c = search needs
 
--- src/lib.rt:297:13
 turn-requires : tie.Need-turn-requires Inv-loop μ-loop
 turn-requires c κs =
     let L = c .before .before .before .before .before .before .before .before .before .before .before .before .before .before .before .before .before .loop in
@@ -128,35 +98,27 @@ turn-requires c κs =
     let g = L .inv .1 .1 .1 (p .session) (p .holds) in
     (c .before .before .before .before .before .before .before .before .before .before .before .before .said .ensures .few, record { desks = L .desks; session = g .session; seated = seated (c .before .before .before .before .before) (g .session) (g .holds) })
 
--- src/lib.rt:302:9
 mul-desks : tie.Need-mul-desks Inv-loop μ-loop
 mul-desks c = search needs
 
--- src/lib.rt:302:9
 array-set-from-desks : tie.Need-array-set-from-desks Inv-loop μ-loop
 array-set-from-desks c = search needs
 
--- src/lib.rt:303:18
 mul-own : tie.Need-mul-own Inv-loop μ-loop
 mul-own c = search needs
 
--- src/lib.rt:303:18
 array-read-own : tie.Need-array-read-own Inv-loop μ-loop
 array-read-own c = search needs
 
--- src/lib.rt:303:9
 mul-own-2 : tie.Need-mul-own-2 Inv-loop μ-loop
 mul-own-2 c = search needs
 
--- src/lib.rt:303:9
 array-write-own : tie.Need-array-write-own Inv-loop μ-loop
 array-write-own c = search needs
 
--- src/lib.rt:305:9
 print-requires : tie.Need-print-requires Inv-loop μ-loop
 print-requires c κs = search needs
 
--- src/lib.rt:306:9
 behind-requires : tie.Need-behind-requires Inv-loop μ-loop
 behind-requires c κs =
     let t = c .before .before .before .before .before .before .before .before .before .before .before .before .before .before .before .before .before .before .before .before .before .before .before .before .before .before .before .before .before .before .before .args .text .now in
@@ -164,13 +126,11 @@ behind-requires c κs =
     let h : k ≤ length t = omega (arith, c .before .before .before .before .before .before .before .before .before .before .before .before .before .before .before .before .before .before .before .before .before .before .before .before .loop-test .taken) in
     omega (arith, ap length (line-is (c .before .before .before .before .before .before .before .before .before .before .before .before .before .before .before .before .before .before .before .before .before .before)), line-within t k h)
 
--- src/lib.rt:286:5
 loop-less : tie.Need-loop-less Inv-loop μ-loop
 loop-less c =
     let h = c .before .before .before .before .before .before .before .before .before .before .before .before .before .before .before .before .before .before .before .before .before .before .before .before .before .loop-test .taken in
     omega (arith, h, onward c, next-more (c .before .before .before .before .before .before .before .before .before .before .before .before .before .before .before .before .before .before .before .before .before .before .before .before .before .before .before .before .before .before .before .before .args .text .now) (c .before .before .before .before .before .before .before .before .before .before .before .before .before .before .before .before .before .before .before .before .before .before .before .before .before .before .loop .place) h)
 
--- src/lib.rt:286:5
 loop-again : tie.Need-loop-again Inv-loop μ-loop
 loop-again c =
     let q = c .before .before .before .before .before .before .before .before .before .before .before .before .before .before in
@@ -196,19 +156,15 @@ loop-again c =
       ),
     )
 
--- src/lib.rt:266:1
 same-length : tie.Need-same-length Inv-loop μ-loop
 same-length c = search needs
 
--- src/lib.rt:266:1
 returns : tie.Need-returns Inv-loop μ-loop
 returns c z h = going-end (c .before .loop .inv .1 .1 .1 z h) (λ l. absurd (omega (arith, c .loop-test .left)))
 
--- src/lib.rt:266:1
 same-length-2 : tie.Need-same-length-2 Inv-loop μ-loop
 same-length-2 c = search needs
 
--- src/lib.rt:266:1
 returns-2 : tie.Need-returns-2 Inv-loop μ-loop
 returns-2 c z h =
     let L = c .before .before .loop in

@@ -6,20 +6,13 @@ use Rattle.session.specs.Line.{means}
 use borrow.Author.Needs.{needs}
 use Rattle.session.proofs.said.Statement.{statement}
 use Rattle.session.proofs.said.Tie as tie
-use Rattle.session.proofs.said.Reads as reads
-use Rattle.session.proofs.said.Lts as lts
-use Rattle.schedule.proofs.line_of.Reads as line-of-reads
-use Rattle.session.proofs.list_size.Reads as list-size-reads
 
--- src/lib.rt:214:9
 list-size-requires : tie.Need-list-size-requires
 list-size-requires c κs = search needs
 
--- src/lib.rt:215:9
 line-of-requires : tie.Need-line-of-requires
 line-of-requires c κs = search needs
 
--- src/lib.rt:215:9
 returns : tie.Need-returns
 returns c =
     let z = c .before .before .before .before in
@@ -28,7 +21,6 @@ returns c =
     rw (z .if1 .taken, e .0, e .1)
     (means (lineOf (g .line .now)) _ (cells-there (g .line .now) (g .list .now) (omega (arith, c .before .before .list-size .ensures))) (few-cells (g .line .now)))
 
--- src/lib.rt:210:1
 returns-2 : tie.Need-returns-2
 returns-2 c = rw (c .if1 .left) record { is = refl; few = search needs }
 

@@ -3,26 +3,18 @@ use Rattle.session.specs.Act.{turned-first, turned-act, acting}
 use borrow.Author.Needs.{needs}
 use Rattle.session.proofs.turn.Statement.{statement}
 use Rattle.session.proofs.turn.Tie as tie
-use Rattle.session.proofs.turn.Reads as reads
-use Rattle.session.proofs.turn.Lts as lts
-use Rattle.session.proofs.act.Reads as act-reads
-use Rattle.session.proofs.first.Reads as first-reads
 
--- src/lib.rt:187:9
 first-requires : tie.Need-first-requires
 first-requires c κs = search needs
 
--- src/lib.rt:187:9
 returns : tie.Need-returns
 returns c ds z h = let g = c .before .before .args in rw (c .first .ensures) (turned-first (g .s) (g .list .now) (g .names .now) z (c .before .if1 .taken) h)
 
--- src/lib.rt:189:9
 act-requires : tie.Need-act-requires
 act-requires c κs =
     let p = c .before .before .before .before .pre in
     (p .0, acting (p .1 .session) (c .before .before .before .if1 .left) (p .1 .seated))
 
--- src/lib.rt:172:1
 returns-2 : tie.Need-returns-2
 returns-2 c ds z h =
     let g = c .before .before .before .before .before .before .args in
