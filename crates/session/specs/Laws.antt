@@ -14,7 +14,7 @@ use Rattle.schedule.specs.Lines.{LF, untilLF, fromLF, lineAt, endedAt, nextAt}
 use Rattle.schedule.specs.LineLaws.{next-drop}
 use Rattle.answer.specs.Bytes.{answerLine, digits, decimal}
 use Rattle.session.specs.Session.{Session, Turn, lineAnswer}
-use Rattle.session.specs.Transcript.{textLine, onto, linesOf, answersOf, printed, transcriptFrom, most-text, transcript}
+use Rattle.session.specs.Transcript.{textLine, onto, linesOf, answersOf, sessionOf, printed, transcriptFrom, sessionFrom, most-text, transcript}
 
 -- the lines of a text are its first, and those of what follows its LF
 lines-cut : (t : List ℕ) → 0 < length t → linesOf t ≡ textLine (untilLF t) (ltb 0 (length (fromLF t))) ∷ linesOf (drop 1 (fromLF t))
@@ -51,6 +51,15 @@ from-end z s at h = rw (lines-none s at h)
 pub from-line : (z : Session) (s : List ℕ) (at : ℕ) → at < length s → transcriptFrom z s at ≡ answerLine (turnAt z s at .answer) ++ transcriptFrom (turnAt z s at .session) s (nextAt s at)
 unfolding transcriptFrom answersOf printed
 from-line z s at h = rw (lines-more s at h)
+
+-- the same of the session that the lines leave
+pub left-end : (z : Session) (s : List ℕ) (at : ℕ) → length s ≤ at → sessionFrom z s at ≡ z
+unfolding sessionFrom sessionOf
+left-end z s at h = rw (lines-none s at h)
+
+pub left-line : (z : Session) (s : List ℕ) (at : ℕ) → at < length s → sessionFrom z s at ≡ sessionFrom (turnAt z s at .session) s (nextAt s at)
+unfolding sessionFrom sessionOf
+left-line z s at h = rw (lines-more s at h)
 
 -- the whole
 pub transcript-run : (s : List ℕ) → length s ≤ most-text → transcript s ≡ transcriptFrom none s 0

@@ -23,8 +23,8 @@ use Rattle.answer.specs.declared.Written.{Written}
 use Rattle.answer.specs.declared.Written.the-variants.{Upto, Short}
 use Rattle.table.specs.declared.Desk.{Desk}
 use Rattle.session.specs.Session.{Session, Turn, turn}
-use Rattle.session.specs.Transcript.{transcriptFrom, most-text, transcript}
-use Rattle.session.specs.Laws.{turnAt, from-end, from-line, transcript-run}
+use Rattle.session.specs.Transcript.{transcriptFrom, sessionFrom, most-text, transcript}
+use Rattle.session.specs.Laws.{turnAt, from-end, from-line, left-line, transcript-run}
 use Rattle.session.specs.Line.{seatOf}
 use Rattle.session.specs.Holds.{Holds}
 use Rattle.session.specs.Act.{Turned}
@@ -33,7 +33,8 @@ use Rattle.session.specs.Act.{Turned}
 abbrev pub most-answer : ℕ
 most-answer = 770
 
--- From the session z at place at on: whole lines stand at the front of the buffer, and they are the transcript's.
+-- From the session z at place `from` on: whole lines stand at the front of the buffer, they are the transcript's, and the session that is left is
+-- the one that they leave.
 pub record Ran (z : Session) (text : List ℕ) (from : ℕ) (out : List ℕ) (n m : ℕ) (ds : List Desk) (cs os : List ℕ) (at len : ℕ) (out′ : List ℕ) : Type 0 where
   pub session : Session
   pub lines : List ℕ
@@ -42,6 +43,7 @@ pub record Ran (z : Session) (text : List ℕ) (from : ℕ) (out : List ℕ) (n 
   pub len-is : len ≡ length lines
   pub fits : length lines ≤ length out
   pub rest : transcriptFrom z text from ≡ lines ++ transcriptFrom session text at
+  pub leaves : sessionFrom z text from ≡ sessionFrom session text at
   pub within : at ≤ max from (length text)
   pub back : from ≤ at
   pub progress : from < length text → most-answer ≤ length out → from < at
@@ -60,6 +62,7 @@ pub record Going (z : Session) (text : List ℕ) (from : ℕ) (out : List ℕ) (
   pub len-is : len ≡ length lines
   pub fits : length lines ≤ length out
   pub rest : transcriptFrom z text from ≡ lines ++ transcriptFrom session text at
+  pub leaves : sessionFrom z text from ≡ sessionFrom session text at
   pub within : at ≤ max from (length text)
   pub back : from ≤ at
   pub still : at ≡ from → len ≡ 0
@@ -74,6 +77,7 @@ going-start {z} h = record {
   len-is = refl;
   fits = omega arith;
   rest = refl;
+  leaves = refl;
   within = omega arith;
   back = omega arith;
   still = λ _. refl;
@@ -109,6 +113,7 @@ module _ {z : Session} {text : List ℕ} {from : ℕ} {out : List ℕ} {n m : �
         rest =
             g .rest ∙ ap (λ (x : List ℕ). g .lines ++ x) (from-line (g .session) text at h) ∙ sym (append-assoc (g .lines) w (transcriptFrom (k .session) text (nextAt text at)))
             ∙ ap (λ (x : ℕ). (g .lines ++ w) ++ transcriptFrom (k .session) text x) (sym ea);
+        leaves = g .leaves ∙ left-line (g .session) text at h ∙ ap (λ (x : ℕ). sessionFrom (k .session) text x) (sym ea);
         within = omega (arith, next-le text at);
         back = omega (arith, g .back, next-more text at h);
         still = λ q. absurd (omega (arith, g .back, next-more text at h));
@@ -124,6 +129,7 @@ module _ {z : Session} {text : List ℕ} {from : ℕ} {out : List ℕ} {n m : �
     len-is = g .len-is;
     fits = g .fits;
     rest = g .rest;
+    leaves = g .leaves;
     within = g .within;
     back = g .back;
     progress = λ l r. same-or at from

@@ -36,6 +36,11 @@ answersOf z (l ∷ ls) =
     let t : Turn = lineAnswer z (l .bytes) (l .ended) in
     t .answer ∷ answersOf (t .session) ls
 
+-- the session that lines leave
+unfoldable pub sessionOf : Session → List TextLine → Session
+sessionOf z [] = z
+sessionOf z (l ∷ ls) = sessionOf (lineAnswer z (l .bytes) (l .ended) .session) ls
+
 -- "prints one line for each input line"
 unfoldable pub printed : List Answer → List ℕ
 printed [] = []
@@ -44,6 +49,10 @@ printed (a ∷ more) = answerLine a ++ printed more
 -- what is printed from a place on, where the lines before it left the session z
 unfoldable pub transcriptFrom : Session → List ℕ → ℕ → List ℕ
 transcriptFrom z text at = printed (answersOf z (linesOf (drop at text)))
+
+-- the session after the lines from a place on
+unfoldable pub sessionFrom : Session → List ℕ → ℕ → Session
+sessionFrom z text at = sessionOf z (linesOf (drop at text))
 
 abbrev pub most-text : ℕ
 most-text = 65536

@@ -1,0 +1,47 @@
+-- The parts of `access_run`, for every session that the values at hand hold.
+use mathlib.Core.Path.{_≡_}
+use mathlib.Core.Bool.{Bool, true}
+use mathlib.Core.List.{List}
+use Prim.Native.Nat.{ℕ, _+_, _≤_}
+use lib.ListN.{length}
+use lib.Seq.{sets}
+use Rattle.laws.specs.Loop.{pick}
+use Rattle.table.specs.declared.Desk.{Desk}
+use Rattle.session.specs.Session.{Session}
+use Rattle.session.specs.Transcript.{transcriptFrom, sessionFrom}
+use Rattle.session.specs.Holds.{Holds}
+use Rattle.capi.specs.Access.{Left, imageOf, runFrom}
+
+-- the lines from a place on, to the end: the table that they leave, the bytes of their answers, and these in the buffer if they were to be put
+pub record LinedFrom (z : Session) (text : List ℕ) (at : ℕ) (put : Bool) (out : List ℕ) (from n m : ℕ) (ds : List Desk) (cs os : List ℕ) (len : ℕ) (out′ : List ℕ) : Type 0 where
+  pub holds : Holds n m ds cs os (sessionFrom z text at)
+  pub len-is : len ≡ length (transcriptFrom z text at)
+  pub stored : out′ ≡ pick put (sets out from (transcriptFrom z text at)) out
+
+abbrev pub Lined : (n m : ℕ) (ds : List Desk) (cs os text : List ℕ) (at : ℕ) (put : Bool) (out : List ℕ) (from n′ m′ : ℕ) (ds′ : List Desk) (cs′ os′ : List ℕ) (len : ℕ) (out′ : List ℕ) → Type 0
+Lined n m ds cs os text at put out from n′ m′ ds′ cs′ os′ len out′ =
+    (z : Session) → Holds n m ds cs os z → LinedFrom z text at put out from n′ m′ ds′ cs′ os′ len out′
+
+-- what is to be put has room
+abbrev pub RoomFor : (n m : ℕ) (ds : List Desk) (cs os text : List ℕ) (at : ℕ) (put : Bool) (out : List ℕ) (from : ℕ) → Type 0
+RoomFor n m ds cs os text at put out from = (z : Session) → Holds n m ds cs os z → put ≡ true → from + length (transcriptFrom z text at) ≤ length out
+
+-- the two arrays beside the desks are not at hand
+pub record SomeCore (n m : ℕ) (ds : List Desk) : Type 0 where
+  pub session : Session
+  pub cells opens : List ℕ
+  pub holds : Holds n m ds cells opens session
+
+abbrev pub ImageSize : (n m : ℕ) (ds : List Desk) → ℕ → Type 0
+ImageSize n m ds r = (z : Session) (cs os : List ℕ) → Holds n m ds cs os z → r ≡ length (imageOf z)
+
+-- the image
+abbrev pub ImageRoom : (n m : ℕ) (ds : List Desk) (cs os out : List ℕ) → Type 0
+ImageRoom n m ds cs os out = (z : Session) → Holds n m ds cs os z → length (imageOf z) ≤ length out
+
+abbrev pub ImageSaved : (n m : ℕ) (ds : List Desk) (cs os out out′ : List ℕ) → ℕ → Type 0
+ImageSaved n m ds cs os out out′ r = (z : Session) → Holds n m ds cs os z → (out′ ≡ sets out 0 (imageOf z)) × (r ≡ length (imageOf z))
+
+-- all of it
+abbrev pub RunsFrom : (n m : ℕ) (ds : List Desk) (cs os text answers image lengths : List ℕ) → Left → Type 0
+RunsFrom n m ds cs os text answers image lengths l = (z : Session) → Holds n m ds cs os z → l ≡ runFrom z text answers image lengths

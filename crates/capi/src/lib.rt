@@ -1,0 +1,185 @@
+// The face to other languages: a saved table and a schedule in, the answers and the table saved after it out.
+ghost use mathlib.Core.Path.{_≡_};
+ghost use Prim.Native.Nat.{ℕ, _+_, _≤_};
+ghost use lib.ListN.{length, take};
+ghost use lib.Seq.{sets};
+ghost use Rattle.session.specs.Holds.{SomeSession};
+ghost use Rattle.session.specs.Transcript.{most-text};
+ghost use Rattle.capi.specs.Access.{left, accessRun};
+ghost use Rattle.capi.specs.Lines.{RoomFor, Lined, SomeCore, ImageSize, ImageRoom, ImageSaved, RunsFrom};
+use clock::PLACES;
+use load::Outcome;
+use table::CELL;
+use table::CELLS;
+use table::Core;
+use table::OPEN;
+use table::OPENS;
+
+// The most bytes of a schedule.
+const LONGEST_TEXT: usize = 65536;
+
+// The answers that are kept while it is not known yet whether all fit: what comes behind them is counted first, and made again.
+const KEPT: usize = 131072;
+
+// The answers of one run behind those.
+const PART: usize = 16384;
+
+// The table after a text, and how many bytes its answers take.
+struct Ended {
+    core: Core,
+    len: usize,
+}
+
+// The first len bytes of a part, put into the buffer from place at on.
+fn copy(part: &[u8], len: usize, out: &mut [u8], at: usize)
+    requires { ⌜ (len ≤ length (now part)) × (at + len ≤ length (now out)) ⌝ }
+    ensures { λ _. ⌜ now (out .exit) ≡ sets (now (out .entry)) at (take len (now (part .entry))) ⌝ }
+{
+    let mut j = 0;
+    while j < len {
+        out[at + j] = part[j];
+        j += 1;
+    }
+}
+
+// The lines from a place on: their answers are counted, and put into the buffer if that is asked for.
+fn lines(
+    core: Core,
+    cells: &mut [u16; PLACES * CELLS * CELL],
+    opens: &mut [u16; OPENS * OPEN],
+    text: &[u8],
+    at: usize,
+    put: bool,
+    out: &mut [u8],
+    from: usize,
+) -> Ended
+    requires { ⌜ SomeSession (core .n) (core .m) (core .desks) (now cells) (now opens) ⌝ }
+    requires { ⌜ (length (now text) ≤ most-text) × RoomFor (core .n) (core .m) (core .desks) (now cells) (now opens) (now text) at put (now out) from ⌝ }
+    ensures { λ r. ⌜ Lined (core .n) (core .m) (core .desks) (now (cells .entry)) (now (opens .entry)) (now (text .entry)) at put (now (out .entry)) from (r .core .n) (r .core .m) (r .core .desks) (now (cells .exit)) (now (opens .exit)) (r .len) (now (out .exit)) ⌝ }
+{
+    let mut last = core;
+    let mut part = [0u8; PART];
+    let mut place = at;
+    let mut len = 0;
+    while place < text.len() {
+        let p = session::run(last, cells, opens, text, place, &mut part);
+        let more = p.len;
+        if put {
+            copy(&part, more, out, from + len);
+        }
+        last = p.core;
+        place = p.at;
+        len += more;
+    }
+    Ended {
+        core: last,
+        len: len,
+    }
+}
+
+// How long the image is; 0 while there is no table.
+fn image_size(core: Core) -> usize
+    requires { ⌜ SomeCore (core .n) (core .m) (core .desks) ⌝ }
+    ensures { λ r. ⌜ ImageSize (core .n) (core .m) (core .desks) r ⌝ }
+{
+    let n = core.n;
+    if n == 0 {
+        return 0;
+    }
+    image::image_length(core)
+}
+
+// The image, into a buffer that has room for it; nothing while there is no table.
+fn save_image(
+    core: Core,
+    cells: &[u16; PLACES * CELLS * CELL],
+    opens: &[u16; OPENS * OPEN],
+    out: &mut [u8],
+) -> usize
+    requires { ⌜ SomeSession (core .n) (core .m) (core .desks) (now cells) (now opens) ⌝ }
+    requires { ⌜ ImageRoom (core .n) (core .m) (core .desks) (now cells) (now opens) (now out) ⌝ }
+    ensures { λ r. ⌜ ImageSaved (core .n) (core .m) (core .desks) (now (cells .entry)) (now (opens .entry)) (now (out .entry)) (now (out .exit)) r ⌝ }
+{
+    let n = core.n;
+    if n == 0 {
+        return 0;
+    }
+    image::save_parts(core, cells, opens, out)
+}
+
+// From a session: nothing is put before it is known that all of it fits.
+fn run_from(
+    core: Core,
+    first_cells: [u16; PLACES * CELLS * CELL],
+    first_opens: [u16; OPENS * OPEN],
+    text: &[u8],
+    answers: &mut [u8],
+    image_out: &mut [u8],
+    lengths: &mut [u64],
+) -> u64
+    requires { ⌜ SomeSession (core .n) (core .m) (core .desks) first_cells first_opens ⌝ }
+    ensures { λ r. ⌜ RunsFrom (core .n) (core .m) (core .desks) first_cells first_opens (now (text .entry)) (now (answers .entry)) (now (image_out .entry)) (now (lengths .entry)) (left r (now (answers .exit)) (now (image_out .exit)) (now (lengths .exit))) ⌝ }
+{
+    if LONGEST_TEXT < text.len() {
+        return 14;
+    }
+    if lengths.len() < 2 {
+        return 14;
+    }
+    let mut cells = first_cells;
+    let mut opens = first_opens;
+    let mut kept = [0u8; KEPT];
+    let p = session::run(core, &mut cells, &mut opens, text, 0, &mut kept);
+    let middle = p.core;
+    let at = p.at;
+    let len = p.len;
+    let mut last_cells = cells;
+    let mut last_opens = opens;
+    let e = lines(middle, &mut last_cells, &mut last_opens, text, at, false, answers, len);
+    let last = e.core;
+    let all = len + e.len;
+    if answers.len() < all {
+        return 14;
+    }
+    if image_out.len() < image_size(last) {
+        return 14;
+    }
+    copy(&kept, len, answers, 0);
+    lines(middle, &mut cells, &mut opens, text, at, true, answers, len);
+    let size = save_image(last, &last_cells, &last_opens, image_out);
+    lengths[0] = all as u64;
+    lengths[1] = size as u64;
+    0
+}
+
+// Nothing is kept between two calls: what goes on is the image.
+#[no_mangle]
+pub extern "C" fn access_run(
+    image: &[u8],
+    schedule: &[u8],
+    answers: &mut [u8],
+    image_out: &mut [u8],
+    lengths: &mut [u64],
+) -> u64
+    ensures { λ r. ⌜ left r (now (answers .exit)) (now (image_out .exit)) (now (lengths .exit)) ≡ accessRun (now (image .entry)) (now (schedule .entry)) (now (answers .entry)) (now (image_out .entry)) (now (lengths .entry)) ⌝ }
+{
+    if image.len() == 0 {
+        let none = session::start();
+        let cells = [0u16; PLACES * CELLS * CELL];
+        let opens = [0u16; OPENS * OPEN];
+        return run_from(none, cells, opens, schedule, answers, image_out, lengths);
+    }
+    let l = load::load(image);
+    let o = l.answer;
+    let t = l.table;
+    match o {
+        Outcome::Damaged => 12,
+        Outcome::Broken => 13,
+        Outcome::Accepted => {
+            let core = t.core;
+            let cells = t.cells;
+            let opens = t.opens;
+            run_from(core, cells, opens, schedule, answers, image_out, lengths)
+        }
+    }
+}
