@@ -16,7 +16,9 @@ use Rattle.image.specs.Load.{Loaded, loaded, refused, load}
 -- what a call leaves: the number that it returns, and each lent buffer
 pub record Left : Type 0 where
   pub number : ℕ
-  pub answers image lengths : List ℕ
+  pub answers : List ℕ
+  pub image : List ℕ
+  pub lengths : List ℕ
 
 abbrev pub left : ℕ → List ℕ → List ℕ → List ℕ → Left
 left r a i l = record { number = r; answers = a; image = i; lengths = l }

@@ -29,7 +29,8 @@ RoomFor n m ds cs os text at put out from = (z : Session) → Holds n m ds cs os
 -- the two arrays beside the desks are not at hand
 pub record SomeCore (n m : ℕ) (ds : List Desk) : Type 0 where
   pub session : Session
-  pub cells opens : List ℕ
+  pub cells : List ℕ
+  pub opens : List ℕ
   pub holds : Holds n m ds cells opens session
 
 abbrev pub ImageSize : (n m : ℕ) (ds : List Desk) → ℕ → Type 0

@@ -23,7 +23,7 @@ session-cut z a b = ?
 
 -- a table that keeps the rules
 abbrev pub Kept : Session → Type 0
-Kept none = ⊤
+Kept none = Unit {0}
 Kept (some s) = Rules s
 
 -- a call begins with the very session whose image it is given

@@ -117,8 +117,8 @@ fn run_from(
     image_out: &mut [u8],
     lengths: &mut [u64],
 ) -> u64
-    requires { ⌜ SomeSession (core .n) (core .m) (core .desks) first_cells first_opens ⌝ }
-    ensures { λ r. ⌜ RunsFrom (core .n) (core .m) (core .desks) first_cells first_opens (now (text .entry)) (now (answers .entry)) (now (image_out .entry)) (now (lengths .entry)) (left r (now (answers .exit)) (now (image_out .exit)) (now (lengths .exit))) ⌝ }
+    requires { ⌜ SomeSession (core .n) (core .m) (core .desks) «first_cells» «first_opens» ⌝ }
+    ensures { λ r. ⌜ RunsFrom (core .n) (core .m) (core .desks) «first_cells» «first_opens» (now (text .entry)) (now (answers .entry)) (now («image_out» .entry)) (now (lengths .entry)) (left r (now (answers .exit)) (now («image_out» .exit)) (now (lengths .exit))) ⌝ }
 {
     if LONGEST_TEXT < text.len() {
         return 14;
@@ -135,7 +135,16 @@ fn run_from(
     let len = p.len;
     let mut last_cells = cells;
     let mut last_opens = opens;
-    let e = lines(middle, &mut last_cells, &mut last_opens, text, at, false, answers, len);
+    let e = lines(
+        middle,
+        &mut last_cells,
+        &mut last_opens,
+        text,
+        at,
+        false,
+        answers,
+        len,
+    );
     let last = e.core;
     let all = len + e.len;
     if answers.len() < all {
@@ -161,7 +170,7 @@ pub extern "C" fn access_run(
     image_out: &mut [u8],
     lengths: &mut [u64],
 ) -> u64
-    ensures { λ r. ⌜ left r (now (answers .exit)) (now (image_out .exit)) (now (lengths .exit)) ≡ accessRun (now (image .entry)) (now (schedule .entry)) (now (answers .entry)) (now (image_out .entry)) (now (lengths .entry)) ⌝ }
+    ensures { λ r. ⌜ left r (now (answers .exit)) (now («image_out» .exit)) (now (lengths .exit)) ≡ accessRun (now (image .entry)) (now (schedule .entry)) (now (answers .entry)) (now («image_out» .entry)) (now (lengths .entry)) ⌝ }
 {
     if image.len() == 0 {
         let none = session::start();
