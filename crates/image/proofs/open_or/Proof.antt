@@ -1,5 +1,6 @@
 use Rattle.image.specs.Parts.{open-there, open-past}
 use mathlib.Core.Path.{refl}
+use native.Mathlib.Omega.{arith}
 use borrow.Author.Needs.{needs}
 use Rattle.image.proofs.open_or.Statement.{statement}
 use Rattle.image.proofs.open_or.Tie as tie
@@ -17,7 +18,7 @@ element-copy-out-e c = search needs
 
 -- src/lib.rt:215:9
 open-at-requires : tie.Need-open-at-requires
-open-at-requires c κs = c .before .before .pre .each (c .before .before .args .p) (c .before .if1 .taken) .0
+open-at-requires c κs = omega (arith, c .before .before .pre .each (c .before .before .args .p) (c .before .if1 .taken) .0, c .before .before .pre .few)
 
 -- src/lib.rt:215:9
 returns : tie.Need-returns
