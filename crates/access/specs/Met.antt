@@ -24,10 +24,10 @@ use Rattle.table.specs.Model.{modelOf}
 use Rattle.table.specs.Sound.{SoundTable}
 use Rattle.rules.specs.Test.{owns}
 use Rattle.rules.specs.Box.{own-is}
-use Rattle.steps.specs.Stepped.{Placed, Stepped, putDesk, namesBeside}
+use Rattle.steps.specs.Stepped.{Placed, Stepped, putDesk, put-back, namesBeside}
 use Rattle.steps.specs.declared.Turn.{Turn}
 use Rattle.steps.specs.Deliver.{Meets}
-use Rattle.steps.specs.LookStepped.{stops, passes, put-same}
+use Rattle.steps.specs.LookStepped.{stops, passes}
 use Rattle.access.specs.declared.Done.{Done}
 
 -- of a table that keeps the rules: the machine's answer and its table, which keeps them too
@@ -104,7 +104,7 @@ module _ {t : Table} where
       where
         same : d′ ≡ d → cs ≡ t .cells → os ≡ t .opens → tableOf (t .core) i d′ cs os ≡ t
         same ed ec eo = λ j. record {
-          core = record { n = t .core .n; m = t .core .m; desks = (ap (putDesk (t .core .n) (t .core .desks) i) ed ∙ put-same p) j };
+          core = record { n = t .core .n; m = t .core .m; desks = (ap (putDesk (t .core .n) (t .core .desks) i) ed ∙ put-back (t .core .n) (t .core .desks) i d (p .desk)) j };
           cells = ec j;
           opens = eo j;
         }

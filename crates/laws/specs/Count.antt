@@ -5,7 +5,7 @@ use mathlib.Core.List.{List, [], _∷_}
 use mathlib.Core.Bool.{Bool, true, false}
 use native.Mathlib.Omega.{arith}
 use lib.ListN.{length, getD, set}
-use Rattle.laws.specs.Loop.{pick}
+use Rattle.laws.specs.Loop.{pick, cases}
 
 unfoldable pub count : {A : Type 0} → (A → Bool) → List A → ℕ
 count p [] = 0
@@ -17,3 +17,22 @@ unfolding count
 count-set p [] k a d no-d yes-k no-a = cc
 count-set p (x ∷ l) zero a d no-d yes-k no-a = rw (yes-k, no-a) (omega arith)
 count-set p (x ∷ l) (suc k) a d no-d yes-k no-a = let h : count p l ≡ suc (count p (set l k a)) = count-set p l k a d no-d yes-k no-a in omega arith
+
+-- how many pass, beside how many there are
+module _ {A : Type 0} (p : A → Bool) (d : A) where
+  count-le : (l : List A) → count p l ≤ length l
+  unfolding count
+  count-le [] = omega arith
+  count-le (x ∷ l) = let h = count-le l in cases (p x) (λ t. rw t (omega arith)) (λ t. rw t (omega arith))
+
+  pub count-all : (l : List A) → ((j : ℕ) → j < length l → p (getD l j d) ≡ true) → count p l ≡ length l
+  unfolding count
+  count-all [] h = refl
+  count-all (x ∷ l) h = let r = count-all l (λ j b. h (suc j) (omega arith)) in rw (h 0 (omega arith)) (omega arith)
+
+  pub count-miss : (l : List A) (j : ℕ) → j < length l → p (getD l j d) ≡ false → count p l < length l
+  unfolding count
+  count-miss [] j b f = absurd (omega arith)
+  count-miss (x ∷ l) zero b f = let h = count-le l in rw f (omega arith)
+  count-miss (x ∷ l) (suc j) b f =
+      let h = count-miss l j (omega arith) f in cases (p x) (λ t. rw t (omega arith)) (λ t. rw t (omega arith))

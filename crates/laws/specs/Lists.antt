@@ -1,10 +1,13 @@
 -- Tests of a list's elements.
-use mathlib.Core.Path.{_≡_, refl, ap}
+use mathlib.Core.Path.{_≡_, refl, sym, ap, _∙_}
 use mathlib.Core.Logic.{_↔_, ⊎-elim}
 use mathlib.Core.Bool.{Bool, true, false, _&&_}
 use mathlib.Core.List.{List, [], _∷_, map, List·Memᴰ, List·Memᴰ·head, List·Memᴰ·tail, List·Memᴰ·not-nil, List·Memᴰ·cases-cons}
-use Prim.Native.Nat.{ℕ}
+use Prim.Native.Nat.{ℕ, zero, suc, _+_, _<_, _≤_}
 use native.Mathlib.Omega.{arith}
+use native.Mathlib.Numerals.{add-one}
+use lib.ListN.{length, getD, drop, drop-of-length-le}
+use lib.Seq.{drop-cons}
 use Rattle.laws.specs.Loop.{cases}
 use Rattle.laws.specs.Says.{Says, says-as, clash, apart}
 
@@ -70,3 +73,25 @@ module _ {A B : Type 0} (p : B → Bool) (f : A → B) where
   unfolding every
   every-map [] = refl
   every-map (x ∷ l) = ap (λ (b : Bool). elim (p (f x)) as (λ _. Bool) [ true ↦ b | false ↦ false ]) (every-map l)
+
+module _ {A : Type 0} where
+  -- a loop over a list: what is left of it from j on
+  pub drop-next : (l : List A) (j : ℕ) (d : A) → j < length l → drop j l ≡ getD l j d ∷ drop (j + 1) l
+  drop-next l j d h = rw (add-one j) (drop-cons l j d h)
+
+  module _ (p : A → Bool) (l : List A) (j : ℕ) where
+    pub every-left : (d : A) → every p (drop j l) ≡ every p l → j < length l → p (getD l j d) ≡ true → every p (drop (j + 1) l) ≡ every p l
+    every-left d e h t = sym (ap (every p) (drop-next l j d h) ∙ every-first p (getD l j d) (drop (j + 1) l) t) ∙ e
+
+    pub every-stop : (d : A) → every p (drop j l) ≡ every p l → j < length l → p (getD l j d) ≡ false → false ≡ every p l
+    every-stop d e h f = sym (ap (every p) (drop-next l j d h) ∙ every-fails p (getD l j d) (drop (j + 1) l) f) ∙ e
+
+    pub every-end : every p (drop j l) ≡ every p l → length l ≤ j → true ≡ every p l
+    unfolding every
+    every-end e h = sym (ap (every p) (drop-of-length-le l h)) ∙ e
+
+-- each element passes where every one does
+pub every-at : {A : Type 0} (p : A → Bool) (l : List A) (j : ℕ) (d : A) → j < length l → every p l ≡ true → p (getD l j d) ≡ true
+every-at p [] j d h e = absurd (omega arith)
+every-at p (x ∷ l) zero d h e = every-cons p x l e .0
+every-at p (x ∷ l) (suc j) d h e = every-at p l j d (omega arith) (every-cons p x l e .1)

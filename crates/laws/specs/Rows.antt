@@ -152,10 +152,3 @@ sets-one l p v t h =
 
 pub sets-done : (l : List ℕ) (p : ℕ) (v : List ℕ) (t : ℕ) → length v ≤ t → sets l p (drop t v) ≡ l
 sets-done l p v t h = rw (drop-of-length-le v h)
-
--- one run of stores after another
-pub sets-append : (l : List ℕ) (p : ℕ) (v r : List ℕ) → sets l p (v ++ r) ≡ sets (sets l p v) (p + length v) r
-sets-append l p [] r = rw add-zero
-sets-append l p (x ∷ v) r =
-    let e : p + length (x ∷ v) ≡ suc p + length v = omega arith in
-    rw e (sets-append (set l p x) (suc p) v r)

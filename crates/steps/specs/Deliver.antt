@@ -7,7 +7,7 @@ use mathlib.Core.Option.{Option, none, some}
 use native.Mathlib.Omega.{arith}
 use borrow.Author.Tests.{eqb-false, eq-eqb, ne-eqb, leb-true}
 use lib.ListN.{length}
-use lib.Seq.{sets, set-getD}
+use lib.Seq.{sets}
 use lib.Dec.{eqb, leb}
 use Rattle.laws.specs.Loop.{pick, cases}
 use Rattle.laws.specs.Update.{upd-is}
@@ -34,7 +34,7 @@ use Rattle.table.specs.Opens.{opens-at}
 use Rattle.steps.specs.declared.Turn.{Turn}
 use Rattle.steps.specs.declared.deliver.Test.{Test}
 use Rattle.steps.specs.declared.deliver.Test.the-variants.{Passed, Failed}
-use Rattle.steps.specs.Stepped.{Placed, putDesk, namesBeside, Stepped}
+use Rattle.steps.specs.Stepped.{Placed, putDesk, put-back, namesBeside, Stepped}
 use Rattle.steps.specs.Cascade.{midst}
 use Rattle.steps.specs.DeliverReceive.{Arrival, Receives, effect}
 
@@ -132,20 +132,14 @@ module _ {n m : ℕ} {ds : List Desk} {cs os own : List ℕ} {i : ℕ} {d : Desk
     effect-open : place (openAt os e .marks) i ≡ away → deliverOpen s i u k (opensM os u k) ≡ effect s i u k (openM (openAt os e))
     effect-open q = rw (entry-open, eq-eqb (place (openAt os e .marks) i) away q)
 
-  same-desk : putDesk n ds i d ≡ ds
-  same-desk =
-      cases (within n i)
-      (λ a. rw (a, ← p .desk (says-within n i .to a)) (set-getD ds (i - 1) desk0))
-      (λ a. rw a)
-
   -- a refusal leaves all as it came
   pub meets-refused : (u k : ℕ) (r : Refusal) (names : List ℕ) → step s (Deliver i u k) ≡ refuse (refusalOf r) s
       → Meets n m ds d cs os names i u k (turnedAway d r) cs os names
   meets-refused u k r names e = record {
     stepped = record {
       answer-is = rw e;
-      state-is = rw (same-desk, e);
-      sound = rw same-desk (p .sound);
+      state-is = rw (put-back n ds i d (p .desk), e);
+      sound = rw (put-back n ds i d (p .desk)) (p .sound);
       refused-desk = λ x q. refl;
       refused-cells = λ x q. refl;
       refused-opens = λ x q. refl;

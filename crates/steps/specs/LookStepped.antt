@@ -6,7 +6,6 @@ use mathlib.Core.Bool.{Bool, true, false, not}
 use native.Mathlib.Omega.{arith}
 use borrow.Author.Tests.{not-true, not-false}
 use lib.ListN.{length, set}
-use lib.Seq.{set-getD}
 use Rattle.laws.specs.Loop.{pick, cases}
 use Rattle.laws.specs.Says.{Says, apart}
 use Rattle.machine.specs.Answer as machine
@@ -26,7 +25,7 @@ use Rattle.answer.specs.Meaning.{answerOf, refusalOf}
 use Rattle.answer.specs.declared.Refusal.{Refusal}
 use Rattle.steps.specs.declared.Turn.{Turn}
 use Rattle.steps.specs.LookTurn.{refusedTurn}
-use Rattle.steps.specs.Stepped.{Placed, Stepped, putDesk}
+use Rattle.steps.specs.Stepped.{Placed, Stepped, putDesk, put-back}
 
 -- what a test of the code, `if !b`, says
 pub stops : {b p : Bool} {P : Type 0} → Says p P → b ≡ p → not b ≡ true → P → ⊥
@@ -52,21 +51,14 @@ module _ {n m : ℕ} {ds : List Desk} {cs os own : List ℕ} {i : ℕ} {d : Desk
   pub put-in : (d′ : Desk) → In n i → putDesk n ds i d′ ≡ set ds (i - 1) d′
   put-in d′ h = ap (λ (b : Bool). pick b (set ds (i - 1) d′) ds) (says-within n i .from h)
 
-  -- the desk as it came
-  pub put-same : putDesk n ds i d ≡ ds
-  put-same =
-      cases (within n i)
-      (λ t. let h = says-within n i .to t in put-in d h ∙ rw (← p .desk h) (set-getD ds (i - 1) desk0))
-      (λ t. ap (λ (b : Bool). pick b (set ds (i - 1) d) ds) t)
-
   module _ (a : Step) where
     pub refused-stepped : (r : machine.Refusal) → FirstFails (rowsOf (model n m ds cs os) a) r → Stepped n m ds cs os i d a d cs os (machine.refused r)
     refused-stepped r f =
         let e = refusal-exactly (model n m ds cs os) a r .1 f in
         record {
           answer-is = sym e;
-          state-is = ap (λ (l : List Desk). model n m l cs os) put-same ∙ sym (refused-leaves-table (model n m ds cs os) a r e);
-          sound = rw put-same (p .sound);
+          state-is = ap (λ (l : List Desk). model n m l cs os) (put-back n ds i d (p .desk)) ∙ sym (refused-leaves-table (model n m ds cs os) a r e);
+          sound = rw (put-back n ds i d (p .desk)) (p .sound);
           refused-desk = λ _ _. refl;
           refused-cells = λ _ _. refl;
           refused-opens = λ _ _. refl;

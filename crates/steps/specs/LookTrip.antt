@@ -2,10 +2,8 @@
 use Prim.Native.Nat.{ℕ, zero, suc, _+_, _<_, _≤_}
 use mathlib.Core.Path.{_≡_, sym, ap, _∙_}
 use native.Mathlib.Omega.{arith}
-use native.Mathlib.Numerals.{add-one}
 use lib.ListN.{length, getD, drop, drop-of-length-le}
-use lib.Seq.{drop-cons}
-use Rattle.laws.specs.Lists.{every, every-first, every-fails, every-cons}
+use Rattle.laws.specs.Lists.{drop-next}
 use mathlib.Core.List.{List, [], _∷_}
 use mathlib.Core.Bool.{Bool, true, false}
 use lib.Dec.{eqb}
@@ -43,32 +41,10 @@ verdictOf s = pick (s .two) No (pick (s .one) Yes Unknown)
 abbrev pub tripTurn : Desk → List ℕ → ℕ → List ℕ → Turn
 tripTurn d cs i xs = clockTurn d (seeAll cs i (seenNothing (d .clock)) xs .clock) (verdictOf (seeAll cs i (seenNothing (d .clock)) xs))
 
--- loops over a list: what is left of it from j on --
-
-pub drop-next : (l : List ℕ) (j : ℕ) → j < length l → drop j l ≡ getD l j 0 ∷ drop (j + 1) l
-drop-next l j h = rw (add-one j) (drop-cons l j 0 h)
-
-module _ (p : ℕ → Bool) (l : List ℕ) (j : ℕ) where
-  pub every-left : every p (drop j l) ≡ every p l → j < length l → p (getD l j 0) ≡ true → every p (drop (j + 1) l) ≡ every p l
-  every-left e h t = sym (ap (every p) (drop-next l j h) ∙ every-first p (getD l j 0) (drop (j + 1) l) t) ∙ e
-
-  pub every-stop : every p (drop j l) ≡ every p l → j < length l → p (getD l j 0) ≡ false → false ≡ every p l
-  every-stop e h f = sym (ap (every p) (drop-next l j h) ∙ every-fails p (getD l j 0) (drop (j + 1) l) f) ∙ e
-
-  pub every-end : every p (drop j l) ≡ every p l → length l ≤ j → true ≡ every p l
-  unfolding every
-  every-end e h = sym (ap (every p) (drop-of-length-le l h)) ∙ e
-
--- each element passes where every one does
-pub every-at : (p : ℕ → Bool) (l : List ℕ) (j : ℕ) → j < length l → every p l ≡ true → p (getD l j 0) ≡ true
-every-at p [] j h e = absurd (omega arith)
-every-at p (x ∷ l) zero h e = every-cons p x l e .0
-every-at p (x ∷ l) (suc j) h e = every-at p l j (omega arith) (every-cons p x l e .1)
-
 module _ (cs : List ℕ) (i : ℕ) (s : Seen) (l : List ℕ) (j : ℕ) where
   pub see-next : j < length l → seeAll cs i s (drop j l) ≡ seeAll cs i (seeCell s (cellAt cs (slot i (getD l j 0)))) (drop (j + 1) l)
   unfolding seeAll
-  see-next h = ap (seeAll cs i s) (drop-next l j h)
+  see-next h = ap (seeAll cs i s) (drop-next l j 0 h)
 
   pub see-end : length l ≤ j → seeAll cs i s (drop j l) ≡ s
   unfolding seeAll

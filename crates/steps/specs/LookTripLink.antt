@@ -13,6 +13,7 @@ use Rattle.laws.specs.Update.{upd, upd-same, upd-is, upd-other}
 use Rattle.machine.specs.Table.{State, Vec, most-trip, Cell as CellM}
 use Rattle.machine.specs.Answer as machine
 use Rattle.machine.specs.Rules.{In}
+use Rattle.machine.specs.Proofs.Blanks.{reads-shown}
 use Rattle.machine.specs.Steps.{Trip, readClock, read, withClock, shownAt, reads, hasStatus, verdict}
 use Rattle.clock.specs.Vectors.{places, place, length-joined}
 use Rattle.table.specs.declared.Cell.{Cell}
@@ -52,11 +53,6 @@ module _ (i : ℕ) where
       reads-state (read s i x) xs
       ∙ ap (λ (v : Vec). withClock (read s i x) i (clockAfter (s .cell i) v xs)) (upd-same (s .clock) i c)
       ∙ clock-again s c (clockAfter (s .cell i) c xs)
-
-  reads-shown : (s : State) (xs : List ℕ) → reads s i xs .shown ≡ map (shownAt s i) xs
-  unfolding reads
-  reads-shown s [] = refl
-  reads-shown s (x ∷ xs) = ap (λ (l : List machine.Shown). shownAt s i x ∷ l) (reads-shown (read s i x) xs)
 
 -- a status from 1 on is shown by set cells only
 status-cell : (v : ℕ) (c : Cell) → 1 ≤ v → Blank0 c → eqb (c .status) v ≡ hasStatus v (machine.shownOf (cellM c))
@@ -120,7 +116,7 @@ module _ {n m : ℕ} {ds : List Desk} {cs os own : List ℕ} {i : ℕ} {d : Desk
   trip-stepped xs h9 h =
       let s = seeAll cs i (seenNothing (d .clock)) xs in
       clock-stepped p hi (Trip i xs) (s .clock) (answerOf (verdictOf s) []) (hi, (h9, (h, tt)))
-      (judged xs h ∙ ap (λ (l : List machine.Shown). machine.judged (verdict l)) (sym (reads-shown i (model n m ds cs os) xs)))
+      (judged xs h ∙ ap (λ (l : List machine.Shown). machine.judged (verdict l)) (sym (reads-shown (model n m ds cs os) i xs)))
       (ap (λ (v : Vec). withClock (model n m ds cs os) i v)
       (seen-clock (seenNothing (d .clock)) xs (desk-shape p hi .clock) h ∙ ap (λ (v : Vec). clockAfter (cellsM cs i) v xs) (sym (clock-start p hi)))
       ∙ sym (reads-state i (model n m ds cs os) xs))

@@ -3,12 +3,13 @@ use mathlib.Core.Path.{_≡_}
 use mathlib.Core.List.{List, []}
 use Prim.Native.Nat.{ℕ, _-_, _*_}
 use lib.ListN.{length, getD, set}
-use lib.Seq.{sets}
-use Rattle.laws.specs.Loop.{pick}
+use lib.Seq.{sets, set-getD}
+use Rattle.laws.specs.Loop.{pick, cases}
 use Rattle.clock.specs.Vectors.{places, place}
 use Rattle.machine.specs.Answer as machine
 use Rattle.machine.specs.Steps.{Step, within, step}
 use Rattle.machine.specs.Rules.{In}
+use Rattle.machine.specs.Proofs.Ready.{says-within}
 use Rattle.table.specs.declared.Desk.{Desk}
 use Rattle.table.specs.Value.{desk0, all-cells, cell-width, entries, open-width}
 use Rattle.table.specs.Shape.{DesksShape}
@@ -27,6 +28,13 @@ pub record Placed (n m : ℕ) (ds : List Desk) (cs os own : List ℕ) (i : ℕ) 
 -- the desk stored back, where i is a desk
 abbrev pub putDesk : ℕ → List Desk → ℕ → Desk → List Desk
 putDesk n ds i d = pick (within n i) (set ds (i - 1) d) ds
+
+-- the desk as it came
+pub put-back : (n : ℕ) (ds : List Desk) (i : ℕ) (d : Desk) → (In n i → getD ds (i - 1) desk0 ≡ d) → putDesk n ds i d ≡ ds
+put-back n ds i d e =
+    cases (within n i)
+    (λ a. rw (a, ← e (says-within n i .to a)) (set-getD ds (i - 1) desk0))
+    (λ a. rw a)
 
 -- the numbers that the answer's names take in the array beside it
 abbrev pub namesBeside : machine.Answer → List ℕ

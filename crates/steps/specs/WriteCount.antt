@@ -7,7 +7,7 @@ use mathlib.Core.Bool.{Bool, true, false, not}
 use native.Mathlib.Omega.{arith}
 use lib.ListN.{length, getD}
 use Rattle.laws.specs.Loop.{cases}
-use Rattle.laws.specs.Count.{count}
+use Rattle.laws.specs.Count.{count, count-all, count-miss}
 use Rattle.laws.specs.Find.{firstOf, first-none}
 use Rattle.laws.specs.Sum.{sum, one, tally, sum-same, sum-zero, sum-one}
 use Rattle.machine.specs.Rules.{In}
@@ -20,26 +20,6 @@ use Rattle.table.specs.Names.{number, named, freeAt, free-named, own-named, not
 use Rattle.table.specs.Model.{openM, opensM, model}
 use Rattle.table.specs.Opens.{opens-at}
 use Rattle.table.specs.Sound.{Sound}
-
--- how many elements pass, beside how many there are --
-
-module _ {A : Type 0} (p : A → Bool) (d : A) where
-  count-le : (l : List A) → count p l ≤ length l
-  unfolding count
-  count-le [] = omega arith
-  count-le (x ∷ l) = let h = count-le l in cases (p x) (λ t. rw t (omega arith)) (λ t. rw t (omega arith))
-
-  count-all : (l : List A) → ((j : ℕ) → j < length l → p (getD l j d) ≡ true) → count p l ≡ length l
-  unfolding count
-  count-all [] h = refl
-  count-all (x ∷ l) h = let r = count-all l (λ j b. h (suc j) (omega arith)) in rw (h 0 (omega arith)) (omega arith)
-
-  count-miss : (l : List A) (j : ℕ) → j < length l → p (getD l j d) ≡ false → count p l < length l
-  unfolding count
-  count-miss [] j b f = absurd (omega arith)
-  count-miss (x ∷ l) zero b f = let h = count-le l in rw f (omega arith)
-  count-miss (x ∷ l) (suc j) b f =
-      let h = count-miss l j (omega arith) f in cases (p x) (λ t. rw t (omega arith)) (λ t. rw t (omega arith))
 
 -- over the list of entries --
 

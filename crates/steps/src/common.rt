@@ -9,6 +9,13 @@ use answer::Refusal;
 use clock::PLACES;
 use table::Desk;
 
+pub(crate) fn small(x: usize) -> u16
+    requires { ⌜ x < 65536 ⌝ }
+    ensures { λ r. ⌜ r ≡ x ⌝ }
+{
+    x as u16
+}
+
 // The number at place u of a vector, from 1, and 0 where there is none.
 pub(crate) fn at_place(v: [u16; PLACES], u: usize) -> u16
     ensures { λ r. ⌜ r ≡ place v u ⌝ }

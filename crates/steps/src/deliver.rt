@@ -14,6 +14,7 @@ ghost use Rattle.steps.specs.Cascade.{AppliedAt, DueSays, NamePut, Start
 ghost use Rattle.steps.specs.DeliverReceive.{Arrives, Received};
 ghost use Rattle.steps.specs.Deliver.{Part, Delivers, testsOf, turnedAway};
 use crate::Turn;
+use crate::common::small;
 use answer::Answer;
 use answer::Refusal;
 use clock::PLACES;
@@ -47,19 +48,6 @@ pub struct Applied {
     pub len: usize,
 }
 
-fn wide(x: u16) -> usize
-    ensures { λ r. ⌜ (r ≡ x) × (r < 65536) ⌝ }
-{
-    x as usize
-}
-
-fn small(x: usize) -> u16
-    requires { ⌜ x < 65536 ⌝ }
-    ensures { λ r. ⌜ r ≡ x ⌝ }
-{
-    x as u16
-}
-
 fn one_more(k: u16, most: u16) -> u16
     requires { ⌜ k < most ⌝ }
     ensures { λ r. ⌜ r ≡ k + 1 ⌝ }
@@ -80,7 +68,7 @@ fn apply_at(
 {
     let o = table::open_at(opens, e);
     let v = o.vector;
-    let s = table::slot_of(i, wide(o.cell));
+    let s = table::slot_of(i, table::wide(o.cell));
     let c = Cell {
         writer: o.writer,
         status: o.status,
@@ -259,10 +247,10 @@ fn tests(n: usize, d: Desk, own: [u16; PLACES], i: usize, u: usize, k: usize) ->
     if i == u {
         return Test::Failed(Refusal::OwnWrite);
     }
-    if !table::inside(wide(own[u - 1]), k) {
+    if !table::inside(table::wide(own[u - 1]), k) {
         return Test::Failed(Refusal::NoWrite);
     }
-    if k <= wide(a[u - 1]) {
+    if k <= table::wide(a[u - 1]) {
         return Test::Failed(Refusal::Received);
     }
     Test::Passed

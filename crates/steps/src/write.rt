@@ -10,6 +10,7 @@ ghost use Rattle.steps.specs.WriteTurn.{newMarks, Spotted, SpotIn, enter
 use crate::Turn;
 use crate::common::at_place;
 use crate::common::refused;
+use crate::common::small;
 use answer::Answer;
 use answer::Refusal;
 use clock::PLACES;
@@ -27,13 +28,6 @@ enum Spot {
     Entry(usize),
     Alone,
     Full,
-}
-
-fn small(x: usize) -> u16
-    requires { ⌜ x < 65536 ⌝ }
-    ensures { λ r. ⌜ r ≡ x ⌝ }
-{
-    x as u16
 }
 
 // The spot for write k of desk i.

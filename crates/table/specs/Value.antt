@@ -8,7 +8,8 @@ use lib.ListN.{length, getD, set, length-set, length-append, List·getD-append}
 use lib.Seq.{sets, getD-append-add, getD-set-same, getD-set-other, length-sets}
 use lib.Dec.{eqb}
 use Rattle.laws.specs.Tab.{tab, getD-tab, length-tab}
-use Rattle.laws.specs.Rows.{part, part-at, part-same, part-part, part-all, part-set, part-set-off, length-part, row, putRow, row-put, row-put-other, rows-put, rows-set, sets-append}
+use Rattle.laws.specs.Stores.{sets-append}
+use Rattle.laws.specs.Rows.{part, part-at, part-same, part-part, part-all, part-set, part-set-off, length-part, row, putRow, row-put, row-put-other, rows-put, rows-set}
 use Rattle.machine.specs.Table.{most-cells, most-open}
 use Rattle.clock.specs.Vectors.{places, clockOf}
 use Rattle.table.specs.declared.Cell.{Cell}
@@ -338,4 +339,4 @@ putOpen-steps l e o h =
     let b : e * open-width + 2 ≡ suc (suc (e * open-width)) = omega arith in
     let d : e * open-width + vector-from ≡ suc (suc (suc (e * open-width))) = omega arith in
     let m : e * open-width + marks-from ≡ suc (suc (suc (e * open-width))) + length (o .vector) = omega arith in
-    rw (a, b, d, m) (sym (sets-append (set (set (set l (e * open-width) (o .writer)) (suc (e * open-width)) (o .status)) (suc (suc (e * open-width))) (o .cell)) (suc (suc (suc (e * open-width)))) (o .vector) (o .marks)))
+    rw (a, b, d, m) (sym (sets-append (o .vector) (o .marks) (set (set (set l (e * open-width) (o .writer)) (suc (e * open-width)) (o .status)) (suc (suc (e * open-width))) (o .cell)) (suc (suc (suc (e * open-width))))))

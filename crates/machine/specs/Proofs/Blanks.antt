@@ -89,7 +89,7 @@ module _ (reload : State → State) (same : (s : State) → Rules s → reload s
 -- Verdicts --
 
 -- reading changes clocks only: every cell shows what it showed before the trip
-reads-shown : (s : State) (i : ℕ) (xs : List ℕ) → reads s i xs .shown ≡ map (shownAt s i) xs
+pub reads-shown : (s : State) (i : ℕ) (xs : List ℕ) → reads s i xs .shown ≡ map (shownAt s i) xs
 unfolding reads
 reads-shown s i [] = refl
 reads-shown s i (x ∷ xs) = ap (λ (l : List Shown). shownAt s i x ∷ l) (reads-shown (read s i x) i xs)

@@ -1,5 +1,5 @@
 use borrow.Author.Tests.{not-true, not-false}
-use Rattle.steps.specs.LookTrip.{every-left, every-stop, every-end}
+use Rattle.laws.specs.Lists.{every-left, every-stop, every-end}
 use Prim.Native.Nat.{_≤_, _-_}
 use mathlib.Core.Path.{_≡_, refl, sym, _∙_}
 use lib.ListN.{length, drop}
@@ -33,7 +33,7 @@ inside-requires c κs = search needs
 returns : tie.Need-returns Inv-loop μ-loop
 returns c = let L = c .before .before .before .before .before .loop in
     let a = c .before .before .before .before .before .before .before .args in
-    every-stop (within (a .m)) (a .list .now) (L .j) (L .inv .1) (search needs) (rw (← c .before .before .wide .ensures .0) (sym (c .before .inside .ensures) ∙ not-true _ (c .if1 .taken)))
+    every-stop (within (a .m)) (a .list .now) (L .j) 0 (L .inv .1) (search needs) (rw (← c .before .before .wide .ensures .0) (sym (c .before .inside .ensures) ∙ not-true _ (c .if1 .taken)))
 
 add-j : tie.Need-add-j Inv-loop μ-loop
 add-j c = search needs
@@ -44,7 +44,7 @@ loop-less c = search needs
 loop-again : tie.Need-loop-again Inv-loop μ-loop
 loop-again c = let L = c .before .before .before .before .before .loop in
     let a = c .before .before .before .before .before .before .before .args in
-    (search needs, every-left (within (a .m)) (a .list .now) (L .j) (L .inv .1) (search needs) (rw (← c .before .before .wide .ensures .0) (sym (c .before .inside .ensures) ∙ not-false _ (c .if1 .left))))
+    (search needs, every-left (within (a .m)) (a .list .now) (L .j) 0 (L .inv .1) (search needs) (rw (← c .before .before .wide .ensures .0) (sym (c .before .inside .ensures) ∙ not-false _ (c .if1 .left))))
 
 returns-2 : tie.Need-returns-2 Inv-loop μ-loop
 returns-2 c = let a = c .before .before .before .args in every-end (within (a .m)) (a .list .now) (c .before .loop .j) (c .before .loop .inv .1) (search needs)

@@ -4,7 +4,8 @@ use Rattle.table.specs.Value.{desk-cells}
 use Prim.Native.Nat.{_≤_, _-_}
 use mathlib.Core.Path.{_≡_, refl, sym, _∙_}
 use lib.ListN.{length, drop}
-use Rattle.steps.specs.LookTrip.{seeAll, every-at, see-next, see-end}
+use Rattle.steps.specs.LookTrip.{seeAll, see-next, see-end}
+use Rattle.laws.specs.Lists.{every-at}
 use borrow.Author.Needs.{needs}
 use Rattle.steps.proofs.look.see_all.Statement.{statement}
 use Rattle.steps.proofs.look.see_all.Tie as tie
@@ -32,7 +33,7 @@ slot-of-requires c κs =
     let a = c .before .before .before .before .before .args in
     let L = c .before .before .before .loop in
     let pre = c .before .before .before .before .before .pre in
-    (pre .0, rw (c .wide .ensures .0) (says-within _ _ .to (every-at (within desk-cells) (a .list .now) (L .j) (search needs) (pre .1))))
+    (pre .0, rw (c .wide .ensures .0) (says-within _ _ .to (every-at (within desk-cells) (a .list .now) (L .j) 0 (search needs) (pre .1))))
 
 cell-at-requires : tie.Need-cell-at-requires Inv-loop μ-loop
 cell-at-requires c κs = search needs
