@@ -1,3 +1,5 @@
 pub mod Access
 pub mod Lines
+pub mod ImageLaws
+pub mod LinesLaws
 pub mod Split
