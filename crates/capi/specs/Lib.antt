@@ -2,4 +2,5 @@ pub mod Access
 pub mod Lines
 pub mod ImageLaws
 pub mod LinesLaws
+pub mod RunLaws
 pub mod Split
