@@ -4,4 +4,7 @@ pub mod ImageLaws
 pub mod LinesLaws
 pub mod RunLaws
 pub mod StartLaws
+pub mod CutLaws
+pub mod Kept
+pub mod Wrote
 pub mod Split

@@ -22,7 +22,7 @@ unfolding startOf
 start-empty [] e = refl
 start-empty (b ∷ l) e = absurd (omega arith)
 
-start-load : (saved : List ℕ) → (length saved ≡ 0 → ⊥) → startOf saved ≡ started (load saved)
+pub start-load : (saved : List ℕ) → (length saved ≡ 0 → ⊥) → startOf saved ≡ started (load saved)
 unfolding startOf
 start-load [] f = absurd (f refl)
 start-load (b ∷ l) f = refl
