@@ -1,3 +1,10 @@
 pub mod Access
 pub mod Lines
+pub mod ImageLaws
+pub mod LinesLaws
+pub mod RunLaws
+pub mod StartLaws
+pub mod CutLaws
+pub mod Kept
+pub mod Wrote
 pub mod Split

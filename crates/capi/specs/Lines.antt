@@ -2,21 +2,27 @@
 use mathlib.Core.Path.{_≡_}
 use mathlib.Core.Bool.{Bool, true}
 use mathlib.Core.List.{List}
-use Prim.Native.Nat.{ℕ, _+_, _≤_}
+use Prim.Native.Nat.{ℕ, _+_, _*_, _≤_}
 use lib.ListN.{length}
 use lib.Seq.{sets}
 use Rattle.laws.specs.Loop.{pick}
 use Rattle.table.specs.declared.Desk.{Desk}
 use Rattle.session.specs.Session.{Session}
-use Rattle.session.specs.Transcript.{transcriptFrom, sessionFrom}
+use Rattle.session.specs.Transcript.{transcriptFrom, sessionFrom, most-text}
 use Rattle.session.specs.Holds.{Holds}
 use Rattle.capi.specs.Access.{Left, imageOf, runFrom}
+
+-- the answers of one run
+abbrev pub most-part : ℕ
+most-part = 16384
 
 -- the lines from a place on, to the end: the table that they leave, the bytes of their answers, and these in the buffer if they were to be put
 pub record LinedFrom (z : Session) (text : List ℕ) (at : ℕ) (put : Bool) (out : List ℕ) (from n m : ℕ) (ds : List Desk) (cs os : List ℕ) (len : ℕ) (out′ : List ℕ) : Type 0 where
   pub holds : Holds n m ds cs os (sessionFrom z text at)
   pub len-is : len ≡ length (transcriptFrom z text at)
   pub stored : out′ ≡ pick put (sets out from (transcriptFrom z text at)) out
+  -- far from where a sum would wrap
+  pub few : len ≤ most-part * most-text
 
 abbrev pub Lined : (n m : ℕ) (ds : List Desk) (cs os text : List ℕ) (at : ℕ) (put : Bool) (out : List ℕ) (from n′ m′ : ℕ) (ds′ : List Desk) (cs′ os′ : List ℕ) (len : ℕ) (out′ : List ℕ) → Type 0
 Lined n m ds cs os text at put out from n′ m′ ds′ cs′ os′ len out′ =

@@ -1,0 +1,113 @@
+use Prim.Native.Nat.{ℕ, _+_, _-_}
+use mathlib.Core.Path.{_≡_, _∙_}
+use mathlib.Core.Logic.{⊎-elim}
+use native.Mathlib.Omega.{arith}
+use lib.ListN.{length, take, length-replicate}
+use lib.Seq.{sets}
+use Rattle.laws.specs.Loop.{pick}
+use Rattle.session.specs.Session.{Session}
+use Rattle.session.specs.Holds.{Holds}
+use Rattle.capi.specs.Lines.{most-part}
+use Rattle.capi.specs.LinesLaws.{Lining, lining-start, lining-long, lining-room, lining-on, lining-end}
+use borrow.Author.Needs.{needs}
+use Rattle.capi.proofs.lines.Statement.{statement}
+use Rattle.capi.proofs.lines.Tie as tie
+use Rattle.capi.proofs.lines.Reads as reads
+use Rattle.capi.proofs.lines.Lts as lts
+use Rattle.capi.proofs.copy.Reads as copy-reads
+use Rattle.session.proofs.run.Reads as run-reads
+
+abbrev Inv-loop : tie.InvT-loop
+Inv-loop cells₀ opens₀ text at put out₀ from last₀ part₀ place₀ len₀ cells opens out last part place len =
+    (length part ≡ most-part) × ((z : Session) → Holds (last₀ .n) (last₀ .m) (last₀ .desks) cells₀ opens₀ z → Lining z text place₀ put out₀ from (last .n) (last .m) (last .desks) cells opens place len out)
+
+abbrev μ-loop : tie.MeasureT-loop
+μ-loop cells₀ opens₀ text at put out₀ from last₀ part₀ place₀ len₀ cells opens out last part place len = length text - place
+
+-- the buffer after a turn
+put-out : (c : tie.Joined1 Inv-loop μ-loop)
+    → (let a = c .before .before .before .before .before .before .before .before .before .before .args in let L = c .before .before .before .before .before .before .before .loop in let u = c .before .before .run in
+    c .if1 .out ≡ pick (a .put) (sets (L .out) (a .from + L .len) (take (u .result .len) (u .last .1 .1 .1 .1 .1 .0))) (L .out))
+put-out c =
+    ⊎-elim
+    (λ w. rw (w .0 .taken) (w .6 ∙ w .3 .ensures))
+    (λ w. rw (w .0 .left) (w .1))
+    (c .if1 .came)
+
+loop-holds : tie.Need-loop-holds Inv-loop μ-loop
+loop-holds c = (length-replicate {A = ℕ} 16384 0, λ z h. lining-start h)
+
+slice-aggregate-run : tie.Need-slice-aggregate-run Inv-loop μ-loop
+slice-aggregate-run c = search needs
+
+run-requires : tie.Need-run-requires Inv-loop μ-loop
+run-requires c κs =
+    let p = c .before .before .before .before .before .before .before .pre in
+    let g = c .before .before .before .before .loop .inv .1 (p .0 .session) (p .0 .holds) in
+    record { session = g .session; holds = g .holds }
+
+slice-aggregate-copy : tie.Need-slice-aggregate-copy Inv-loop μ-loop
+slice-aggregate-copy c = search needs
+
+add-copy : tie.Need-add-copy Inv-loop μ-loop
+add-copy c =
+    let p = c .before .before .before .before .before .before .before .before .before .before .before .before .pre in
+    let g = c .before .before .before .before .before .before .before .before .before .loop .inv .1 (p .0 .session) (p .0 .holds) in
+    let r = c .before .before .before .before .run .ensures (g .session) (g .holds) in
+    omega (arith, lining-room g r (p .1 .1 (p .0 .session) (p .0 .holds) (c .before .before .if1 .taken)), lining-long g, c .before .before .before .before .before .before .before .before .before .before .before .before .good)
+
+copy-requires : tie.Need-copy-requires Inv-loop μ-loop
+copy-requires c κs =
+    let p = c .before .before .before .before .before .before .before .before .before .before .before .before .pre in
+    let g = c .before .before .before .before .before .before .before .before .before .loop .inv .1 (p .0 .session) (p .0 .holds) in
+    let r = c .before .before .before .before .run .ensures (g .session) (g .holds) in
+    (omega (arith, r .len-is, r .fits, c .before .before .before .before .run .kept), lining-room g r (p .1 .1 (p .0 .session) (p .0 .holds) (c .before .before .if1 .taken)))
+
+add-len : tie.Need-add-len Inv-loop μ-loop
+add-len c =
+    let p = c .before .before .before .before .before .before .before .before .before .before .before .pre in
+    let L = c .before .before .before .before .before .before .before .before .loop in
+    let g = L .inv .1 (p .0 .session) (p .0 .holds) in
+    let r = c .before .before .before .run .ensures (g .session) (g .holds) in
+    omega (arith, g .few, g .within, r .len-is, r .fits, L .inv .0, p .1 .0)
+
+loop-less : tie.Need-loop-less Inv-loop μ-loop
+loop-less c =
+    let p = c .before .before .before .before .before .before .before .before .before .before .before .pre in
+    let L = c .before .before .before .before .before .before .before .before .loop in
+    let g = L .inv .1 (p .0 .session) (p .0 .holds) in
+    let r = c .before .before .before .run .ensures (g .session) (g .holds) in
+    let h = c .before .before .before .before .before .before .before .loop-test .taken in
+    omega (arith, r .progress h (omega (arith, L .inv .0)), h)
+
+loop-again : tie.Need-loop-again Inv-loop μ-loop
+loop-again c =
+    let L = c .before .before .before .before .before .before .before .before .loop in
+    let u = c .before .before .before .run in (
+      u .kept .1 .1 .1 .1 .1 .0 ∙ L .inv .0,
+      λ z h. let g = L .inv .1 z h in lining-on g (u .ensures (g .session) (g .holds)) (L .inv .0) (c .before .before .before .before .before .before .before .loop-test .taken) (put-out (c .before)),
+    )
+
+same-length : tie.Need-same-length Inv-loop μ-loop
+same-length c = let p = c .before .before .before .before .pre in lining-long (c .before .loop .inv .1 (p .0 .session) (p .0 .holds))
+
+returns : tie.Need-returns Inv-loop μ-loop
+returns c z h = lining-end (c .before .loop .inv .1 z h) (c .before .before .before .before .pre .1 .0) (c .loop-test .left)
+
+pub lines-spec : {M : Type 1} → statement M
+lines-spec =
+    tie.close
+    (tie.spec
+    Inv-loop
+    μ-loop
+    loop-holds
+    slice-aggregate-run
+    run-requires
+    slice-aggregate-copy
+    add-copy
+    copy-requires
+    add-len
+    loop-less
+    loop-again
+    same-length
+    returns)

@@ -1,0 +1,39 @@
+use mathlib.Core.Path.{refl, sym, ap, _∙_}
+use mathlib.Core.List.{List}
+use Prim.Native.Nat.{ℕ, _≤_}
+use native.Mathlib.Omega.{arith}
+use lib.ListN.{length}
+use lib.Seq.{sets}
+use Rattle.capi.specs.ImageLaws.{no-image, image-is}
+use borrow.Author.Needs.{needs}
+use Rattle.capi.proofs.save_image.Statement.{statement}
+use Rattle.capi.proofs.save_image.Tie as tie
+use Rattle.capi.proofs.save_image.Reads as reads
+use Rattle.capi.proofs.save_image.Lts as lts
+use Rattle.image.proofs.save_parts.Reads as save-parts-reads
+
+returns : tie.Need-returns
+returns c z h =
+    let a = c .before .before .args in
+    rw (no-image (a .core .n) (a .core .m) (a .core .desks) (a .cells .now) (a .opens .now) (c .if1 .taken) z h) (refl, refl)
+
+save-parts-requires : tie.Need-save-parts-requires
+save-parts-requires c κs =
+    let a = c .before .before .before .args in
+    let p = c .before .before .before .pre in
+    let z = p .0 .session in
+    let i = image-is (a .core .n) (a .core .m) (a .core .desks) (a .cells .now) (a .opens .now) (c .before .if1 .left) z (p .0 .holds) in
+    (i .0, omega (arith, p .1 z (p .0 .holds), ap length (i .1)))
+
+same-length : tie.Need-same-length
+same-length c = search needs
+
+returns-2 : tie.Need-returns-2
+returns-2 c z h =
+    let a = c .before .before .before .before .before .before .args in
+    let i = image-is (a .core .n) (a .core .m) (a .core .desks) (a .cells .now) (a .opens .now) (c .before .before .before .before .if1 .left) z h in
+    let s = c .before .before .save-parts .ensures in
+    rw (i .1) (s .stored, s .size)
+
+pub save-image-spec : {M : Type 1} → statement M
+save-image-spec = tie.close (tie.spec returns save-parts-requires same-length returns-2)

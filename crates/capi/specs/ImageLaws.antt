@@ -1,0 +1,47 @@
+-- The image of the session that the values hold.
+use mathlib.Core.Path.{_≡_, refl, sym, ap, _∙_}
+use mathlib.Core.List.{List, []}
+use mathlib.Core.Option.{none, some}
+use Prim.Native.Nat.{ℕ, _+_, _*_, _/_, _≤_}
+use native.Mathlib.Omega.{arith}
+use lib.ListN.{length}
+use Rattle.clock.specs.Vectors.{places}
+use Rattle.table.specs.declared.Desk.{Desk}
+use Rattle.table.specs.Value.{desk-cells}
+use Rattle.table.specs.Model.{model, appliedM}
+use Rattle.table.specs.Sound.{Sound}
+use Rattle.image.specs.Counted.{counted}
+use Rattle.image.specs.Encode.{perDesk, encode}
+use Rattle.image.specs.Saved.{length-is}
+use Rattle.load.specs.Loading.{image-most}
+use Rattle.session.specs.Session.{Session}
+use Rattle.session.specs.Holds.{Holds}
+use Rattle.capi.specs.Access.{imageOf}
+
+module _ (n m : ℕ) (ds : List Desk) (cs os : List ℕ) where
+  -- no table
+  pub no-image : n ≡ 0 → (z : Session) → Holds n m ds cs os z → imageOf z ≡ []
+  no-image e none h = refl
+  no-image e (some s) h = absurd (omega (arith, h .sound .rules .frame .ranges .desks .0))
+
+  -- a table
+  pub image-is : (n ≡ 0 → ⊥) → (z : Session) → Holds n m ds cs os z → Sound n m ds cs os × (imageOf z ≡ encode (model n m ds cs os))
+  image-is f none h = absurd (f (h .size))
+  image-is f (some s) h = (h .sound, ap encode (sym (h .model-is)))
+
+  pub image-few : (n ≡ 0 → ⊥) → (z : Session) → Holds n m ds cs os z → (n ≤ places) × (m ≤ desk-cells)
+  image-few f z h =
+      let r = image-is f z h .0 .rules .frame .ranges in
+      (r .desks .1, r .cells .1)
+
+  -- its length, by the counts alone
+  pub image-long : (n ≡ 0 → ⊥) → (z : Session) → Holds n m ds cs os z
+      → 512 * (1 + n + perDesk m * n + (length (counted n (appliedM ds)) + 17) / 18) ≡ length (imageOf z)
+  image-long f z h =
+      let i = image-is f z h in
+      length-is n m ds cs os (i .0) ∙ ap length (sym (i .1))
+
+  -- at most 37 blocks
+  pub image-short : (z : Session) → Holds n m ds cs os z → length (imageOf z) ≤ 18944
+  image-short none h = omega arith
+  image-short (some s) h = image-most s (rw (h .model-is) at (h .sound .rules))

@@ -1,0 +1,43 @@
+-- A session whose table keeps the rules: every line leaves one again.
+use mathlib.Core.List.{List, [], _∷_}
+use mathlib.Core.Option.{Option, none, some}
+use Prim.Native.Nat.{ℕ}
+use lib.ListN.{drop}
+use Rattle.laws.specs.Loop.{pick, cases}
+use Rattle.machine.specs.Rules.{Rules}
+use Rattle.machine.specs.Steps.{begins, begin}
+use Rattle.machine.specs.Proofs.Kept.{fresh-rules, step-keeps-rules}
+use Rattle.rules.specs.Parts.{says-begins}
+use Rattle.schedule.specs.Grammar.{Line, begin-line, step-line, lineOf}
+use Rattle.session.specs.Session.{Session, turn}
+use Rattle.session.specs.Transcript.{TextLine, linesOf, sessionOf, sessionFrom}
+
+abbrev pub Kept : Session → Type 0
+Kept none = Unit {0}
+Kept (some s) = Rules s
+
+begun-kept : (n m : ℕ) → Kept (begin n m .table)
+unfolding begin
+begun-kept n m =
+    cases (begins n m)
+    (λ e. let h = says-begins n m .to e in rw (e, Kept, begin) (fresh-rules n m (h .0) (h .1)))
+    (λ e. rw (e, Kept, begin) tt)
+
+turn-kept : (z : Session) (o : Option Line) → Kept z → Kept (turn z o .session)
+turn-kept none none k = k
+turn-kept none (some (begin-line n m)) k = begun-kept n m
+turn-kept none (some (step-line a)) k = k
+turn-kept (some s) none k = k
+turn-kept (some s) (some (begin-line n m)) k = k
+turn-kept (some s) (some (step-line a)) k = step-keeps-rules k a
+
+lines-kept : (z : Session) (ls : List TextLine) → Kept z → Kept (sessionOf z ls)
+unfolding sessionOf
+lines-kept z [] k = k
+lines-kept z (l ∷ ls) k =
+    let o = pick (l .ended) (lineOf (l .bytes)) none in
+    lines-kept (turn z o .session) ls (turn-kept z o k)
+
+pub session-kept : (z : Session) (text : List ℕ) (at : ℕ) → Kept z → Kept (sessionFrom z text at)
+unfolding sessionFrom
+session-kept z text at k = lines-kept z (linesOf (drop at text)) k

@@ -1,0 +1,75 @@
+-- A call from a session: refused where something is too long or too short, else its answers are those of the first run and of the lines behind it.
+use mathlib.Core.Path.{_≡_, sym, ap, _∙_}
+use mathlib.Core.List.{List, [], _∷_, _++_}
+use mathlib.Core.Bool.{Bool, true, false, _&&_}
+use Prim.Native.Nat.{ℕ, _+_, _*_, _<_, _≤_}
+use native.Mathlib.Omega.{arith}
+use native.Mathlib.Nat.{zero-add}
+use lib.Dec.{leb}
+use lib.ListN.{length, take, length-append}
+use lib.Seq.{sets}
+use Rattle.laws.specs.Loop.{pick, cases}
+use Rattle.laws.specs.Says.{Says, says-leb, says-both}
+use Rattle.laws.specs.Stores.{sets-append}
+use Rattle.table.specs.declared.Desk.{Desk}
+use Rattle.session.specs.Session.{Session}
+use Rattle.session.specs.Transcript.{transcriptFrom, sessionFrom, most-text}
+use Rattle.session.specs.Holds.{Holds}
+use Rattle.session.specs.Run.{Ran, ran-part}
+use Rattle.capi.specs.Access.{Left, left, imageOf, fits, runFrom}
+use Rattle.capi.specs.Lines.{most-part, LinedFrom}
+
+-- what has to fit
+pub record Room (z : Session) (text answers image lengths : List ℕ) : Type 0 where
+  pub text-room : length text ≤ most-text
+  pub answers-room : length (transcriptFrom z text 0) ≤ length answers
+  pub image-room : length (imageOf (sessionFrom z text 0)) ≤ length image
+  pub lengths-room : 2 ≤ length lengths
+
+module _ (z : Session) (text answers image lengths : List ℕ) where
+  pub says-fits : Says (fits z text answers image lengths) (Room z text answers image lengths)
+  unfolding fits
+  says-fits =
+      let a : ℕ = length (transcriptFrom z text 0) in
+      let i : ℕ = length (imageOf (sessionFrom z text 0)) in
+      let b : Bool = leb i (length image) && leb 2 (length lengths) in
+      let s = says-both (leb (length text) most-text) (leb a (length answers) && b) (says-leb (length text) most-text)
+      (says-both (leb a (length answers)) b (says-leb a (length answers))
+      (says-both (leb i (length image)) (leb 2 (length lengths)) (says-leb i (length image)) (says-leb 2 (length lengths)))) in
+      record {
+        to = λ e. let h = s .to e in record { text-room = h .0; answers-room = h .1 .0; image-room = h .1 .1 .0; lengths-room = h .1 .1 .1 };
+        from = λ r. s .from (r .text-room, (r .answers-room, (r .image-room, r .lengths-room)));
+      }
+
+  -- 14: every buffer is as found
+  pub run-refused : (Room z text answers image lengths → ⊥) → left 14 answers image lengths ≡ runFrom z text answers image lengths
+  unfolding runFrom
+  run-refused f = cases (fits z text answers image lengths) (λ e. absurd (f (says-fits .to e))) (λ e. rw e)
+
+  pub run-accepted : {answers′ image′ : List ℕ} {all size : ℕ} → Room z text answers image lengths
+      → answers′ ≡ sets answers 0 (transcriptFrom z text 0) → image′ ≡ sets image 0 (imageOf (sessionFrom z text 0))
+      → all ≡ length (transcriptFrom z text 0) → size ≡ length (imageOf (sessionFrom z text 0))
+      → left 0 answers′ image′ (sets lengths 0 (all ∷ size ∷ [])) ≡ runFrom z text answers image lengths
+  unfolding runFrom
+  run-accepted r ea ei el es = rw (says-fits .from r, ea, ei, el, es)
+
+-- the first run, and the lines behind it
+module _ {z : Session} {text kept : List ℕ} {n m : ℕ} {ds : List Desk} {cs os : List ℕ} {at len : ℕ} {kept′ : List ℕ} (r : Ran z text 0 kept n m ds cs os at len kept′) where
+  module _ {put : Bool} {out : List ℕ} {from n′ m′ : ℕ} {ds′ : List Desk} {cs′ os′ : List ℕ} {more : ℕ} {out′ : List ℕ}
+      (l : LinedFrom (r .session) text at put out from n′ m′ ds′ cs′ os′ more out′) where
+    pub all-long : len + more ≡ length (transcriptFrom z text 0)
+    all-long = omega (arith, r .len-is, l .len-is, simp length-append at (ap length (r .rest)))
+
+    pub all-few : len + more ≤ length kept + most-part * most-text
+    all-few = omega (arith, r .len-is, r .fits, l .few)
+
+    pub all-left : Holds n′ m′ ds′ cs′ os′ (sessionFrom z text 0)
+    all-left = rw (r .leaves) (l .holds)
+
+  -- their answers one after the other
+  pub all-put : (out : List ℕ) {out₁ out₂ out₃ : List ℕ} → out₁ ≡ out → out₂ ≡ sets out₁ 0 (take len kept′) → out₃ ≡ sets out₂ len (transcriptFrom (r .session) text at)
+      → out₃ ≡ sets out 0 (transcriptFrom z text 0)
+  all-put out d e f =
+      let v = transcriptFrom (r .session) text at in
+      let q : len ≡ 0 + length (r .lines) = r .len-is ∙ sym (zero-add (length (r .lines))) in
+      f ∙ rw (e, d, ran-part r) (ap (λ (x : ℕ). sets (sets out 0 (r .lines)) x v) q ∙ sym (sets-append (r .lines) v out 0) ∙ rw (r .rest))
