@@ -307,14 +307,16 @@ fn starts(l: &[u8], b: &[u8]) -> bool
     requires { ⌜ length (now b) ≤ length (now l) ⌝ }
     ensures { λ r. ⌜ Says r (now (b .entry) ≡ take (length (now (b .entry))) (now (l .entry))) ⌝ }
 {
+    // No way out in the middle: the compiler then compares many bytes at a time.
+    let mut same = true;
     let mut i = 0;
     while i < b.len() {
         if b[i] != l[i] {
-            return false;
+            same = false;
         }
         i += 1;
     }
-    true
+    same
 }
 
 // Is b the image of a table that keeps the rules?
