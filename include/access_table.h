@@ -1,0 +1,83 @@
+/*
+ * The replicated access table: one call of the static library capi.
+ *
+ * `rt staticlib capi` proves the library and writes target/staticlib/libcapi.a
+ * (x86-64; it needs nothing but the C library). What is proved of the call is
+ * the definition accessRun in crates/capi/specs/Access.antt: the number that
+ * it returns and every byte of every lent buffer, as a function of all that it
+ * is given. The words below say the same.
+ *
+ * What the proof does not cover, and a caller in C owes:
+ *
+ * - every pointer is valid for its length, not null and aligned, even where
+ *   the length is 0;
+ * - no lent buffer (answers, image_out, lengths) overlaps another one or an
+ *   input. image and schedule are only read, and may overlap each other;
+ * - nobody else writes to any of the five, or reads a lent one, during the
+ *   call;
+ * - this declaration itself: nothing holds it against the Rattle source.
+ *
+ * Nothing is kept between two calls, so calls on different buffers may run at
+ * the same time. A call uses a few hundred kilobytes of stack, and no heap.
+ */
+#ifndef ACCESS_TABLE_H
+#define ACCESS_TABLE_H
+
+#include <stddef.h>
+#include <stdint.h>
+
+#ifdef __cplusplus
+extern "C" {
+#endif
+
+/* The longest schedule, in bytes. A longer one is refused with 14. */
+#define ACCESS_MAX_SCHEDULE 65536
+
+/* The largest image: 37 blocks of 512 bytes. An image_out of this length is
+ * never too short. */
+#define ACCESS_MAX_IMAGE 18944
+
+/* The answers to a schedule of S bytes are never longer than this: an empty
+ * line is 1 byte and its answer 5, no line is answered with more for each of
+ * its bytes, and at most 64 * 7 held writes that came with the image may be
+ * listed besides, 8 bytes each. (Counted by hand, and not a part of what is
+ * proved. An `answers` that is too short is refused, whatever its length.) */
+#define ACCESS_ANSWERS_BOUND(S) (5 * (S) + 3584)
+
+/* The numbers that access_run returns. */
+#define ACCESS_DONE 0
+/* The image's length is not a multiple of 512, or a block check is wrong. */
+#define ACCESS_DAMAGED 12
+/* The image breaks another rule. */
+#define ACCESS_BROKEN 13
+/* The schedule is longer than ACCESS_MAX_SCHEDULE, or answers, image_out or
+ * lengths is too short. */
+#define ACCESS_SHORT 14
+
+/*
+ * From the table in `image` (image_len 0: no table yet) runs the schedule
+ * text, one step to a line, and writes
+ *
+ * - to the front of `answers` one answer line for each line of the schedule;
+ * - to the front of `image_out` the image of the table after it, or nothing if
+ *   there is no table;
+ * - to lengths[0] and lengths[1] how many bytes it wrote to each (0 for the
+ *   image if there is no table). lengths_len counts numbers, and is at least 2.
+ *
+ * What lies behind these bytes, and behind the two numbers, stays.
+ *
+ * Returns 0, or the refusal: 12 or 13 for the image, and then 14. On a refusal
+ * every lent buffer is as found. A refused line is no refusal of the call: its
+ * answer is `E` and its number, and the run goes on behind it.
+ */
+uint64_t access_run(const uint8_t *image, size_t image_len,
+                    const uint8_t *schedule, size_t schedule_len,
+                    uint8_t *answers, size_t answers_len,
+                    uint8_t *image_out, size_t image_out_len,
+                    uint64_t *lengths, size_t lengths_len);
+
+#ifdef __cplusplus
+}
+#endif
+
+#endif

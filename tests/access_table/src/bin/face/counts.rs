@@ -1,0 +1,195 @@
+//! What a run consisted of, so that an empty test is seen.
+
+use crate::calls::Tally;
+use crate::images::Way;
+use evidence::gen::Kind;
+use std::collections::BTreeMap;
+
+/// The classes of answer lines.
+const ANSWERS: [&str; 21] = [
+    "N",
+    "R set",
+    "R -",
+    "W",
+    "H",
+    "A one",
+    "A more",
+    "T yes",
+    "T no",
+    "T unknown",
+    "E 1",
+    "E 2",
+    "E 3",
+    "E 4",
+    "E 5",
+    "E 6",
+    "E 7",
+    "E 8",
+    "E 9",
+    "E 10",
+    "E 11",
+];
+
+/// All that is counted.
+#[derive(Clone, Debug, Default)]
+pub struct Counts {
+    /// Schedules of each kind.
+    pub kinds: BTreeMap<&'static str, usize>,
+    /// Pieces run, and lines in those that were accepted.
+    pub pieces: usize,
+    pub lines: usize,
+    /// Answer lines of each class.
+    pub answers: [usize; ANSWERS.len()],
+    /// Runs whose answers were checked by the definition of causal order.
+    pub causal: usize,
+    /// Accepted pieces that began with no table, and from an image.
+    pub from_nothing: usize,
+    pub from_image: usize,
+    /// Images between two pieces with a held write, and with 64 open.
+    pub held_carried: usize,
+    pub full_carried: usize,
+    /// Writes that were held in an image and applied in the piece behind it.
+    pub released: usize,
+    /// Pieces of 65,536 bytes, of 65,537, and longer ones.
+    pub longest: usize,
+    pub one_over: usize,
+    pub over: usize,
+    /// Images by verdict: 12, 13, accepted.
+    pub damaged: usize,
+    pub broken: usize,
+    pub accepted: usize,
+    /// Damaged images whose checks are all right.
+    pub checks_right: usize,
+    /// Images of each way.
+    pub ways: BTreeMap<String, usize>,
+    /// Calls, by what was lent.
+    pub calls: Tally,
+}
+
+impl Counts {
+    /// Counts answer lines.
+    pub fn answers(&mut self, text: &[u8]) {
+        for line in text.split_inclusive(|&b| b == b'\n') {
+            self.lines += 1;
+            if let Some(class) = class(line) {
+                self.answers[class] += 1;
+            }
+        }
+    }
+
+    /// All schedules.
+    pub fn schedules(&self) -> usize {
+        self.kinds.values().sum()
+    }
+
+    /// All images.
+    pub fn images(&self) -> usize {
+        self.damaged + self.broken + self.accepted
+    }
+
+    /// The classes that were not met, and have to be in a run of full length.
+    pub fn missing(&self) -> Vec<String> {
+        let mut missing: Vec<String> = Vec::new();
+        let answers = ANSWERS.iter().zip(self.answers);
+        missing.extend((answers.filter(|a| a.1 == 0)).map(|a| format!("an answer {}", a.0)));
+        let kinds = Kind::ALL.iter().map(|k| k.name());
+        missing
+            .extend((kinds.filter(|k| !self.kinds.contains_key(k))).map(|k| format!("kind {k}")));
+        let ways = Way::all().map(|w| w.to_string());
+        missing.extend((ways.filter(|w| !self.ways.contains_key(w))).map(|w| format!("way {w}")));
+        let counted = [
+            ("a piece from no table", self.from_nothing),
+            ("a piece from an image", self.from_image),
+            ("a held write carried over a reload", self.held_carried),
+            ("a held write applied after a reload", self.released),
+            ("64 open writes carried over a reload", self.full_carried),
+            ("a schedule of 65,536 bytes", self.longest),
+            ("a schedule of 65,537 bytes", self.one_over),
+            ("a longer schedule", self.over),
+            ("a run checked for causal order", self.causal),
+            ("an image refused with 12", self.damaged),
+            ("an image refused with 13", self.broken),
+            ("an accepted image", self.accepted),
+            ("room to the byte", self.calls.exact),
+            ("answers one short", self.calls.short_answers),
+            ("image_out one short", self.calls.short_image),
+            ("lengths one short", self.calls.short_lengths),
+            ("longer buffers", self.calls.longer),
+        ];
+        missing.extend((counted.iter().filter(|c| c.1 == 0)).map(|c| c.0.to_string()));
+        missing
+    }
+
+    /// The counts in detail, a line to a subject.
+    pub fn detail(&self) -> String {
+        let list = |pairs: Vec<(String, usize)>| -> String {
+            let pairs: Vec<String> = pairs.iter().map(|(n, c)| format!("{n} {c}")).collect();
+            pairs.join(", ")
+        };
+        let kinds = self.kinds.iter().map(|(k, c)| (k.to_string(), *c));
+        let answers = ANSWERS.iter().zip(self.answers);
+        let answers = answers.map(|(a, c)| (a.to_string(), c));
+        let fewest = self.ways.iter().min_by_key(|w| w.1);
+        let (fewest, count) = fewest.map_or(("none", 0), |(way, count)| (way, *count));
+        let c = &self.calls;
+        format!(
+            "schedules: {}\n\
+             answers: {}\n\
+             reloads: {} pieces from no table, {} from an image; {} images with a held write, {} such writes applied behind it, {} images with 64 open\n\
+             sizes: {} pieces of 65,536 bytes, {} of 65,537, {} longer\n\
+             calls: {}; {} with room to the byte, {} longer, one short: {} answers, {} image_out, {} lengths\n\
+             images: {} damaged with checks right; {} ways, fewest {} ({})",
+            list(kinds.collect()),
+            list(answers.collect()),
+            self.from_nothing,
+            self.from_image,
+            self.held_carried,
+            self.released,
+            self.full_carried,
+            self.longest,
+            self.one_over,
+            self.over,
+            c.all(),
+            c.exact,
+            c.longer,
+            c.short_answers,
+            c.short_image,
+            c.short_lengths,
+            self.checks_right,
+            self.ways.len(),
+            fewest,
+            count,
+        )
+    }
+
+    /// The counts in one line.
+    pub fn line(&self) -> String {
+        format!(
+            "{} schedules in {} pieces, {} lines ({} runs by the definition of causal order); {} images: {} refused with 12, {} with 13, {} accepted",
+            self.schedules(),
+            self.pieces,
+            self.lines,
+            self.causal,
+            self.images(),
+            self.damaged,
+            self.broken,
+            self.accepted
+        )
+    }
+}
+
+/// The class of an answer line.
+fn class(line: &[u8]) -> Option<usize> {
+    let line = line.strip_suffix(b"\n")?;
+    let name = match line {
+        b"N" => "N",
+        b"R -" => "R -",
+        [b'R', ..] => "R set",
+        [b'W', ..] => "W",
+        [b'H', ..] => "H",
+        [b'A', names @ ..] if names.iter().filter(|&&b| b == b' ').count() > 1 => "A more",
+        [b'A', ..] => "A one",
+        other => std::str::from_utf8(other).ok()?,
+    };
+    ANSWERS.iter().position(|class| *class == name)
+}

@@ -1,0 +1,162 @@
+//! Holds `access_run`, as it is linked, against the independent implementation:
+//! `face [--runs N] [--seed S]`.
+//!
+//! - N generated schedules, cut at line ends into 1 to 6 pieces, the image
+//!   carried from call to call: the number, the answers, the image and the two
+//!   lengths of every piece; the answers together, as `replay` has them and by
+//!   the definition of causal order.
+//! - Lent buffers to the byte, one short (refused, and as found) and longer.
+//! - 1.3 N images, damaged in every way, worn or odd: the verdict, and a run
+//!   that goes on from what is accepted.
+//! - The wrapper's own functions beside the bare call.
+//!
+//! A difference is printed with the shortest schedule and the fewest bytes
+//! that still show it; the exit status is then 1. From 1,000 runs on it is 1
+//! too if a class of input that has to be met was not.
+
+mod calls;
+mod counts;
+mod images;
+mod pieces;
+mod wrapper;
+#[cfg(test)]
+mod wrong;
+
+use access_table::raw::access_run;
+use calls::Call;
+use counts::Counts;
+use evidence::gen::{schedule, Kind, Rng};
+use images::{Sample, Way};
+use pieces::{Case, Depth};
+use std::process::ExitCode;
+
+/// A run of at least this length has to meet every class.
+const FULL: usize = 1_000;
+
+fn main() -> ExitCode {
+    let args: Vec<String> = std::env::args().skip(1).collect();
+    let Some((runs, seed)) = options(&args) else {
+        eprintln!("usage: face [--runs N] [--seed S]");
+        return ExitCode::from(2);
+    };
+    let mut counts = Counts::default();
+    if let Err(report) = all(access_run, [runs, runs * 13 / 10], seed, &mut counts) {
+        eprint!("{report}");
+        return ExitCode::FAILURE;
+    }
+    println!("{}", counts.detail());
+    let missing = counts.missing();
+    if runs >= FULL && !missing.is_empty() {
+        eprintln!("not met: {}", missing.join(", "));
+        return ExitCode::FAILURE;
+    }
+    println!("{}: no difference", counts.line());
+    ExitCode::SUCCESS
+}
+
+/// The two options; each may be left out.
+fn options(args: &[String]) -> Option<(usize, u64)> {
+    let (mut runs, mut seed) = (2_000, 1);
+    for pair in args.chunks(2) {
+        match pair {
+            [option, value] if option == "--runs" => runs = value.parse().ok()?,
+            [option, value] if option == "--seed" => seed = value.parse().ok()?,
+            _ => return None,
+        }
+    }
+    Some((runs, seed))
+}
+
+/// All schedules and all images; what is wrong, to be read.
+fn all(
+    call: Call,
+    [schedules, images]: [usize; 2],
+    seed: u64,
+    counts: &mut Counts,
+) -> Result<(), String> {
+    for run in 0..schedules {
+        one_schedule(call, run, seed, counts)?;
+        progress(run + 1, schedules, counts);
+    }
+    let ways: Vec<Way> = Way::all().collect();
+    for at in 0..images {
+        let seed = seed.wrapping_add(at as u64);
+        one_image(call, ways[at % ways.len()], seed, counts)?;
+        progress(at + 1, images, counts);
+    }
+    Ok(())
+}
+
+fn progress(done: usize, of: usize, counts: &Counts) {
+    if done.is_multiple_of(500) && done < of {
+        eprintln!("{}, no difference so far", counts.line());
+    }
+}
+
+/// A generated schedule in pieces.
+fn one_schedule(call: Call, run: usize, seed: u64, counts: &mut Counts) -> Result<(), String> {
+    let kind = Kind::ALL[run % Kind::ALL.len()];
+    let seed = seed.wrapping_add(run as u64);
+    let text = schedule(seed, kind, 20 + run % 400);
+    let mut rng = Rng::new(seed ^ 0xface_0000_0000_0000);
+    // Half of those that go by their size are left whole.
+    let whole = kind == Kind::Size && rng.chance(1, 2);
+    let case = Case::cut(Vec::new(), &text, if whole { 1 } else { 6 }, &mut rng);
+    *counts.kinds.entry(kind.name()).or_default() += 1;
+    let depth = Depth::One(rng.below(case.pieces.len()));
+    let held = pieces::hold(call, &case, depth, counts).and_then(|()| wrapper::hold(&case));
+    held.map_err(|fault| {
+        let short = case.shortest(&|case| fault_of(call, case));
+        let now = fault_of(call, &short).unwrap_or_default();
+        let kind = kind.name();
+        format!(
+            "a difference at run {run} (kind {kind}, schedule seed {seed}): {fault}\n\
+             the shortest schedule that shows one: {now}\n{}",
+            short.show()
+        )
+    })
+}
+
+/// An image, and a run from it.
+fn one_image(call: Call, way: Way, seed: u64, counts: &mut Counts) -> Result<(), String> {
+    let sample = Sample::new(way, seed);
+    sample.count(counts);
+    let held = images::hold(call, &sample.image, counts);
+    held.and_then(|()| wrapper::hold_image(&sample.image))
+        .map_err(|fault| verdict_report(call, &sample, &fault))?;
+    let case = sample.going_on(20 + (seed % 60) as usize);
+    let held = images::hold_going_on(call, &case, counts).and_then(|()| wrapper::hold(&case));
+    held.map_err(|fault| {
+        let short = case.shortest(&|case| fault_of(call, case));
+        let now = fault_of(call, &short).unwrap_or_default();
+        format!(
+            "a difference behind {} image of: {fault}\n{}\
+             the shortest schedule that shows one: {now}\n{}",
+            if case.start == sample.image {
+                "the"
+            } else {
+                "the good"
+            },
+            sample.show(),
+            short.show()
+        )
+    })
+}
+
+fn verdict_report(call: Call, sample: &Sample, fault: &str) -> String {
+    let fault_of = |image: &[u8]| {
+        let held = images::hold(call, image, &mut Counts::default());
+        held.and_then(|()| wrapper::hold_image(image)).err()
+    };
+    let short = sample.shortest(&fault_of);
+    format!(
+        "a difference in the verdict on an image: {fault}\nthe fewest bytes that show one:\n{}",
+        short.show()
+    )
+}
+
+/// What is wrong with a case, if anything is, with every sort of buffer.
+fn fault_of(call: Call, case: &Case) -> Option<String> {
+    let held = pieces::hold(call, case, Depth::All, &mut Counts::default());
+    held.and_then(|()| wrapper::hold(case)).err()
+}

@@ -1,0 +1,304 @@
+//! Deliberately wrong libraries. The program has to see each of them, and to
+//! show it in few lines or bytes; and to find nothing wrong with the right one.
+
+use crate::all;
+use crate::calls::{Call, Expect};
+use crate::counts::Counts;
+use crate::images::put_checks_right;
+use crate::pieces::expected;
+use evidence::image::{self, block_count, BLOCK, OPEN_BYTES, OPEN_PER_BLOCK, PAYLOAD};
+use evidence::table::Table;
+use evidence::text::{Session, MAX_INPUT};
+use evidence::Refusal;
+
+#[derive(Clone, Copy, Debug, PartialEq, Eq)]
+enum Wrong {
+    Nothing,
+    // Refusals that leave something.
+    AnswersBefore14,
+    ImageBefore14,
+    LengthsBefore14,
+    AnswersBefore13,
+    // Lengths.
+    ImageLength,
+    AnswersLength,
+    LengthsInOne,
+    AnswersTail,
+    ImageTail,
+    LengthsTail,
+    RoomToSpare,
+    // The schedule's length, and the order of refusals.
+    OneByteLess,
+    OneByteMore,
+    LongBeforeImage,
+    ShortBeforeImage,
+    // Answers.
+    UnsetIsYes,
+    LastNameMissing,
+    NoLfIsRun,
+    // What goes with the image.
+    HeldLost,
+    ClockLost,
+    NoTableKept,
+    // The image's verdict.
+    Always13,
+    OpenOrder,
+    HeadByte,
+    HeldReady,
+    OneBlockMore,
+    Refuses65535,
+}
+
+/// `access_run` over the independent implementation, wrong in one way.
+fn run(
+    wrong: Wrong,
+    image: &[u8],
+    schedule: &[u8],
+    answers: &mut [u8],
+    image_out: &mut [u8],
+    lengths: &mut [u64],
+) -> u64 {
+    if wrong == Wrong::LongBeforeImage && schedule.len() > MAX_INPUT {
+        return 14;
+    }
+    if wrong == Wrong::ShortBeforeImage && lengths.len() < 2 {
+        return 14;
+    }
+    let mut session = match start(wrong, image) {
+        Ok(session) => session,
+        Err(number) => {
+            if wrong == Wrong::AnswersBefore13 && number == 13 && !answers.is_empty() {
+                answers[0] = 0;
+            }
+            return number;
+        }
+    };
+    let text = match (wrong, schedule.len()) {
+        (Wrong::OneByteLess, MAX_INPUT) => return 14,
+        (Wrong::OneByteMore, over) if over == MAX_INPUT + 1 => &schedule[..MAX_INPUT],
+        _ => schedule,
+    };
+    let text = match (wrong, text.last()) {
+        (Wrong::NoLfIsRun, Some(last)) if *last != b'\n' => [text, b"\n"].concat(),
+        _ => text.to_vec(),
+    };
+    let (mut found, mut after) = match expected(&mut session, &text) {
+        Expect::Refused(number) => return number,
+        Expect::Done { answers, image } => (answers, image),
+    };
+    spoil(wrong, &mut found, &mut after);
+    write(wrong, &found, &after, [answers, image_out], lengths)
+}
+
+/// The session that an image gives.
+fn start(wrong: Wrong, image: &[u8]) -> Result<Session, u64> {
+    if image.is_empty() {
+        return Ok(Session::new());
+    }
+    let table = match (image::load(image), wrong) {
+        (Ok(table), Wrong::Refuses65535) if spent(&table) => return Err(13),
+        (Ok(table), _) => table,
+        (Err(Refusal::ImageDamaged), Wrong::Always13) => return Err(13),
+        (Err(refusal), _) => {
+            let mended = mend(wrong, image).and_then(|image| image::load(&image).ok());
+            mended.ok_or(u64::from(refusal.number()))?
+        }
+    };
+    Ok(Session::with_table(table))
+}
+
+fn spent(table: &Table) -> bool {
+    let desks = 1..=u16::from(table.desks());
+    desks
+        .filter_map(|desk| table.applied(desk).ok())
+        .any(|counts| counts.contains(&u16::MAX))
+}
+
+/// Wrong answers, and wrong images behind them.
+fn spoil(wrong: Wrong, answers: &mut Vec<u8>, image: &mut Vec<u8>) {
+    let mut lines: Vec<Vec<u8>> = answers
+        .split_inclusive(|&b| b == b'\n')
+        .map(<[u8]>::to_vec)
+        .collect();
+    for line in &mut lines {
+        let names = line.iter().filter(|&&b| b == b' ').count();
+        if wrong == Wrong::UnsetIsYes && line == b"T unknown\n" {
+            *line = b"T yes\n".to_vec();
+        }
+        if wrong == Wrong::LastNameMissing && line[0] == b'A' && names > 2 {
+            let last = line.iter().rposition(|&b| b == b' ').unwrap_or_default();
+            line.truncate(last);
+            line.push(b'\n');
+        }
+    }
+    *answers = lines.concat();
+    if image.is_empty() {
+        if wrong == Wrong::NoTableKept {
+            *image = image::to_vec(&Table::new(1, 1).unwrap()).unwrap();
+        }
+        return;
+    }
+    let n = usize::from(image[PAYLOAD]);
+    match wrong {
+        Wrong::HeldLost => {
+            for at in open_writes(image) {
+                for mark in &mut image[at + 20..at + 28] {
+                    *mark &= 2;
+                }
+            }
+        }
+        Wrong::ClockLost => {
+            for desk in 0..n {
+                let at = (1 + desk) * BLOCK + PAYLOAD + 20;
+                let own = [image[at + 2 * desk], image[at + 2 * desk + 1]];
+                image[at..at + 16].fill(0);
+                image[at + 2 * desk..][..2].copy_from_slice(&own);
+            }
+        }
+        _ => return,
+    }
+    put_checks_right(image);
+}
+
+/// Puts what a call gives into its buffers.
+fn write(
+    wrong: Wrong,
+    found: &[u8],
+    after: &[u8],
+    [answers, image_out]: [&mut [u8]; 2],
+    lengths: &mut [u64],
+) -> u64 {
+    let spare = usize::from(wrong == Wrong::RoomToSpare);
+    if wrong == Wrong::ImageBefore14 && image_out.len() >= after.len() {
+        image_out[..after.len()].copy_from_slice(after);
+    }
+    if wrong == Wrong::LengthsBefore14 && lengths.len() >= 2 {
+        lengths[1] = after.len() as u64;
+    }
+    if wrong == Wrong::LengthsInOne && lengths.len() == 1 {
+        lengths[0] = found.len() as u64;
+    }
+    if answers.len() < found.len() {
+        if wrong == Wrong::AnswersBefore14 && !answers.is_empty() {
+            answers[0] = found[0];
+        }
+        return 14;
+    }
+    if image_out.len() < after.len() + spare || lengths.len() < 2 {
+        return 14;
+    }
+    answers[..found.len()].copy_from_slice(found);
+    image_out[..after.len()].copy_from_slice(after);
+    lengths[0] = (found.len() + usize::from(wrong == Wrong::AnswersLength)) as u64;
+    lengths[1] = (after.len() + usize::from(wrong == Wrong::ImageLength)) as u64;
+    match wrong {
+        Wrong::AnswersTail => answers[found.len()..].fill(0),
+        Wrong::ImageTail => image_out[after.len()..].fill(0),
+        Wrong::LengthsTail => lengths[2..].fill(0),
+        _ => {}
+    }
+    0
+}
+
+/// The places of the open writes of an image, if it has room for as many as it
+/// says.
+fn open_writes(image: &[u8]) -> Vec<usize> {
+    let [n, m, open] = [4, 5, 6].map(|at| usize::from(image[at]));
+    let first = block_count(n, m, 0);
+    if image.len() != block_count(n, m, open) * BLOCK {
+        return Vec::new();
+    }
+    let place = |j: usize| {
+        let block = first + j / OPEN_PER_BLOCK;
+        block * BLOCK + PAYLOAD + j % OPEN_PER_BLOCK * OPEN_BYTES
+    };
+    (0..open).map(place).collect()
+}
+
+/// The image that a wrong library takes a broken one for.
+fn mend(wrong: Wrong, image: &[u8]) -> Option<Vec<u8>> {
+    if image.is_empty()
+        || !image.len().is_multiple_of(BLOCK)
+        || image::load(image) != Err(Refusal::RuleBroken)
+    {
+        return None;
+    }
+    let mut image = image.to_vec();
+    let opens = open_writes(&image);
+    match wrong {
+        Wrong::OpenOrder => {
+            let write = |&at: &usize| image[at..at + OPEN_BYTES].to_vec();
+            let mut list: Vec<Vec<u8>> = opens.iter().map(write).collect();
+            list.sort_by_key(|write| {
+                let own = 4 + 2 * usize::from(write[0].clamp(1, 8) - 1);
+                (write[0], u16::from_le_bytes([write[own], write[own + 1]]))
+            });
+            for (at, write) in opens.into_iter().zip(list) {
+                image[at..at + OPEN_BYTES].copy_from_slice(&write);
+            }
+        }
+        Wrong::HeadByte => image[PAYLOAD + 3..508].fill(0),
+        Wrong::HeldReady => {
+            for at in opens {
+                for mark in 20..28 {
+                    let mut without = image.clone();
+                    without[at + mark] &= 2;
+                    put_checks_right(&mut without);
+                    if image::load(&without).is_ok() {
+                        return Some(without);
+                    }
+                }
+            }
+        }
+        Wrong::OneBlockMore => {
+            let [n, m, open] = [4, 5, 6].map(|at| usize::from(image[at]));
+            image.truncate(block_count(n, m, open) * BLOCK);
+        }
+        _ => return None,
+    }
+    put_checks_right(&mut image);
+    Some(image)
+}
+
+/// Each wrong library, with how many schedules and images it is tried on.
+macro_rules! libraries {
+    ($($wrong:ident $sizes:expr;)*) => {
+        [$((Wrong::$wrong, (|i, s, a, o, l| run(Wrong::$wrong, i, s, a, o, l)) as Call, $sizes)),*]
+    };
+}
+
+#[test]
+fn the_right_library_passes() {
+    let right: Call = |i, s, a, o, l| run(Wrong::Nothing, i, s, a, o, l);
+    let mut counts = Counts::default();
+    all(right, [140, 240], 5, &mut counts).unwrap();
+    assert_eq!((counts.schedules(), counts.images()), (140, 240));
+    assert!(!Counts::default().missing().is_empty());
+}
+
+#[test]
+fn every_wrong_library_is_caught_and_shown_in_short() {
+    let (texts, images) = ([140, 0], [0, 600]);
+    let libraries = libraries![
+        AnswersBefore14 texts; ImageBefore14 texts; LengthsBefore14 texts; AnswersBefore13 images;
+        ImageLength texts; AnswersLength texts; LengthsInOne texts; AnswersTail texts;
+        ImageTail texts; LengthsTail texts; RoomToSpare texts; OneByteLess texts;
+        OneByteMore texts; LongBeforeImage images; ShortBeforeImage images; UnsetIsYes texts;
+        LastNameMissing texts; NoLfIsRun texts; HeldLost texts; ClockLost texts;
+        NoTableKept texts; Always13 images; OpenOrder images; HeadByte images; HeldReady images;
+        OneBlockMore images; Refuses65535 images;
+    ];
+    for (wrong, library, sizes) in libraries {
+        let Err(report) = all(library, sizes, 1, &mut Counts::default()) else {
+            panic!("{wrong:?} was not caught");
+        };
+        println!("{wrong:?}: {report}");
+        let lines = report.lines().filter(|l| l.starts_with("    ")).count();
+        let most = match wrong {
+            // Nothing shorter than the limit shows these.
+            Wrong::OneByteLess | Wrong::OneByteMore => usize::MAX,
+            _ => 12,
+        };
+        assert!(lines <= most, "{wrong:?} takes {lines} lines:\n{report}");
+    }
+}

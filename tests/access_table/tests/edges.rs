@@ -1,0 +1,154 @@
+//! Lengths at their edges: buffers, schedules, answers, images.
+
+use access_table::{
+    answers_bound, raw, run, run_into, Lengths, Refusal, Run, Table, BLOCK, MAX_IMAGE, MAX_SCHEDULE,
+};
+use evidence::gen::{odd_image, schedule_from, worn_image};
+use evidence::image::{check_of, load};
+use evidence::text::{replay_in, Session};
+
+/// 8 desks, 64 cells, 64 open writes.
+fn largest() -> Table {
+    let mut table = Table::new();
+    let writes: String = (1..=64)
+        .map(|x| format!("W {} {x} {}\n", x % 8 + 1, x % 3))
+        .collect();
+    let answers = table.run(format!("N 8 64\n{writes}").as_bytes()).unwrap();
+    assert!(answers.ends_with(b"W 1.8\n"));
+    assert_eq!(table.run(b"W 1 1 1\n").unwrap(), b"E 5\n");
+    table
+}
+
+#[test]
+fn the_largest_image() {
+    let table = largest();
+    let image = table.image().unwrap();
+    assert_eq!((image.len(), MAX_IMAGE), (18_944, 18_944));
+    assert_eq!(Table::load(image).unwrap(), table);
+}
+
+#[test]
+fn the_smallest_image() {
+    let image = run(None, b"N 1 1\n").unwrap().image.unwrap();
+    assert_eq!(image.len(), 3 * BLOCK);
+    assert_eq!(image[508..512], [15, 0, 0, 0]);
+}
+
+/// More blocks than any image has: all checks are tested before the rules.
+#[test]
+fn far_too_many_blocks() {
+    let mut image = largest().into_image().unwrap();
+    for place in 37..200u16 {
+        let mut block = [0; BLOCK];
+        block[..4].copy_from_slice(&[4, 1, place as u8, 0]);
+        let check = check_of(&block);
+        block[508..].copy_from_slice(&check.to_le_bytes());
+        image.extend(block);
+    }
+    assert_eq!(run(Some(&image), b""), Err(Refusal::Broken));
+    *image.last_mut().unwrap() ^= 1;
+    assert_eq!(run(Some(&image), b""), Err(Refusal::Damaged));
+}
+
+/// 65,536 bytes are run and 65,537 are not; and the bound on answers is met.
+#[test]
+fn the_longest_schedule() {
+    let image = largest().into_image().unwrap();
+    let lines = vec![b'\n'; MAX_SCHEDULE + 1];
+    for image in [None, Some(&image[..])] {
+        let all = run(image, &lines[1..]).unwrap();
+        assert_eq!(all.answers, b"E 10\n".repeat(MAX_SCHEDULE));
+        assert_eq!(all.image.as_deref(), image);
+        assert_eq!(run(image, &lines), Err(Refusal::Short));
+    }
+    assert_eq!(answers_bound(MAX_SCHEDULE), 5 * MAX_SCHEDULE + 3_584);
+}
+
+/// All that came held with the image is listed at once, and fits the bound.
+#[test]
+fn held_writes_of_an_image_are_listed() {
+    let mut table = Table::new();
+    let mut text = String::from("N 2 1\n");
+    text.extend((0..64).map(|_| "W 1 1 1\n"));
+    text.extend((2..=64).map(|k| format!("D 2 1 {k}\n")));
+    table.run(text.as_bytes()).unwrap();
+    let answers = table.run(b"D 2 1 1\n").unwrap();
+    let names: String = (1..=64).map(|k| format!(" 1.{k}")).collect();
+    assert_eq!(answers, format!("A{names}\n").as_bytes());
+    assert!(answers.len() > 5 * 8 && answers.len() <= answers_bound(8));
+}
+
+/// Tables that no schedule gives go on as the independent implementation does,
+/// and within the bound.
+#[test]
+fn worn_and_odd_tables_within_the_bound() {
+    for seed in 0..60 {
+        for image in [worn_image(seed), odd_image(seed)] {
+            let table = load(&image).unwrap();
+            let text = schedule_from(&table, seed, 150);
+            let expected = replay_in(Session::with_table(table), &text);
+            let found = run(Some(&image), &text).unwrap();
+            assert!(found.answers == expected, "seed {seed}");
+            assert!(found.answers.len() <= answers_bound(text.len()));
+        }
+    }
+}
+
+/// Just enough room, and more: what lies behind stays.
+#[test]
+fn room_to_the_byte_and_more() {
+    let schedule = b"N 3 26\nW 2 26 1\nR 2 26\nx";
+    let Run { answers, image } = run(None, schedule).unwrap();
+    let image = image.unwrap();
+    assert_eq!(answers, b"N\nW 2.1\nR 1 2.1\nE 10\n");
+    let told = Lengths {
+        answers: answers.len(),
+        image: image.len(),
+    };
+    for more in [0, 1, 700] {
+        let mut out = vec![9; answers.len() + more];
+        let mut after = vec![8; image.len() + more];
+        assert_eq!(run_into(None, schedule, &mut out, &mut after), Ok(told));
+        assert_eq!(out[..answers.len()], answers);
+        assert_eq!(after[..image.len()], image);
+        assert!(out[answers.len()..].iter().all(|&b| b == 9));
+        assert!(after[image.len()..].iter().all(|&b| b == 8));
+    }
+    let mut lengths = [7; 5];
+    let (mut out, mut after) = (vec![9; 64], vec![8; MAX_IMAGE]);
+    let number = raw::access_run(b"", schedule, &mut out, &mut after, &mut lengths);
+    let told = [answers.len() as u64, image.len() as u64, 7, 7, 7];
+    assert_eq!((number, lengths), (0, told));
+}
+
+/// No table: nothing is written for the image, not even into no room.
+#[test]
+fn no_table_no_image() {
+    let mut answers = [3; 12];
+    let told = Lengths {
+        answers: 10,
+        image: 0,
+    };
+    let found = run_into(None, b"N 9 1\nR 1 1\n", &mut answers, &mut []);
+    assert_eq!(found, Ok(told));
+    assert_eq!(&answers, b"E 11\nE 10\n\x03\x03");
+    let mut lengths = [7; 2];
+    assert_eq!(raw::access_run(&[], &[], &mut [], &mut [], &mut lengths), 0);
+    assert_eq!(lengths, [0, 0]);
+}
+
+/// Nothing is kept between calls, so many may run at a time.
+#[test]
+fn several_threads() {
+    let expected = run(None, b"N 2 2\nW 1 2 1\nD 2 1 1\n").unwrap();
+    std::thread::scope(|scope| {
+        for _ in 0..4 {
+            scope.spawn(|| {
+                for _ in 0..50 {
+                    let found = run(None, b"N 2 2\nW 1 2 1\nD 2 1 1\n").unwrap();
+                    assert_eq!(found, expected);
+                }
+            });
+        }
+    });
+}
