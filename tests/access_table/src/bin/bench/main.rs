@@ -25,7 +25,10 @@ fn main() -> ExitCode {
         ["calls", side, what, size, n] => calls(side, what, size, n),
         ["time"] => time(),
         ["plot", figures, picture, unit] => plot::draw(figures, picture, unit),
-        _ => Err("usage: bench points | calls SIDE WHAT SIZE N | time | plot FIGURES PICTURE UNIT".into()),
+        _ => Err(
+            "usage: bench points | calls SIDE WHAT SIZE N | time | plot FIGURES PICTURE UNIT"
+                .into(),
+        ),
     };
     match done {
         Ok(()) => ExitCode::SUCCESS,

@@ -30,14 +30,17 @@ impl Side {
 
 /// What grows, and the sizes at which it is measured.
 pub fn points() -> Vec<(&'static str, usize)> {
-    let sizes: [(&'static str, &[usize]); 5] = [
+    let sizes: [(&'static str, &[usize]); 6] = [
         ("lines", &[0, 500, 1000, 2000, 3000, 4000, 5000, 6000]),
         ("desks", &[1, 2, 3, 4, 5, 6, 7, 8]),
         ("open", &[0, 8, 16, 24, 32, 40, 48, 56, 63]),
+        ("open+load", &[0, 8, 16, 24, 32, 40, 48, 56, 63]),
         ("load", &[0, 16, 32, 48, 64]),
         ("load+save", &[0, 16, 32, 48, 64]),
     ];
-    let each = |(what, sizes): (&'static str, &'static [usize])| sizes.iter().map(move |size| (what, *size));
+    let each = |(what, sizes): (&'static str, &'static [usize])| {
+        sizes.iter().map(move |size| (what, *size))
+    };
     sizes.into_iter().flat_map(each).collect()
 }
 
@@ -55,11 +58,15 @@ impl Task {
         let (image, schedule) = match what {
             "lines" => (Vec::new(), traffic(8, size)),
             "desks" => (Vec::new(), traffic(size, 2000)),
-            "open" => undelivered(size),
+            "open" => (Vec::new(), [undelivered(size), delivered(size)].concat()),
+            "open+load" => (saved(&undelivered(size)), delivered(size)),
             "load" | "load+save" => (largest(size), Vec::new()),
             _ => return None,
         };
-        assert!(schedule.len() <= MAX_SCHEDULE, "the schedule of {what} {size} is too long");
+        assert!(
+            schedule.len() <= MAX_SCHEDULE,
+            "the schedule of {what} {size} is too long"
+        );
         Some(Task {
             answers: vec![0; answers_bound(schedule.len())],
             image_out: vec![0; MAX_IMAGE],
@@ -78,8 +85,18 @@ impl Task {
 
     fn proved(&mut self) {
         let mut lengths = [0; 2];
-        let lent = if self.only_load { &mut lengths[..0] } else { &mut lengths[..] };
-        let number = raw::access_run(&self.image, &self.schedule, &mut self.answers, &mut self.image_out, lent);
+        let lent = if self.only_load {
+            &mut lengths[..0]
+        } else {
+            &mut lengths[..]
+        };
+        let number = raw::access_run(
+            &self.image,
+            &self.schedule,
+            &mut self.answers,
+            &mut self.image_out,
+            lent,
+        );
         assert_eq!(number, if self.only_load { 14 } else { 0 });
         black_box(&self.answers);
     }
@@ -114,16 +131,26 @@ fn traffic(desks: usize, lines: usize) -> Vec<u8> {
     text
 }
 
-/// A table of 3 desks where so many writes of desk 2 have yet to reach desk 3, and a schedule that leaves them so: 500 times desk 1
-/// writes and both others apply it.
-fn undelivered(count: usize) -> (Vec<u8>, Vec<u8>) {
-    let mut table = Table::new(3, 4).expect("a table");
-    for _ in 0..count {
-        let name = table.write(2, 1, 1).expect("a write");
-        table.deliver(1, 2, name.number).expect("a delivery");
+/// A table of 3 desks where so many writes of desk 2 have yet to reach desk 3.
+fn undelivered(count: usize) -> Vec<u8> {
+    let lines = (1..=count).map(|k| format!("W 2 1 1\nD 1 2 {k}\n"));
+    format!("N 3 4\n{}", lines.collect::<String>()).into_bytes()
+}
+
+/// Again and again desk 1 writes and both others apply it, which leaves those open; with the lines above 1,500 in all.
+fn delivered(count: usize) -> Vec<u8> {
+    let lines = (1..=500 - 2 * count / 3).map(|k| format!("W 1 2 1\nD 2 1 {k}\nD 3 1 {k}\n"));
+    lines.collect::<String>().into_bytes()
+}
+
+/// The image of the table after a text.
+fn saved(text: &[u8]) -> Vec<u8> {
+    let mut session = Session::new();
+    for line in Reader::new(text) {
+        session.answer(line, &mut Vec::new());
     }
-    let lines = (1..=500).map(|k| format!("W 1 2 1\nD 2 1 {k}\nD 3 1 {k}\n"));
-    (image::to_vec(&table).expect("an image"), lines.collect::<String>().into_bytes())
+    let table = session.table().expect("a table");
+    image::to_vec(table).expect("an image")
 }
 
 /// The image of a table of 8 desks and 64 cells, each set at each desk, and so many open writes.
@@ -137,7 +164,9 @@ fn largest(open: usize) -> Vec<u8> {
         }
     }
     for k in 0..open {
-        table.write(1 + (k % 8) as u16, 1 + (k % 64) as u16, 2).expect("a write");
+        table
+            .write(1 + (k % 8) as u16, 1 + (k % 64) as u16, 2)
+            .expect("a write");
     }
     image::to_vec(&table).expect("an image")
 }
