@@ -23,7 +23,10 @@ fn main() -> ExitCode {
 fn folder() -> PathBuf {
     match env::var_os(FOLDER) {
         Some(folder) => folder.into(),
-        None => Path::new(env!("CARGO_MANIFEST_DIR")).join("../../target/staticlib"),
+        None => {
+            let package = env::var_os("CARGO_MANIFEST_DIR").unwrap_or_default();
+            Path::new(&package).join("../../target/staticlib")
+        }
     }
 }
 

@@ -54,10 +54,12 @@ pub struct Counts {
     pub longest: usize,
     pub one_over: usize,
     pub over: usize,
-    /// Images by verdict: 12, 13, accepted.
+    /// Images by verdict: 12, 13, accepted; and those of no bytes, which are
+    /// no table yet.
     pub damaged: usize,
     pub broken: usize,
     pub accepted: usize,
+    pub empty: usize,
     /// Damaged images whose checks are all right.
     pub checks_right: usize,
     /// Images of each way.
@@ -84,7 +86,7 @@ impl Counts {
 
     /// All images.
     pub fn images(&self) -> usize {
-        self.damaged + self.broken + self.accepted
+        self.damaged + self.broken + self.accepted + self.empty
     }
 
     /// The classes that were not met, and have to be in a run of full length.
@@ -110,6 +112,7 @@ impl Counts {
             ("an image refused with 12", self.damaged),
             ("an image refused with 13", self.broken),
             ("an accepted image", self.accepted),
+            ("an image of no bytes", self.empty),
             ("room to the byte", self.calls.exact),
             ("answers one short", self.calls.short_answers),
             ("image_out one short", self.calls.short_image),
@@ -165,7 +168,7 @@ impl Counts {
     /// The counts in one line.
     pub fn line(&self) -> String {
         format!(
-            "{} schedules in {} pieces, {} lines ({} runs by the definition of causal order); {} images: {} refused with 12, {} with 13, {} accepted",
+            "{} schedules, {} pieces, {} lines ({} runs by the definition of causal order); {} images: {} refused with 12, {} with 13, {} accepted, {} of no bytes",
             self.schedules(),
             self.pieces,
             self.lines,
@@ -173,7 +176,8 @@ impl Counts {
             self.images(),
             self.damaged,
             self.broken,
-            self.accepted
+            self.accepted,
+            self.empty
         )
     }
 }

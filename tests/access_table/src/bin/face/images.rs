@@ -2,7 +2,7 @@
 
 use crate::calls::{Call, Expect, Held};
 use crate::counts::Counts;
-use crate::pieces::{self, image_of, Case, Depth};
+use crate::pieces::{self, image_of, Case};
 use evidence::gen::{damage, odd_image, schedule_from, table, worn_image, Damage, Rng};
 use evidence::image::{self, check_of, BLOCK, CHECK};
 use evidence::text::MAX_INPUT;
@@ -164,6 +164,7 @@ impl Sample {
         match verdict(&self.image) {
             Err(Refusal::ImageDamaged) => counts.damaged += 1,
             Err(_) => counts.broken += 1,
+            Ok(()) if self.image.is_empty() => counts.empty += 1,
             Ok(()) => counts.accepted += 1,
         }
         let checks_right = !matches!(image::load(&self.image), Err(Refusal::ImageDamaged));
@@ -204,11 +205,6 @@ pub fn hold(call: Call, image: &[u8], counts: &mut Counts) -> Result<(), String>
         held(&long).refused([700, 0, 2], number)?;
     }
     Ok(())
-}
-
-/// Holds a run that goes on from an accepted image.
-pub fn hold_going_on(call: Call, case: &Case, counts: &mut Counts) -> Result<(), String> {
-    pieces::hold(call, case, Depth::One(0), counts)
 }
 
 fn check_right(block: &[u8]) -> bool {

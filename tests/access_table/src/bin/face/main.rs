@@ -30,6 +30,9 @@ use images::{Sample, Way};
 use pieces::{Case, Depth};
 use std::process::ExitCode;
 
+/// A schedule of more bytes is a long one.
+const LONG: usize = 16_384;
+
 /// A run of at least this length has to meet every class.
 const FULL: usize = 1_000;
 
@@ -40,7 +43,11 @@ fn main() -> ExitCode {
         return ExitCode::from(2);
     };
     let mut counts = Counts::default();
-    if let Err(report) = all(access_run, [runs, runs * 13 / 10], seed, &mut counts) {
+    let linked = Library {
+        call: access_run,
+        wrapped: true,
+    };
+    if let Err(report) = all(linked, [runs, runs * 13 / 10], seed, &mut counts) {
         eprint!("{report}");
         return ExitCode::FAILURE;
     }
@@ -67,21 +74,63 @@ fn options(args: &[String]) -> Option<(usize, u64)> {
     Some((runs, seed))
 }
 
+/// What is held: a call, and whether the wrapper is held beside it.
+#[derive(Clone, Copy)]
+struct Library {
+    call: Call,
+    wrapped: bool,
+}
+
+impl Library {
+    /// Holds a case; the wrapper only where every sort of buffer is tried.
+    fn hold(self, case: &Case, depth: Depth, counts: &mut Counts) -> Result<(), String> {
+        pieces::hold(self.call, case, depth, counts)?;
+        if self.wrapped && depth != Depth::Plain {
+            wrapper::hold(case)?;
+        }
+        Ok(())
+    }
+
+    /// Holds the verdict on an image.
+    fn hold_image(self, image: &[u8], counts: &mut Counts) -> Result<(), String> {
+        images::hold(self.call, image, counts)?;
+        if self.wrapped {
+            wrapper::hold_image(image)?;
+        }
+        Ok(())
+    }
+
+    /// What is wrong with a case, if anything is, with every sort of buffer.
+    fn fault(self, case: &Case) -> Option<String> {
+        self.hold(case, Depth::All, &mut Counts::default()).err()
+    }
+
+    /// The shortest schedule that shows something wrong, to be read.
+    fn shortest(self, case: &Case) -> String {
+        let short = case.shortest(&|case| self.fault(case));
+        let now = self.fault(&short).unwrap_or_default();
+        format!(
+            "the shortest schedule that shows one: {now}\n{}",
+            short.show()
+        )
+    }
+}
+
 /// All schedules and all images; what is wrong, to be read.
 fn all(
-    call: Call,
+    library: Library,
     [schedules, images]: [usize; 2],
     seed: u64,
     counts: &mut Counts,
 ) -> Result<(), String> {
     for run in 0..schedules {
-        one_schedule(call, run, seed, counts)?;
+        one_schedule(library, run, seed, counts)?;
         progress(run + 1, schedules, counts);
     }
     let ways: Vec<Way> = Way::all().collect();
     for at in 0..images {
         let seed = seed.wrapping_add(at as u64);
-        one_image(call, ways[at % ways.len()], seed, counts)?;
+        one_image(library, ways[at % ways.len()], seed, counts)?;
         progress(at + 1, images, counts);
     }
     Ok(())
@@ -94,7 +143,12 @@ fn progress(done: usize, of: usize, counts: &Counts) {
 }
 
 /// A generated schedule in pieces.
-fn one_schedule(call: Call, run: usize, seed: u64, counts: &mut Counts) -> Result<(), String> {
+fn one_schedule(
+    library: Library,
+    run: usize,
+    seed: u64,
+    counts: &mut Counts,
+) -> Result<(), String> {
     let kind = Kind::ALL[run % Kind::ALL.len()];
     let seed = seed.wrapping_add(run as u64);
     let text = schedule(seed, kind, 20 + run % 400);
@@ -103,60 +157,39 @@ fn one_schedule(call: Call, run: usize, seed: u64, counts: &mut Counts) -> Resul
     let whole = kind == Kind::Size && rng.chance(1, 2);
     let case = Case::cut(Vec::new(), &text, if whole { 1 } else { 6 }, &mut rng);
     *counts.kinds.entry(kind.name()).or_default() += 1;
-    let depth = Depth::One(rng.below(case.pieces.len()));
-    let held = pieces::hold(call, &case, depth, counts).and_then(|()| wrapper::hold(&case));
+    // Every sort of buffer for one piece; of a long schedule only now and then.
+    let depth = match text.len() <= LONG || rng.chance(1, 4) {
+        true => Depth::One(rng.below(case.pieces.len())),
+        false => Depth::Plain,
+    };
+    let held = library.hold(&case, depth, counts);
     held.map_err(|fault| {
-        let short = case.shortest(&|case| fault_of(call, case));
-        let now = fault_of(call, &short).unwrap_or_default();
         let kind = kind.name();
+        let shortest = library.shortest(&case);
         format!(
-            "a difference at run {run} (kind {kind}, schedule seed {seed}): {fault}\n\
-             the shortest schedule that shows one: {now}\n{}",
-            short.show()
+            "a difference at run {run} (kind {kind}, schedule seed {seed}): {fault}\n{shortest}"
         )
     })
 }
 
 /// An image, and a run from it.
-fn one_image(call: Call, way: Way, seed: u64, counts: &mut Counts) -> Result<(), String> {
+fn one_image(library: Library, way: Way, seed: u64, counts: &mut Counts) -> Result<(), String> {
     let sample = Sample::new(way, seed);
     sample.count(counts);
-    let held = images::hold(call, &sample.image, counts);
-    held.and_then(|()| wrapper::hold_image(&sample.image))
-        .map_err(|fault| verdict_report(call, &sample, &fault))?;
-    let case = sample.going_on(20 + (seed % 60) as usize);
-    let held = images::hold_going_on(call, &case, counts).and_then(|()| wrapper::hold(&case));
+    let held = library.hold_image(&sample.image, counts);
     held.map_err(|fault| {
-        let short = case.shortest(&|case| fault_of(call, case));
-        let now = fault_of(call, &short).unwrap_or_default();
-        format!(
-            "a difference behind {} image of: {fault}\n{}\
-             the shortest schedule that shows one: {now}\n{}",
-            if case.start == sample.image {
-                "the"
-            } else {
-                "the good"
-            },
-            sample.show(),
-            short.show()
-        )
+        let fault_of = |image: &[u8]| library.hold_image(image, &mut Counts::default()).err();
+        let short = sample.shortest(&fault_of).show();
+        format!("a difference in the verdict on an image: {fault}\nthe fewest bytes that show one:\n{short}")
+    })?;
+    let case = sample.going_on(20 + (seed % 60) as usize);
+    let held = library.hold(&case, Depth::One(0), counts);
+    held.map_err(|fault| {
+        let which = match case.start == sample.image {
+            true => "the image",
+            false => "the good image",
+        };
+        let (shown, shortest) = (sample.show(), library.shortest(&case));
+        format!("a difference behind {which} of: {fault}\n{shown}{shortest}")
     })
-}
-
-fn verdict_report(call: Call, sample: &Sample, fault: &str) -> String {
-    let fault_of = |image: &[u8]| {
-        let held = images::hold(call, image, &mut Counts::default());
-        held.and_then(|()| wrapper::hold_image(image)).err()
-    };
-    let short = sample.shortest(&fault_of);
-    format!(
-        "a difference in the verdict on an image: {fault}\nthe fewest bytes that show one:\n{}",
-        short.show()
-    )
-}
-
-/// What is wrong with a case, if anything is, with every sort of buffer.
-fn fault_of(call: Call, case: &Case) -> Option<String> {
-    let held = pieces::hold(call, case, Depth::All, &mut Counts::default());
-    held.and_then(|()| wrapper::hold(case)).err()
 }

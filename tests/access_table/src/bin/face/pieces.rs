@@ -161,7 +161,9 @@ fn show_lines(text: &[u8]) -> String {
 /// How far the calls of a case are held.
 #[derive(Clone, Copy, Debug, PartialEq, Eq)]
 pub enum Depth {
-    /// One piece with every sort of buffer, the others with room to the byte.
+    /// Every piece with room to the byte.
+    Plain,
+    /// One piece with every sort of buffer besides.
     One(usize),
     /// Every piece with every sort of buffer.
     All,

@@ -1,11 +1,11 @@
 //! Deliberately wrong libraries. The program has to see each of them, and to
 //! show it in few lines or bytes; and to find nothing wrong with the right one.
 
-use crate::all;
 use crate::calls::{Call, Expect};
 use crate::counts::Counts;
 use crate::images::put_checks_right;
 use crate::pieces::expected;
+use crate::{all, Library};
 use evidence::image::{self, block_count, BLOCK, OPEN_BYTES, OPEN_PER_BLOCK, PAYLOAD};
 use evidence::table::Table;
 use evidence::text::{Session, MAX_INPUT};
@@ -260,16 +260,24 @@ fn mend(wrong: Wrong, image: &[u8]) -> Option<Vec<u8>> {
     Some(image)
 }
 
+/// A library without the wrapper, which has the linked one under it.
+fn library(call: Call) -> Library {
+    Library {
+        call,
+        wrapped: false,
+    }
+}
+
 /// Each wrong library, with how many schedules and images it is tried on.
 macro_rules! libraries {
     ($($wrong:ident $sizes:expr;)*) => {
-        [$((Wrong::$wrong, (|i, s, a, o, l| run(Wrong::$wrong, i, s, a, o, l)) as Call, $sizes)),*]
+        [$((Wrong::$wrong, library(|i, s, a, o, l| run(Wrong::$wrong, i, s, a, o, l)), $sizes)),*]
     };
 }
 
 #[test]
 fn the_right_library_passes() {
-    let right: Call = |i, s, a, o, l| run(Wrong::Nothing, i, s, a, o, l);
+    let right = library(|i, s, a, o, l| run(Wrong::Nothing, i, s, a, o, l));
     let mut counts = Counts::default();
     all(right, [140, 240], 5, &mut counts).unwrap();
     assert_eq!((counts.schedules(), counts.images()), (140, 240));
