@@ -28,6 +28,12 @@ struct Said {
     len: usize,
 }
 
+// An image: the first len of the bytes.
+struct Image {
+    bytes: [u8; IMAGE],
+    len: usize,
+}
+
 // The table that was never saved, and the one that was.
 struct Two {
     kept: Table,
@@ -79,19 +85,29 @@ fn step(t: Table, line: &[u8]) -> Said
     }
 }
 
+// A table saved; no bytes where that is refused.
+fn saved(t: Table) -> Image {
+    let mut b = [0u8; IMAGE];
+    let s = image::save(t, &mut b);
+    let Saving::Length(len) = s else {
+        return Image { bytes: b, len: 0 };
+    };
+    Image { bytes: b, len: len }
+}
+
 // Do two tables have the same image, byte for byte?
 fn same_image(a: Table, b: Table) -> bool {
-    let mut x = [0u8; IMAGE];
-    let mut y = [0u8; IMAGE];
-    let s = image::save(a, &mut x);
-    let Saving::Length(_) = s else {
+    let x = saved(a);
+    let y = saved(b);
+    if x.len == 0 {
         return false;
-    };
-    let r = image::save(b, &mut y);
-    let Saving::Length(_) = r else {
+    }
+    if x.len != y.len {
         return false;
-    };
-    check::same(&x, &y)
+    }
+    let p = x.bytes;
+    let q = y.bytes;
+    check::same(&p, &q)
 }
 
 fn say_outcome(o: Outcome) {
@@ -126,12 +142,9 @@ fn load_first(b: &[u8], len: usize) -> Table
 fn reload(t: Table) -> Table
     ensures { λ r. ⌜ Live r ⌝ }
 {
-    let mut b = [0u8; IMAGE];
-    match image::save(t, &mut b) {
-        Saving::Length(len) => load_first(&b, len),
-        Saving::Broken => load_first(&b, 0),
-        Saving::Short => load_first(&b, 0),
-    }
+    let x = saved(t);
+    let b = x.bytes;
+    load_first(&b, x.len)
 }
 
 // A step of both.

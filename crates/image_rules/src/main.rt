@@ -75,16 +75,24 @@ fn seal(b: &mut [u8; IMAGE], len: usize) {
     }
 }
 
+fn say_outcome(o: Outcome) {
+    match o {
+        Outcome::Accepted => say(b" loaded"),
+        Outcome::Damaged => say(b" 12"),
+        Outcome::Broken => say(b" 13"),
+    }
+}
+
+fn loaded(b: &[u8]) {
+    let l = load::load(b);
+    let o = l.answer;
+    say_outcome(o);
+}
+
 fn load_first(b: &[u8], len: usize) {
     let z = 0;
     if len <= b.len() {
-        let r = load::load(&b[z..len]);
-        let o = r.answer;
-        match o {
-            Outcome::Accepted => say(b" loaded"),
-            Outcome::Damaged => say(b" 12"),
-            Outcome::Broken => say(b" 13"),
-        }
+        loaded(&b[z..len]);
     }
 }
 

@@ -4,11 +4,6 @@ use Rattle.image_reload.specs.Live.{Live, live-begun}
 use borrow.Author.Needs.{needs}
 use Rattle.image_reload.proofs.run.Statement.{statement}
 use Rattle.image_reload.proofs.run.Tie as tie
-use Rattle.image_reload.proofs.run.Reads as reads
-use Rattle.image_reload.proofs.run.Lts as lts
-use Rattle.image_reload.proofs.one.Reads as one-reads
-use Rattle.schedule.proofs.line_at.Reads as line-at-reads
-use Rattle.table.proofs.begin.Reads as begin-reads
 
 abbrev Inv-loop : tie.InvT-loop
 Inv-loop text every t₀ at₀ t at = (at ≤ length text) × (Live (t .kept) × Live (t .reloaded))
@@ -16,59 +11,45 @@ Inv-loop text every t₀ at₀ t at = (at ≤ length text) × (Live (t .kept) ×
 abbrev μ-loop : tie.MeasureT-loop
 μ-loop text every t₀ at₀ t at = length text - at
 
--- src/main.rt:193:9
 begin-requires : tie.Need-begin-requires Inv-loop μ-loop
 begin-requires c κs = search needs
 
--- src/main.rt:200:5
 loop-holds : tie.Need-loop-holds Inv-loop μ-loop
 loop-holds c = let l = live-begun (c .before .begin .result) (c .before .begin .ensures) in (search needs, (l, l))
 
--- src/main.rt:201:13
 line-at-requires : tie.Need-line-at-requires Inv-loop μ-loop
 line-at-requires c κs = search needs
 
--- src/main.rt:203:12
 sub-if1 : tie.Need-sub-if1 Inv-loop μ-loop
 sub-if1 c = search needs
 
--- src/main.rt:204:13
 returns : tie.Need-returns Inv-loop μ-loop
 returns c = search needs
 
--- src/main.rt:206:20
 add-next : tie.Need-add-next Inv-loop μ-loop
 add-next c = search needs
 
--- src/main.rt:206:20
 add-next-2 : tie.Need-add-next-2 Inv-loop μ-loop
 add-next-2 c = search needs
 
--- src/main.rt:207:20
 sub-one : tie.Need-sub-one Inv-loop μ-loop
 sub-one c = search needs
 
--- src/main.rt:207:20
 part-one-start : tie.Need-part-one-start Inv-loop μ-loop
 part-one-start c = search needs
 
--- src/main.rt:207:20
 part-one-end : tie.Need-part-one-end Inv-loop μ-loop
 part-one-end c = search needs
 
--- src/main.rt:207:9
 one-requires : tie.Need-one-requires Inv-loop μ-loop
 one-requires c κs = search needs
 
--- src/main.rt:200:5
 loop-less : tie.Need-loop-less Inv-loop μ-loop
 loop-less c = search needs
 
--- src/main.rt:200:5
 loop-again : tie.Need-loop-again Inv-loop μ-loop
 loop-again c = search needs
 
--- src/main.rt:192:1
 returns-2 : tie.Need-returns-2 Inv-loop μ-loop
 returns-2 c = search needs
 

@@ -1,19 +1,13 @@
 use borrow.Author.Needs.{needs}
 use Rattle.image_reload.proofs.step.Statement.{statement}
 use Rattle.image_reload.proofs.step.Tie as tie
-use Rattle.image_reload.proofs.step.Reads as reads
-use Rattle.image_reload.proofs.step.Lts as lts
-use Rattle.session.proofs.run.Reads as run-reads
 
--- src/main.rt:68:65
 slice-aggregate-run : tie.Need-slice-aggregate-run
 slice-aggregate-run c = search needs
 
--- src/main.rt:68:9
 run-requires : tie.Need-run-requires
 run-requires c κs = search needs
 
--- src/main.rt:60:1
 returns : tie.Need-returns
 returns c =
     let p = c .before .before .before .before .before .before .before .before .before .before .pre in

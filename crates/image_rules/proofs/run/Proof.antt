@@ -3,10 +3,6 @@ use lib.ListN.{length}
 use borrow.Author.Needs.{needs}
 use Rattle.image_rules.proofs.run.Statement.{statement}
 use Rattle.image_rules.proofs.run.Tie as tie
-use Rattle.image_rules.proofs.run.Reads as reads
-use Rattle.image_rules.proofs.run.Lts as lts
-use Rattle.image_rules.proofs.one.Reads as one-reads
-use Rattle.schedule.proofs.line_at.Reads as line-at-reads
 
 abbrev Inv-loop : tie.InvT-loop
 Inv-loop text good₀ from₀ at₀ good from at = (from ≤ at) × (at ≤ length text)
@@ -14,43 +10,33 @@ Inv-loop text good₀ from₀ at₀ good from at = (from ≤ at) × (at ≤ leng
 abbrev μ-loop : tie.MeasureT-loop
 μ-loop text good₀ from₀ at₀ good from at = length text - at
 
--- src/main.rt:213:5
 loop-holds : tie.Need-loop-holds Inv-loop μ-loop
 loop-holds c = search needs
 
--- src/main.rt:214:13
 line-at-requires : tie.Need-line-at-requires Inv-loop μ-loop
 line-at-requires c κs = search needs
 
--- src/main.rt:216:12
 sub-if1 : tie.Need-sub-if1 Inv-loop μ-loop
 sub-if1 c = search needs
 
--- src/main.rt:217:13
 returns : tie.Need-returns Inv-loop μ-loop
 returns c = search needs
 
--- src/main.rt:219:9
 one-requires : tie.Need-one-requires Inv-loop μ-loop
 one-requires c κs = search needs
 
--- src/main.rt:220:14
 add-at : tie.Need-add-at Inv-loop μ-loop
 add-at c = search needs
 
--- src/main.rt:220:14
 add-at-2 : tie.Need-add-at-2 Inv-loop μ-loop
 add-at-2 c = search needs
 
--- src/main.rt:213:5
 loop-less : tie.Need-loop-less Inv-loop μ-loop
 loop-less c = search needs
 
--- src/main.rt:213:5
 loop-again : tie.Need-loop-again Inv-loop μ-loop
 loop-again c = search needs
 
--- src/main.rt:209:1
 returns-2 : tie.Need-returns-2 Inv-loop μ-loop
 returns-2 c = search needs
 
