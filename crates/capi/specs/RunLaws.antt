@@ -1,14 +1,14 @@
 -- A call from a session: refused where something is too long or too short, else its answers are those of the first run and of the lines behind it.
 use mathlib.Core.Path.{_≡_, sym, ap, _∙_}
-use mathlib.Core.List.{List, [], _∷_, _++_}
-use mathlib.Core.Bool.{Bool, true, false, _&&_}
-use Prim.Native.Nat.{ℕ, _+_, _*_, _<_, _≤_}
+use mathlib.Core.List.{List, [], _∷_}
+use mathlib.Core.Bool.{Bool, _&&_}
+use Prim.Native.Nat.{ℕ, _+_, _*_, _≤_}
 use native.Mathlib.Omega.{arith}
 use native.Mathlib.Nat.{zero-add}
 use lib.Dec.{leb}
 use lib.ListN.{length, take, length-append}
 use lib.Seq.{sets}
-use Rattle.laws.specs.Loop.{pick, cases}
+use Rattle.laws.specs.Loop.{cases}
 use Rattle.laws.specs.Says.{Says, says-leb, says-both}
 use Rattle.laws.specs.Stores.{sets-append}
 use Rattle.table.specs.declared.Desk.{Desk}
@@ -16,7 +16,7 @@ use Rattle.session.specs.Session.{Session}
 use Rattle.session.specs.Transcript.{transcriptFrom, sessionFrom, most-text}
 use Rattle.session.specs.Holds.{Holds}
 use Rattle.session.specs.Run.{Ran, ran-part}
-use Rattle.capi.specs.Access.{Left, left, imageOf, fits, runFrom}
+use Rattle.capi.specs.Access.{left, imageOf, fits, runFrom}
 use Rattle.capi.specs.Lines.{most-part, LinedFrom}
 
 -- what has to fit

@@ -1,11 +1,11 @@
 -- The session that an image starts with, and the call from it.
-use mathlib.Core.Path.{_≡_, refl, sym, ap, _∙_}
+use mathlib.Core.Path.{_≡_, refl, ap, _∙_}
 use mathlib.Core.List.{List, [], _∷_}
 use mathlib.Core.Option.{none, some}
 use Prim.Native.Nat.{ℕ}
 use native.Mathlib.Omega.{arith}
 use lib.ListN.{length}
-use Rattle.machine.specs.Answer.{numberOf, damaged, broken}
+use Rattle.machine.specs.Answer.{damaged, broken}
 use Rattle.table.specs.declared.Core.{Core}
 use Rattle.table.specs.declared.Table.{Table}
 use Rattle.table.specs.Model.{modelOf}
@@ -14,7 +14,7 @@ use Rattle.load.specs.declared.Outcome.{Outcome}
 use Rattle.load.specs.declared.Outcome.the-variants.{Accepted, Damaged, Broken}
 use Rattle.load.specs.Loading.{loadedOf, Answers, answers-loads}
 use Rattle.session.specs.Holds.{zeroCore, zeroCells, zeroOpens, Holds}
-use Rattle.capi.specs.Access.{Left, left, Start, refuse, begin, started, startOf, runFrom, runStarted, accessRun}
+use Rattle.capi.specs.Access.{left, Start, refuse, begin, started, startOf, runFrom, runStarted, accessRun}
 
 -- "empty: no table yet"
 start-empty : (saved : List ℕ) → length saved ≡ 0 → startOf saved ≡ begin none

@@ -5,11 +5,6 @@ use Rattle.capi.specs.StartLaws.{none-holds, accepted-holds, call-empty,
 use borrow.Author.Needs.{needs}
 use Rattle.capi.proofs.access_run.Statement.{statement}
 use Rattle.capi.proofs.access_run.Tie as tie
-use Rattle.capi.proofs.access_run.Reads as reads
-use Rattle.capi.proofs.access_run.Lts as lts
-use Rattle.capi.proofs.run_from.Reads as run-from-reads
-use Rattle.load.proofs.load.Reads as load-reads
-use Rattle.session.proofs.start.Reads as start-reads
 
 start-requires : tie.Need-start-requires
 start-requires c κs = search needs

@@ -12,10 +12,6 @@ use Rattle.capi.specs.LinesLaws.{Lining, lining-start, lining-long, lini
 use borrow.Author.Needs.{needs}
 use Rattle.capi.proofs.lines.Statement.{statement}
 use Rattle.capi.proofs.lines.Tie as tie
-use Rattle.capi.proofs.lines.Reads as reads
-use Rattle.capi.proofs.lines.Lts as lts
-use Rattle.capi.proofs.copy.Reads as copy-reads
-use Rattle.session.proofs.run.Reads as run-reads
 
 abbrev Inv-loop : tie.InvT-loop
 Inv-loop cells₀ opens₀ text at put out₀ from last₀ part₀ place₀ len₀ cells opens out last part place len =

@@ -7,13 +7,6 @@ use Rattle.capi.specs.RunLaws.{run-refused, run-accepted, all-long, all-
 use borrow.Author.Needs.{needs}
 use Rattle.capi.proofs.run_from.Statement.{statement}
 use Rattle.capi.proofs.run_from.Tie as tie
-use Rattle.capi.proofs.run_from.Reads as reads
-use Rattle.capi.proofs.run_from.Lts as lts
-use Rattle.capi.proofs.copy.Reads as copy-reads
-use Rattle.capi.proofs.image_size.Reads as image-size-reads
-use Rattle.capi.proofs.lines.Reads as lines-reads
-use Rattle.capi.proofs.save_image.Reads as save-image-reads
-use Rattle.session.proofs.run.Reads as run-reads
 
 returns : tie.Need-returns
 returns c z h =
