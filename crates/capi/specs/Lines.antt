@@ -1,7 +1,7 @@
 -- The parts of `access_run`, for every session that the values at hand hold.
 use mathlib.Core.Path.{_≡_}
 use mathlib.Core.Bool.{Bool, true}
-use mathlib.Core.List.{List}
+use mathlib.Core.List.{List, _++_}
 use Prim.Native.Nat.{ℕ, _+_, _*_, _≤_}
 use lib.ListN.{length}
 use lib.Seq.{sets}
@@ -49,6 +49,18 @@ ImageRoom n m ds cs os out = (z : Session) → Holds n m ds cs os z → length (
 abbrev pub ImageSaved : (n m : ℕ) (ds : List Desk) (cs os out out′ : List ℕ) → ℕ → Type 0
 ImageSaved n m ds cs os out out′ r = (z : Session) → Holds n m ds cs os z → (out′ ≡ sets out 0 (imageOf z)) × (r ≡ length (imageOf z))
 
+-- the answers before a place are at hand, and w is the session there
+pub record Behind (z w : Session) (text : List ℕ) (at : ℕ) (first : List ℕ) : Type 0 where
+  pub rest : transcriptFrom z text 0 ≡ first ++ transcriptFrom w text at
+  pub leaves : sessionFrom z text 0 ≡ sessionFrom w text at
+
+abbrev pub BothPut : (n m : ℕ) (ds : List Desk) (cs os text : List ℕ) (at : ℕ) (first out out′ : List ℕ) → Type 0
+BothPut n m ds cs os text at first out out′ = (w : Session) → Holds n m ds cs os w → out′ ≡ sets out 0 (first ++ transcriptFrom w text at)
+
 -- all of it
+abbrev pub Finishes : (n m : ℕ) (ds : List Desk) (cs os text : List ℕ) (at : ℕ) (first answers image lengths : List ℕ) → Left → Type 0
+Finishes n m ds cs os text at first answers image lengths l =
+    (z w : Session) → Holds n m ds cs os w → Behind z w text at first → l ≡ runFrom z text answers image lengths
+
 abbrev pub RunsFrom : (n m : ℕ) (ds : List Desk) (cs os text answers image lengths : List ℕ) → Left → Type 0
 RunsFrom n m ds cs os text answers image lengths l = (z : Session) → Holds n m ds cs os z → l ≡ runFrom z text answers image lengths

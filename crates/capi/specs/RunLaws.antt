@@ -1,13 +1,12 @@
 -- A call from a session: refused where something is too long or too short, else its answers are those of the first run and of the lines behind it.
 use mathlib.Core.Path.{_≡_, sym, ap, _∙_}
-use mathlib.Core.List.{List, [], _∷_}
+use mathlib.Core.List.{List, [], _∷_, _++_}
 use mathlib.Core.Bool.{Bool, _&&_}
-use Prim.Native.Nat.{ℕ, _+_, _*_, _≤_}
+use Prim.Native.Nat.{ℕ, _+_, _≤_}
 use native.Mathlib.Omega.{arith}
-use native.Mathlib.Nat.{zero-add}
 use lib.Dec.{leb}
 use lib.ListN.{length, take, length-append}
-use lib.Seq.{sets}
+use lib.Seq.{sets, length-take-le}
 use Rattle.laws.specs.Loop.{cases}
 use Rattle.laws.specs.Says.{Says, says-leb, says-both}
 use Rattle.laws.specs.Stores.{sets-append}
@@ -17,7 +16,7 @@ use Rattle.session.specs.Transcript.{transcriptFrom, sessionFrom, most-text}
 use Rattle.session.specs.Holds.{Holds}
 use Rattle.session.specs.Run.{Ran, ran-part}
 use Rattle.capi.specs.Access.{left, imageOf, fits, runFrom}
-use Rattle.capi.specs.Lines.{most-part, LinedFrom}
+use Rattle.capi.specs.Lines.{LinedFrom, Behind}
 
 -- what has to fit
 pub record Room (z : Session) (text answers image lengths : List ℕ) : Type 0 where
@@ -53,23 +52,25 @@ module _ (z : Session) (text answers image lengths : List ℕ) where
   unfolding runFrom
   run-accepted r ea ei el es = rw (says-fits .from r, ea, ei, el, es)
 
--- the first run, and the lines behind it
-module _ {z : Session} {text kept : List ℕ} {n m : ℕ} {ds : List Desk} {cs os : List ℕ} {at len : ℕ} {kept′ : List ℕ} (r : Ran z text 0 kept n m ds cs os at len kept′) where
-  module _ {put : Bool} {out : List ℕ} {from n′ m′ : ℕ} {ds′ : List Desk} {cs′ os′ : List ℕ} {more : ℕ} {out′ : List ℕ}
-      (l : LinedFrom (r .session) text at put out from n′ m′ ds′ cs′ os′ more out′) where
-    pub all-long : len + more ≡ length (transcriptFrom z text 0)
-    all-long = omega (arith, r .len-is, l .len-is, simp length-append at (ap length (r .rest)))
+-- the first answers, and those of the lines behind them
+module _ {z w : Session} {text : List ℕ} {at : ℕ} {first : List ℕ} (b : Behind z w text at first) where
+  module _ {put : Bool} {out : List ℕ} {from n m : ℕ} {ds : List Desk} {cs os : List ℕ} {more : ℕ} {out′ : List ℕ} (l : LinedFrom w text at put out from n m ds cs os more out′) where
+    pub all-long : length first + more ≡ length (transcriptFrom z text 0)
+    all-long = omega (arith, l .len-is, simp length-append at (ap length (b .rest)))
 
-    pub all-few : len + more ≤ length kept + most-part * most-text
-    all-few = omega (arith, r .len-is, r .fits, l .few)
+    pub all-left : Holds n m ds cs os (sessionFrom z text 0)
+    all-left = rw (b .leaves) (l .holds)
 
-    pub all-left : Holds n′ m′ ds′ cs′ os′ (sessionFrom z text 0)
-    all-left = rw (r .leaves) (l .holds)
+  pub all-put : (out : List ℕ) {out₁ out₂ : List ℕ} → out₁ ≡ out → out₂ ≡ sets out₁ 0 (first ++ transcriptFrom w text at) → out₂ ≡ sets out 0 (transcriptFrom z text 0)
+  all-put out d e = e ∙ rw (d, b .rest)
 
-  -- their answers one after the other
-  pub all-put : (out : List ℕ) {out₁ out₂ out₃ : List ℕ} → out₁ ≡ out → out₂ ≡ sets out₁ 0 (take len kept′) → out₃ ≡ sets out₂ len (transcriptFrom (r .session) text at)
-      → out₃ ≡ sets out 0 (transcriptFrom z text 0)
-  all-put out d e f =
-      let v = transcriptFrom (r .session) text at in
-      let q : len ≡ 0 + length (r .lines) = r .len-is ∙ sym (zero-add (length (r .lines))) in
-      f ∙ rw (e, d, ran-part r) (ap (λ (x : ℕ). sets (sets out 0 (r .lines)) x v) q ∙ sym (sets-append (r .lines) v out 0) ∙ rw (r .rest))
+pub both-put : (first : List ℕ) (len : ℕ) (more out : List ℕ) {out₁ out₂ : List ℕ} → len ≤ length first → out₁ ≡ sets out 0 (take len first) → out₂ ≡ sets out₁ len more
+    → out₂ ≡ sets out 0 (take len first ++ more)
+both-put first len more out h e f =
+    let q : len ≡ 0 + length (take len first) = omega (arith, length-take-le len first h) in
+    f ∙ rw e (ap (λ (x : ℕ). sets (sets out 0 (take len first)) x more) q ∙ sym (sets-append (take len first) more out 0))
+
+-- the first run
+pub ran-behind : {z : Session} {text kept : List ℕ} {n m : ℕ} {ds : List Desk} {cs os : List ℕ} {at len : ℕ} {kept′ : List ℕ} (r : Ran z text 0 kept n m ds cs os at len kept′)
+    → Behind z (r .session) text at (take len kept′)
+ran-behind r = record { rest = rw (ran-part r) (r .rest); leaves = r .leaves }

@@ -1,12 +1,13 @@
 // The face to other languages: a saved table and a schedule in, the answers and the table saved after it out.
 ghost use mathlib.Core.Path.{_≡_};
+ghost use mathlib.Core.Bool.{true};
 ghost use Prim.Native.Nat.{ℕ, _+_, _≤_};
 ghost use lib.ListN.{length, take};
 ghost use lib.Seq.{sets};
 ghost use Rattle.session.specs.Holds.{SomeSession};
 ghost use Rattle.session.specs.Transcript.{most-text};
 ghost use Rattle.capi.specs.Access.{left, accessRun};
-ghost use Rattle.capi.specs.Lines.{RoomFor, Lined, SomeCore, ImageSize, ImageRoom, ImageSaved, RunsFrom};
+ghost use Rattle.capi.specs.Lines.{RoomFor, Lined, SomeCore, ImageSize, ImageRoom, ImageSaved, BothPut, Finishes, RunsFrom};
 use clock::PLACES;
 use load::Outcome;
 use table::CELL;
@@ -107,7 +108,72 @@ fn save_image(
     image::save_parts(core, cells, opens, out)
 }
 
-// From a session: nothing is put before it is known that all of it fits.
+// The first answers and those of the lines behind them, into a buffer that has room for both.
+fn put_answers(
+    first: &[u8],
+    len: usize,
+    core: Core,
+    first_cells: [u16; PLACES * CELLS * CELL],
+    first_opens: [u16; OPENS * OPEN],
+    text: &[u8],
+    at: usize,
+    answers: &mut [u8],
+)
+    requires { ⌜ SomeSession (core .n) (core .m) (core .desks) «first_cells» «first_opens» ⌝ }
+    requires { ⌜ (length (now text) ≤ most-text) × ((len ≤ length (now first)) × RoomFor (core .n) (core .m) (core .desks) «first_cells» «first_opens» (now text) at true (now answers) len) ⌝ }
+    ensures { λ _. ⌜ BothPut (core .n) (core .m) (core .desks) «first_cells» «first_opens» (now (text .entry)) at (take len (now (first .entry))) (now (answers .entry)) (now (answers .exit)) ⌝ }
+{
+    let mut cells = first_cells;
+    let mut opens = first_opens;
+    copy(first, len, answers, 0);
+    lines(core, &mut cells, &mut opens, text, at, true, answers, len);
+}
+
+// Behind the first answers: what the lines there answer is counted, and nothing is put before it is known that all of it fits.
+fn finish(
+    first: &[u8],
+    len: usize,
+    core: Core,
+    cells: [u16; PLACES * CELLS * CELL],
+    opens: [u16; OPENS * OPEN],
+    text: &[u8],
+    at: usize,
+    answers: &mut [u8],
+    image_out: &mut [u8],
+    lengths: &mut [u64],
+) -> u64
+    requires { ⌜ SomeSession (core .n) (core .m) (core .desks) cells opens ⌝ }
+    requires { ⌜ (length (now text) ≤ most-text) × ((len ≤ length (now first)) × (2 ≤ length (now lengths))) ⌝ }
+    ensures { λ r. ⌜ Finishes (core .n) (core .m) (core .desks) cells opens (now (text .entry)) at (take len (now (first .entry))) (now (answers .entry)) (now («image_out» .entry)) (now (lengths .entry)) (left r (now (answers .exit)) (now («image_out» .exit)) (now (lengths .exit))) ⌝ }
+{
+    let mut last_cells = cells;
+    let mut last_opens = opens;
+    let e = lines(
+        core,
+        &mut last_cells,
+        &mut last_opens,
+        text,
+        at,
+        false,
+        answers,
+        len,
+    );
+    let last = e.core;
+    let all = len + e.len;
+    if answers.len() < all {
+        return 14;
+    }
+    if image_out.len() < image_size(last) {
+        return 14;
+    }
+    put_answers(first, len, core, cells, opens, text, at, answers);
+    let size = save_image(last, &last_cells, &last_opens, image_out);
+    lengths[0] = all as u64;
+    lengths[1] = size as u64;
+    0
+}
+
+// From a session.
 fn run_from(
     core: Core,
     first_cells: [u16; PLACES * CELLS * CELL],
@@ -133,32 +199,18 @@ fn run_from(
     let middle = p.core;
     let at = p.at;
     let len = p.len;
-    let mut last_cells = cells;
-    let mut last_opens = opens;
-    let e = lines(
+    finish(
+        &kept,
+        len,
         middle,
-        &mut last_cells,
-        &mut last_opens,
+        cells,
+        opens,
         text,
         at,
-        false,
         answers,
-        len,
-    );
-    let last = e.core;
-    let all = len + e.len;
-    if answers.len() < all {
-        return 14;
-    }
-    if image_out.len() < image_size(last) {
-        return 14;
-    }
-    copy(&kept, len, answers, 0);
-    lines(middle, &mut cells, &mut opens, text, at, true, answers, len);
-    let size = save_image(last, &last_cells, &last_opens, image_out);
-    lengths[0] = all as u64;
-    lengths[1] = size as u64;
-    0
+        image_out,
+        lengths,
+    )
 }
 
 // Nothing is kept between two calls: what goes on is the image.
