@@ -6,11 +6,15 @@ use Prim.Native.Nat.{ℕ, _+_, _*_, _≤_}
 use lib.ListN.{length}
 use lib.Seq.{sets}
 use Rattle.laws.specs.Loop.{pick}
+use Rattle.machine.specs.Answer.{damaged, broken}
 use Rattle.table.specs.declared.Desk.{Desk}
+use Rattle.table.specs.declared.Table.{Table}
+use Rattle.load.specs.declared.Outcome.{Outcome}
+use Rattle.load.specs.declared.Outcome.the-variants.{Accepted, Damaged, Broken}
 use Rattle.session.specs.Session.{Session}
 use Rattle.session.specs.Transcript.{transcriptFrom, sessionFrom, most-text}
 use Rattle.session.specs.Holds.{Holds}
-use Rattle.capi.specs.Access.{Left, imageOf, runFrom}
+use Rattle.capi.specs.Access.{Left, imageOf, refuse, begin, startOf, runFrom}
 
 -- the answers of one run
 abbrev pub most-part : ℕ
@@ -64,3 +68,14 @@ Finishes n m ds cs os text at first answers image lengths l =
 
 abbrev pub RunsFrom : (n m : ℕ) (ds : List Desk) (cs os text answers image lengths : List ℕ) → Left → Type 0
 RunsFrom n m ds cs os text answers image lengths l = (z : Session) → Holds n m ds cs os z → l ≡ runFrom z text answers image lengths
+
+-- what a call begins with
+pub record SomeStart (saved : List ℕ) (t : Table) : Type 0 where
+  pub session : Session
+  pub starts : startOf saved ≡ begin session
+  pub holds : Holds (t .core .n) (t .core .m) (t .core .desks) (t .cells) (t .opens) session
+
+abbrev pub Starts : List ℕ → Outcome → Table → Type 0
+Starts saved Accepted t = SomeStart saved t
+Starts saved Damaged t = startOf saved ≡ refuse damaged
+Starts saved Broken t = startOf saved ≡ refuse broken

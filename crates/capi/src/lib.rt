@@ -7,8 +7,9 @@ ghost use lib.Seq.{sets};
 ghost use Rattle.session.specs.Holds.{SomeSession};
 ghost use Rattle.session.specs.Transcript.{most-text};
 ghost use Rattle.capi.specs.Access.{left, accessRun};
-ghost use Rattle.capi.specs.Lines.{RoomFor, Lined, SomeCore, ImageSize, ImageRoom, ImageSaved, BothPut, Finishes, RunsFrom};
+ghost use Rattle.capi.specs.Lines.{most-part, RoomFor, Lined, SomeCore, ImageSize, ImageRoom, ImageSaved, BothPut, Finishes, RunsFrom, Starts};
 use clock::PLACES;
+use load::Loading;
 use load::Outcome;
 use table::CELL;
 use table::CELLS;
@@ -29,6 +30,18 @@ const PART: usize = 16384;
 struct Ended {
     core: Core,
     len: usize,
+}
+
+fn kept_room() -> [u8; KEPT]
+    ensures { λ r. ⌜ length r ≡ 131072 ⌝ }
+{
+    [0u8; KEPT]
+}
+
+fn part_room() -> [u8; PART]
+    ensures { λ r. ⌜ length r ≡ most-part ⌝ }
+{
+    [0u8; PART]
 }
 
 // The first len bytes of a part, put into the buffer from place at on.
@@ -59,7 +72,7 @@ fn lines(
     ensures { λ r. ⌜ Lined (core .n) (core .m) (core .desks) (now (cells .entry)) (now (opens .entry)) (now (text .entry)) at put (now (out .entry)) from (r .core .n) (r .core .m) (r .core .desks) (now (cells .exit)) (now (opens .exit)) (r .len) (now (out .exit)) ⌝ }
 {
     let mut last = core;
-    let mut part = [0u8; PART];
+    let mut part = part_room();
     let mut place = at;
     let mut len = 0;
     while place < text.len() {
@@ -194,7 +207,7 @@ fn run_from(
     }
     let mut cells = first_cells;
     let mut opens = first_opens;
-    let mut kept = [0u8; KEPT];
+    let mut kept = kept_room();
     let p = session::run(core, &mut cells, &mut opens, text, 0, &mut kept);
     let middle = p.core;
     let at = p.at;
@@ -213,6 +226,21 @@ fn run_from(
     )
 }
 
+// The table in an image; from an empty one there is none yet, and nothing but zeros.
+fn start(image: &[u8]) -> Loading
+    ensures { λ r. ⌜ Starts (now (image .entry)) (r .answer) (r .table) ⌝ }
+{
+    if image.len() == 0 {
+        let none = table::begin(0, 0);
+        let t = none.table;
+        return Loading {
+            answer: Outcome::Accepted,
+            table: t,
+        };
+    }
+    load::load(image)
+}
+
 // Nothing is kept between two calls: what goes on is the image.
 #[no_mangle]
 pub extern "C" fn access_run(
@@ -224,13 +252,7 @@ pub extern "C" fn access_run(
 ) -> u64
     ensures { λ r. ⌜ left r (now (answers .exit)) (now («image_out» .exit)) (now (lengths .exit)) ≡ accessRun (now (image .entry)) (now (schedule .entry)) (now (answers .entry)) (now («image_out» .entry)) (now (lengths .entry)) ⌝ }
 {
-    if image.len() == 0 {
-        let none = session::start();
-        let cells = [0u16; PLACES * CELLS * CELL];
-        let opens = [0u16; OPENS * OPEN];
-        return run_from(none, cells, opens, schedule, answers, image_out, lengths);
-    }
-    let l = load::load(image);
+    let l = start(image);
     let o = l.answer;
     let t = l.table;
     match o {

@@ -1,8 +1,8 @@
-use Prim.Native.Nat.{ℕ, _+_, _-_}
+use Prim.Native.Nat.{_+_, _-_}
 use mathlib.Core.Path.{_≡_, _∙_}
 use mathlib.Core.Logic.{⊎-elim}
 use native.Mathlib.Omega.{arith}
-use lib.ListN.{length, take, length-replicate}
+use lib.ListN.{length, take}
 use lib.Seq.{sets}
 use Rattle.laws.specs.Loop.{pick}
 use Rattle.session.specs.Session.{Session}
@@ -22,7 +22,7 @@ abbrev μ-loop : tie.MeasureT-loop
 
 -- the buffer after a turn
 put-out : (c : tie.Joined1 Inv-loop μ-loop)
-    → (let a = c .before .before .before .before .before .before .before .before .before .before .args in let L = c .before .before .before .before .before .before .before .loop in let u = c .before .before .run in
+    → (let a = c .before .before .before .before .before .before .before .before .before .before .before .args in let L = c .before .before .before .before .before .before .before .loop in let u = c .before .before .run in
     c .if1 .out ≡ pick (a .put) (sets (L .out) (a .from + L .len) (take (u .result .len) (u .last .1 .1 .1 .1 .1 .0))) (L .out))
 put-out c =
     ⊎-elim
@@ -30,15 +30,18 @@ put-out c =
     (λ w. rw (w .0 .left) (w .1))
     (c .if1 .came)
 
+part-room-requires : tie.Need-part-room-requires Inv-loop μ-loop
+part-room-requires c κs = search needs
+
 loop-holds : tie.Need-loop-holds Inv-loop μ-loop
-loop-holds c = (length-replicate {A = ℕ} 16384 0, λ z h. lining-start h)
+loop-holds c = (c .part-room .ensures, λ z h. lining-start h)
 
 slice-aggregate-run : tie.Need-slice-aggregate-run Inv-loop μ-loop
 slice-aggregate-run c = search needs
 
 run-requires : tie.Need-run-requires Inv-loop μ-loop
 run-requires c κs =
-    let p = c .before .before .before .before .before .before .before .pre in
+    let p = c .before .before .before .before .before .before .before .before .pre in
     let g = c .before .before .before .before .loop .inv .1 (p .0 .session) (p .0 .holds) in
     record { session = g .session; holds = g .holds }
 
@@ -47,21 +50,21 @@ slice-aggregate-copy c = search needs
 
 add-copy : tie.Need-add-copy Inv-loop μ-loop
 add-copy c =
-    let p = c .before .before .before .before .before .before .before .before .before .before .before .before .pre in
+    let p = c .before .before .before .before .before .before .before .before .before .before .before .before .before .pre in
     let g = c .before .before .before .before .before .before .before .before .before .loop .inv .1 (p .0 .session) (p .0 .holds) in
     let r = c .before .before .before .before .run .ensures (g .session) (g .holds) in
-    omega (arith, lining-room g r (p .1 .1 (p .0 .session) (p .0 .holds) (c .before .before .if1 .taken)), lining-long g, c .before .before .before .before .before .before .before .before .before .before .before .before .good)
+    omega (arith, lining-room g r (p .1 .1 (p .0 .session) (p .0 .holds) (c .before .before .if1 .taken)), lining-long g, c .before .before .before .before .before .before .before .before .before .before .before .before .before .good)
 
 copy-requires : tie.Need-copy-requires Inv-loop μ-loop
 copy-requires c κs =
-    let p = c .before .before .before .before .before .before .before .before .before .before .before .before .pre in
+    let p = c .before .before .before .before .before .before .before .before .before .before .before .before .before .pre in
     let g = c .before .before .before .before .before .before .before .before .before .loop .inv .1 (p .0 .session) (p .0 .holds) in
     let r = c .before .before .before .before .run .ensures (g .session) (g .holds) in
     (omega (arith, r .len-is, r .fits, c .before .before .before .before .run .kept), lining-room g r (p .1 .1 (p .0 .session) (p .0 .holds) (c .before .before .if1 .taken)))
 
 add-len : tie.Need-add-len Inv-loop μ-loop
 add-len c =
-    let p = c .before .before .before .before .before .before .before .before .before .before .before .pre in
+    let p = c .before .before .before .before .before .before .before .before .before .before .before .before .pre in
     let L = c .before .before .before .before .before .before .before .before .loop in
     let g = L .inv .1 (p .0 .session) (p .0 .holds) in
     let r = c .before .before .before .run .ensures (g .session) (g .holds) in
@@ -69,7 +72,7 @@ add-len c =
 
 loop-less : tie.Need-loop-less Inv-loop μ-loop
 loop-less c =
-    let p = c .before .before .before .before .before .before .before .before .before .before .before .pre in
+    let p = c .before .before .before .before .before .before .before .before .before .before .before .before .pre in
     let L = c .before .before .before .before .before .before .before .before .loop in
     let g = L .inv .1 (p .0 .session) (p .0 .holds) in
     let r = c .before .before .before .run .ensures (g .session) (g .holds) in
@@ -85,10 +88,10 @@ loop-again c =
     )
 
 same-length : tie.Need-same-length Inv-loop μ-loop
-same-length c = let p = c .before .before .before .before .pre in lining-long (c .before .loop .inv .1 (p .0 .session) (p .0 .holds))
+same-length c = let p = c .before .before .before .before .before .pre in lining-long (c .before .loop .inv .1 (p .0 .session) (p .0 .holds))
 
 returns : tie.Need-returns Inv-loop μ-loop
-returns c z h = lining-end (c .before .loop .inv .1 z h) (c .before .before .before .before .pre .1 .0) (c .loop-test .left)
+returns c z h = lining-end (c .before .loop .inv .1 z h) (c .before .before .before .before .before .pre .1 .0) (c .loop-test .left)
 
 pub lines-spec : {M : Type 1} → statement M
 lines-spec =
@@ -96,6 +99,7 @@ lines-spec =
     (tie.spec
     Inv-loop
     μ-loop
+    part-room-requires
     loop-holds
     slice-aggregate-run
     run-requires
