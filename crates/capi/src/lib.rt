@@ -32,6 +32,7 @@ struct Ended {
     len: usize,
 }
 
+// Zeros, of which the contract tells the number alone.
 fn kept_room() -> [u8; KEPT]
     ensures { λ r. ⌜ length r ≡ 131072 ⌝ }
 {
