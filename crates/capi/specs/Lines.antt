@@ -16,7 +16,7 @@ use Rattle.session.specs.Transcript.{transcriptFrom, sessionFrom, most-text}
 use Rattle.session.specs.Holds.{Holds}
 use Rattle.capi.specs.Access.{Left, imageOf, refuse, begin, startOf, runFrom}
 
--- the answers of one run
+-- the bytes that the answers of one run take at most
 abbrev pub most-part : ℕ
 most-part = 16384
 
@@ -61,7 +61,7 @@ pub record Behind (z w : Session) (text : List ℕ) (at : ℕ) (first : List ℕ
 abbrev pub BothPut : (n m : ℕ) (ds : List Desk) (cs os text : List ℕ) (at : ℕ) (first out out′ : List ℕ) → Type 0
 BothPut n m ds cs os text at first out out′ = (w : Session) → Holds n m ds cs os w → out′ ≡ sets out 0 (first ++ transcriptFrom w text at)
 
--- all of it
+-- all of it: what lies behind the first answers, and the whole call
 abbrev pub Finishes : (n m : ℕ) (ds : List Desk) (cs os text : List ℕ) (at : ℕ) (first answers image lengths : List ℕ) → Left → Type 0
 Finishes n m ds cs os text at first answers image lengths l =
     (z w : Session) → Holds n m ds cs os w → Behind z w text at first → l ≡ runFrom z text answers image lengths
