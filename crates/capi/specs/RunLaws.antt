@@ -2,7 +2,7 @@
 use mathlib.Core.Path.{_≡_, sym, ap, _∙_}
 use mathlib.Core.List.{List, [], _∷_, _++_}
 use mathlib.Core.Bool.{Bool, _&&_}
-use Prim.Native.Nat.{ℕ, _+_, _≤_}
+use Prim.Native.Nat.{ℕ, _+_, _*_, _^_, _<_, _≤_}
 use native.Mathlib.Omega.{arith}
 use lib.Dec.{leb}
 use lib.ListN.{length, take, length-append}
@@ -52,17 +52,37 @@ module _ (z : Session) (text answers image lengths : List ℕ) where
   unfolding runFrom
   run-accepted r ea ei el es = rw (says-fits .from r, ea, ei, el, es)
 
+-- what was counted has room where the code's test says so
+pub lined-room : {z : Session} {text : List ℕ} {at : ℕ} {put : Bool} {out : List ℕ} {from n m : ℕ} {ds : List Desk} {cs os : List ℕ} {more : ℕ} {out′ : List ℕ} {room : ℕ} (len : ℕ)
+    → LinedFrom z text at put out from n m ds cs os more out′ → len + more ≤ room → len + length (transcriptFrom z text at) ≤ room
+lined-room len l h = omega (arith, l .len-is)
+
+pub lined-sum : {z : Session} {text : List ℕ} {at : ℕ} {put : Bool} {out : List ℕ} {from n m : ℕ} {ds : List Desk} {cs os : List ℕ} {more : ℕ} {out′ : List ℕ} {len long : ℕ}
+    → LinedFrom z text at put out from n m ds cs os more out′ → len ≤ long → long * 1 < 2 ^ 63 → len + more < 2 ^ 64
+lined-sum l h f = omega (arith, l .few)
+
 -- the first answers, and those of the lines behind them
 module _ {z w : Session} {text : List ℕ} {at : ℕ} {first : List ℕ} (b : Behind z w text at first) where
   module _ {put : Bool} {out : List ℕ} {from n m : ℕ} {ds : List Desk} {cs os : List ℕ} {more : ℕ} {out′ : List ℕ} (l : LinedFrom w text at put out from n m ds cs os more out′) where
-    pub all-long : length first + more ≡ length (transcriptFrom z text 0)
-    all-long = omega (arith, l .len-is, simp length-append at (ap length (b .rest)))
-
     pub all-left : Holds n m ds cs os (sessionFrom z text 0)
     all-left = rw (b .leaves) (l .holds)
 
+    module _ {len : ℕ} (e : length first ≡ len) where
+      pub all-long : len + more ≡ length (transcriptFrom z text 0)
+      all-long = omega (arith, l .len-is, simp length-append at (ap length (b .rest)))
+
+      pub no-answers-room : {answers image lengths : List ℕ} {r : ℕ} → r ≡ length answers → r < len + more → Room z text answers image lengths → ⊥
+      no-answers-room q h m = omega (arith, m .answers-room, all-long)
+
+      pub all-room : {answers image lengths : List ℕ} {r size : ℕ} → length text ≤ most-text → r ≡ length answers → len + more ≤ r
+          → size ≡ length (imageOf (sessionFrom z text 0)) → size ≤ length image → 2 ≤ length lengths → Room z text answers image lengths
+      all-room t q h i g k = record { text-room = t; answers-room = omega (arith, all-long); image-room = omega arith; lengths-room = k }
+
   pub all-put : (out : List ℕ) {out₁ out₂ : List ℕ} → out₁ ≡ out → out₂ ≡ sets out₁ 0 (first ++ transcriptFrom w text at) → out₂ ≡ sets out 0 (transcriptFrom z text 0)
   all-put out d e = e ∙ rw (d, b .rest)
+
+pub no-image-room : {z : Session} {text answers image lengths : List ℕ} {size : ℕ} → size ≡ length (imageOf (sessionFrom z text 0)) → length image < size → Room z text answers image lengths → ⊥
+no-image-room e h m = omega (arith, m .image-room)
 
 pub both-put : (first : List ℕ) (len : ℕ) (more out : List ℕ) {out₁ out₂ : List ℕ} → len ≤ length first → out₁ ≡ sets out 0 (take len first) → out₂ ≡ sets out₁ len more
     → out₂ ≡ sets out 0 (take len first ++ more)

@@ -3,7 +3,7 @@ use lib.ListN.{length-set}
 use lib.Seq.{length-take-le}
 use Rattle.laws.specs.Says.{clash}
 use Rattle.session.specs.Transcript.{sessionFrom}
-use Rattle.capi.specs.RunLaws.{run-refused, run-accepted, all-long, all-left, all-put}
+use Rattle.capi.specs.RunLaws.{run-refused, run-accepted, lined-room, lined-sum, all-left, all-long, no-answers-room, all-room, all-put, no-image-room}
 use borrow.Author.Needs.{needs}
 use Rattle.capi.proofs.finish.Statement.{statement}
 use Rattle.capi.proofs.finish.Tie as tie
@@ -16,7 +16,7 @@ add-all c =
     let q = c .before .before .before .before in
     let p = q .before .before .before .before .before .before .before .before .before .pre in
     let l = q .lines .ensures (p .0 .session) (p .0 .holds) in
-    omega (arith, l .few, p .1 .1 .0, q .before .before .before .before .before .before .before .before .before .good)
+    record { fits = lined-sum l (p .1 .1 .0) (q .before .before .before .before .before .before .before .before .before .good .0 .1) }
 
 same-length : tie.Need-same-length
 same-length c = search needs
@@ -25,9 +25,10 @@ returns : tie.Need-returns
 returns c z w h b =
     let q = c .before .before .before .before .before in
     let a = q .before .before .before .before .before .before .before .before .before .args in
+    let p = q .before .before .before .before .before .before .before .before .before .pre in
     let l = q .lines .ensures w h in
-    let e = length-take-le (a .len) (a .first .now) (q .before .before .before .before .before .before .before .before .before .pre .1 .1 .0) in
-    rw (l .stored) (run-refused z (a .text .now) (a .answers .now) (a .image-out .now) (a .lengths .now) (λ m. omega (arith, m .answers-room, all-long b l, e, q .lines .kept .1 .1 .1 .1 .1 .1 .0, c .if1 .taken)))
+    let e = length-take-le (a .len) (a .first .now) (p .1 .1 .0) in
+    rw (l .stored) (run-refused z (a .text .now) (a .answers .now) (a .image-out .now) (a .lengths .now) (no-answers-room b l e (q .lines .kept .1 .1 .1 .1 .1 .1 .0) (c .if1 .taken)))
 
 image-size-requires : tie.Need-image-size-requires
 image-size-requires c κs =
@@ -45,14 +46,13 @@ returns-2 c z w h b =
     let q = c .before .before .before .before .before .before .before in
     let a = q .before .before .before .before .before .before .before .before .before .args in
     let l = q .lines .ensures w h in
-    let e = c .before .image-size .ensures (sessionFrom z (a .text .now) 0) (q .lines .last .1 .0) (q .lines .last .1 .1 .0) (all-left b l) in
-    rw (l .stored) (run-refused z (a .text .now) (a .answers .now) (a .image-out .now) (a .lengths .now) (λ m. omega (arith, m .image-room, e, c .if2 .taken)))
+    rw (l .stored) (run-refused z (a .text .now) (a .answers .now) (a .image-out .now) (a .lengths .now) (no-image-room (c .before .image-size .ensures (sessionFrom z (a .text .now) 0) (q .lines .last .1 .0) (q .lines .last .1 .1 .0) (all-left b l)) (c .if2 .taken)))
 
 put-answers-requires : tie.Need-put-answers-requires
 put-answers-requires c κs =
     let q = c .before .before .before .before .before .before .before .before in
     let p = q .before .before .before .before .before .before .before .before .before .pre in
-    (p .0, (p .1 .0, (p .1 .1 .0, λ z h e. omega (arith, q .lines .ensures z h .len-is, c .before .before .before .if1 .left))))
+    (p .0, (p .1 .0, (p .1 .1 .0, λ z h e. lined-room (q .before .before .before .before .before .before .before .before .before .args .len) (q .lines .ensures z h) (c .before .before .before .if1 .left))))
 
 save-image-requires : tie.Need-save-image-requires
 save-image-requires c κs =
@@ -60,7 +60,7 @@ save-image-requires c κs =
     let p = q .before .before .before .before .before .before .before .before .before .pre in
     let l = q .lines .ensures (p .0 .session) (p .0 .holds) in
     let a = q .before .before .before .before .before .before .before .before .before .args in
-    (record { session = sessionFrom (p .0 .session) (a .text .now) (a .at); holds = l .holds }, λ z h. omega (arith, c .before .before .before .before .before .before .before .before .image-size .ensures z (q .lines .last .1 .0) (q .lines .last .1 .1 .0) h, c .before .before .before .before .before .before .before .if2 .left))
+    (record { session = sessionFrom (p .0 .session) (a .text .now) (a .at); holds = l .holds }, λ z h. rw (c .before .before .before .before .before .before .before .before .image-size .ensures z (q .lines .last .1 .0) (q .lines .last .1 .1 .0) h) at (c .before .before .before .before .before .before .before .if2 .left))
 
 slice-write-lengths : tie.Need-slice-write-lengths
 slice-write-lengths c = omega (arith, c .before .before .before .before .before .before .before .before .before .before .before .before .before .before .before .before .before .before .before .before .before .before .before .before .before .before .pre .1 .1 .1)
@@ -81,20 +81,15 @@ returns-3 : tie.Need-returns-3
 returns-3 c z w h b =
     let q = c .before .before .before .before .before .before .before .before .before .before .before .before .before .before .before .before .before in
     let a = q .before .before .before .before .before .before .before .before .before .args in
+    let p = q .before .before .before .before .before .before .before .before .before .pre in
     let l = q .lines .ensures w h in
-    let e = length-take-le (a .len) (a .first .now) (q .before .before .before .before .before .before .before .before .before .pre .1 .1 .0) in
+    let e = length-take-le (a .len) (a .first .now) (p .1 .1 .0) in
     let y = all-left b l in
-    let n = all-long b l in
     let s = c .before .before .save-image .ensures (sessionFrom z (a .text .now) 0) y in
     run-accepted z (a .text .now) (a .answers .now) (a .image-out .now) (a .lengths .now)
-    (record {
-      text-room = q .before .before .before .before .before .before .before .before .before .pre .1 .0;
-      answers-room = omega (arith, n, e, q .lines .kept .1 .1 .1 .1 .1 .1 .0, c .before .before .before .before .before .before .before .before .before .before .before .before .if1 .left);
-      image-room = omega (arith, c .before .before .before .before .before .before .before .before .before .before .before .image-size .ensures (sessionFrom z (a .text .now) 0) (q .lines .last .1 .0) (q .lines .last .1 .1 .0) y, c .before .before .before .before .before .before .before .before .before .before .if2 .left);
-      lengths-room = q .before .before .before .before .before .before .before .before .before .pre .1 .1 .1;
-    })
+    (all-room b l e (p .1 .0) (q .lines .kept .1 .1 .1 .1 .1 .1 .0) (c .before .before .before .before .before .before .before .before .before .before .before .before .if1 .left) (c .before .before .before .before .before .before .before .before .before .before .before .image-size .ensures (sessionFrom z (a .text .now) 0) (q .lines .last .1 .0) (q .lines .last .1 .1 .0) y) (c .before .before .before .before .before .before .before .before .before .before .if2 .left) (p .1 .1 .1))
     (all-put b (a .answers .now) (l .stored) (c .before .before .before .before .before .before .before .before .put-answers .ensures w h))
-    (s .0) (omega (arith, n, e)) (s .1)
+    (s .0) (all-long b l e) (s .1)
 
 pub finish-spec : {M : Type 1} → statement M
 finish-spec =
