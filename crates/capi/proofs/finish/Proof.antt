@@ -28,7 +28,7 @@ returns c z w h b =
     let p = q .before .before .before .before .before .before .before .before .before .pre in
     let l = q .lines .ensures w h in
     let e = length-take-le (a .len) (a .first .now) (p .1 .1 .0) in
-    rw (l .stored) (run-refused z (a .text .now) (a .answers .now) (a .image-out .now) (a .lengths .now) (no-answers-room b l e (q .lines .kept .1 .1 .1 .1 .1 .1 .0) (c .if1 .taken)))
+    rw (l .stored) (run-refused z (a .text .now) (a .answers .now) (a .image-out .now) (a .lengths .now) (no-answers-room b l e (q .lines .kept .1 .1 .1 .1 .1 .1 .0) (omega (arith, c .if1 .taken))))
 
 image-size-requires : tie.Need-image-size-requires
 image-size-requires c κs =
@@ -52,7 +52,7 @@ put-answers-requires : tie.Need-put-answers-requires
 put-answers-requires c κs =
     let q = c .before .before .before .before .before .before .before .before in
     let p = q .before .before .before .before .before .before .before .before .before .pre in
-    (p .0, (p .1 .0, (p .1 .1 .0, λ z h e. lined-room (q .before .before .before .before .before .before .before .before .before .args .len) (q .lines .ensures z h) (c .before .before .before .if1 .left))))
+    (p .0, (p .1 .0, (p .1 .1 .0, λ z h e. lined-room (q .before .before .before .before .before .before .before .before .before .args .len) (q .lines .ensures z h) (omega (arith, c .before .before .before .if1 .left)))))
 
 save-image-requires : tie.Need-save-image-requires
 save-image-requires c κs =
@@ -87,9 +87,9 @@ returns-3 c z w h b =
     let y = all-left b l in
     let s = c .before .before .save-image .ensures (sessionFrom z (a .text .now) 0) y in
     run-accepted z (a .text .now) (a .answers .now) (a .image-out .now) (a .lengths .now)
-    (all-room b l e (p .1 .0) (q .lines .kept .1 .1 .1 .1 .1 .1 .0) (c .before .before .before .before .before .before .before .before .before .before .before .before .if1 .left) (c .before .before .before .before .before .before .before .before .before .before .before .image-size .ensures (sessionFrom z (a .text .now) 0) (q .lines .last .1 .0) (q .lines .last .1 .1 .0) y) (c .before .before .before .before .before .before .before .before .before .before .if2 .left) (p .1 .1 .1))
+    (all-room b l e (p .1 .0) (q .lines .kept .1 .1 .1 .1 .1 .1 .0) (omega (arith, c .before .before .before .before .before .before .before .before .before .before .before .before .if1 .left)) (c .before .before .before .before .before .before .before .before .before .before .before .image-size .ensures (sessionFrom z (a .text .now) 0) (q .lines .last .1 .0) (q .lines .last .1 .1 .0) y) (c .before .before .before .before .before .before .before .before .before .before .if2 .left) (p .1 .1 .1))
     (all-put b (a .answers .now) (l .stored) (c .before .before .before .before .before .before .before .before .put-answers .ensures w h))
-    (s .0) (all-long b l e) (s .1)
+    (s .0) (omega (arith, all-long b l e)) (s .1)
 
 pub finish-spec : {M : Type 1} → statement M
 finish-spec =
