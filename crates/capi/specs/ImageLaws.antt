@@ -13,7 +13,6 @@ use Rattle.table.specs.Sound.{Sound}
 use Rattle.image.specs.Counted.{counted}
 use Rattle.image.specs.Encode.{perDesk, encode}
 use Rattle.image.specs.Saved.{length-is}
-use Rattle.load.specs.Loading.{image-most}
 use Rattle.session.specs.Session.{Session}
 use Rattle.session.specs.Holds.{Holds}
 use Rattle.capi.specs.Access.{imageOf}
@@ -40,8 +39,3 @@ module _ (n m : ℕ) (ds : List Desk) (cs os : List ℕ) where
   image-long f z h =
       let i = image-is f z h in
       length-is n m ds cs os (i .0) ∙ ap length (sym (i .1))
-
-  -- at most 37 blocks
-  pub image-short : (z : Session) → Holds n m ds cs os z → length (imageOf z) ≤ 18944
-  image-short none h = omega arith
-  image-short (some s) h = image-most s (rw (h .model-is) at (h .sound .rules))

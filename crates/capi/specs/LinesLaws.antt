@@ -1,8 +1,8 @@
 -- The lines of a text by runs, one after the other: each run's answers go behind those before it.
-use mathlib.Core.Path.{_≡_, refl, sym, ap, subst, _∙_}
+use mathlib.Core.Path.{_≡_, refl, sym, ap, _∙_}
 use mathlib.Core.List.{List, [], _++_, append-assoc, append-nil}
 use mathlib.Core.Bool.{Bool, true, false}
-use Prim.Native.Nat.{ℕ, _+_, _-_, _*_, _<_, _≤_, max}
+use Prim.Native.Nat.{ℕ, _+_, _-_, _*_, _^_, _<_, _≤_, max}
 use native.Mathlib.Omega.{arith}
 use lib.ListN.{length, take, length-append}
 use lib.Seq.{sets, length-sets}
@@ -70,6 +70,19 @@ module _ {z : Session} {text : List ℕ} {from : ℕ} {put : Bool} {out : List �
     -- what a run answered has room, as all of it has
     pub lining-room : base + length (transcriptFrom z text from) ≤ length out → base + len + more ≤ length out′
     lining-room h = omega (arith, g .len-is, r .len-is, lining-long, simp length-append at (ap length all-is))
+
+    -- so its place, the next length and the run's own part are numbers that fit
+    pub lining-place : base + length (transcriptFrom z text from) ≤ length out → length out < 2 ^ 64 → base + len < 2 ^ 64
+    lining-place h l = omega (arith, lining-room h, lining-long)
+
+    pub lining-sum : length part ≡ most-part → length text ≤ most-text → len + more < 2 ^ 64
+    lining-sum p h = omega (arith, g .few, g .within, r .len-is, r .fits)
+
+    pub lining-part : more ≤ length part′
+    lining-part = omega (arith, r .len-is, r .fits, ap length (r .stored) ∙ length-sets part 0 (r .lines))
+
+    pub lining-less : length part ≡ most-part → at < length text → length text - at′ < length text - at
+    lining-less p h = omega (arith, r .progress h (omega arith))
 
     -- one run more
     pub lining-on : {out″ : List ℕ} → length part ≡ most-part → at < length text → out″ ≡ pick put (sets out′ (base + len) (take more part′)) out′

@@ -1,14 +1,13 @@
 -- A call from a session: refused where something is too long or too short, else its answers are those of the first run and of the lines behind it.
 use mathlib.Core.Path.{_≡_, sym, ap, _∙_}
 use mathlib.Core.List.{List, [], _∷_, _++_}
-use mathlib.Core.Bool.{Bool, true, false, _&&_}
-use Prim.Native.Nat.{ℕ, _+_, _*_, _<_, _≤_}
+use mathlib.Core.Bool.{Bool, _&&_}
+use Prim.Native.Nat.{ℕ, _+_, _*_, _^_, _<_, _≤_}
 use native.Mathlib.Omega.{arith}
-use native.Mathlib.Nat.{zero-add}
 use lib.Dec.{leb}
 use lib.ListN.{length, take, length-append}
-use lib.Seq.{sets}
-use Rattle.laws.specs.Loop.{pick, cases}
+use lib.Seq.{sets, length-take-le}
+use Rattle.laws.specs.Loop.{cases}
 use Rattle.laws.specs.Says.{Says, says-leb, says-both}
 use Rattle.laws.specs.Stores.{sets-append}
 use Rattle.table.specs.declared.Desk.{Desk}
@@ -16,8 +15,8 @@ use Rattle.session.specs.Session.{Session}
 use Rattle.session.specs.Transcript.{transcriptFrom, sessionFrom, most-text}
 use Rattle.session.specs.Holds.{Holds}
 use Rattle.session.specs.Run.{Ran, ran-part}
-use Rattle.capi.specs.Access.{Left, left, imageOf, fits, runFrom}
-use Rattle.capi.specs.Lines.{most-part, LinedFrom}
+use Rattle.capi.specs.Access.{left, imageOf, fits, runFrom}
+use Rattle.capi.specs.Lines.{LinedFrom, Behind}
 
 -- what has to fit
 pub record Room (z : Session) (text answers image lengths : List ℕ) : Type 0 where
@@ -53,23 +52,45 @@ module _ (z : Session) (text answers image lengths : List ℕ) where
   unfolding runFrom
   run-accepted r ea ei el es = rw (says-fits .from r, ea, ei, el, es)
 
--- the first run, and the lines behind it
-module _ {z : Session} {text kept : List ℕ} {n m : ℕ} {ds : List Desk} {cs os : List ℕ} {at len : ℕ} {kept′ : List ℕ} (r : Ran z text 0 kept n m ds cs os at len kept′) where
-  module _ {put : Bool} {out : List ℕ} {from n′ m′ : ℕ} {ds′ : List Desk} {cs′ os′ : List ℕ} {more : ℕ} {out′ : List ℕ}
-      (l : LinedFrom (r .session) text at put out from n′ m′ ds′ cs′ os′ more out′) where
-    pub all-long : len + more ≡ length (transcriptFrom z text 0)
-    all-long = omega (arith, r .len-is, l .len-is, simp length-append at (ap length (r .rest)))
+-- what was counted has room where the code's test says so
+pub lined-room : {z : Session} {text : List ℕ} {at : ℕ} {put : Bool} {out : List ℕ} {from n m : ℕ} {ds : List Desk} {cs os : List ℕ} {more : ℕ} {out′ : List ℕ} {room : ℕ} (len : ℕ)
+    → LinedFrom z text at put out from n m ds cs os more out′ → len + more ≤ room → len + length (transcriptFrom z text at) ≤ room
+lined-room len l h = omega (arith, l .len-is)
 
-    pub all-few : len + more ≤ length kept + most-part * most-text
-    all-few = omega (arith, r .len-is, r .fits, l .few)
+pub lined-sum : {z : Session} {text : List ℕ} {at : ℕ} {put : Bool} {out : List ℕ} {from n m : ℕ} {ds : List Desk} {cs os : List ℕ} {more : ℕ} {out′ : List ℕ} {len long : ℕ}
+    → LinedFrom z text at put out from n m ds cs os more out′ → len ≤ long → long * 1 < 2 ^ 63 → len + more < 2 ^ 64
+lined-sum l h f = omega (arith, l .few)
 
-    pub all-left : Holds n′ m′ ds′ cs′ os′ (sessionFrom z text 0)
-    all-left = rw (r .leaves) (l .holds)
+-- the first answers, and those of the lines behind them
+module _ {z w : Session} {text : List ℕ} {at : ℕ} {first : List ℕ} (b : Behind z w text at first) where
+  module _ {put : Bool} {out : List ℕ} {from n m : ℕ} {ds : List Desk} {cs os : List ℕ} {more : ℕ} {out′ : List ℕ} (l : LinedFrom w text at put out from n m ds cs os more out′) where
+    pub all-left : Holds n m ds cs os (sessionFrom z text 0)
+    all-left = rw (b .leaves) (l .holds)
 
-  -- their answers one after the other
-  pub all-put : (out : List ℕ) {out₁ out₂ out₃ : List ℕ} → out₁ ≡ out → out₂ ≡ sets out₁ 0 (take len kept′) → out₃ ≡ sets out₂ len (transcriptFrom (r .session) text at)
-      → out₃ ≡ sets out 0 (transcriptFrom z text 0)
-  all-put out d e f =
-      let v = transcriptFrom (r .session) text at in
-      let q : len ≡ 0 + length (r .lines) = r .len-is ∙ sym (zero-add (length (r .lines))) in
-      f ∙ rw (e, d, ran-part r) (ap (λ (x : ℕ). sets (sets out 0 (r .lines)) x v) q ∙ sym (sets-append (r .lines) v out 0) ∙ rw (r .rest))
+    module _ {len : ℕ} (e : length first ≡ len) where
+      pub all-long : len + more ≡ length (transcriptFrom z text 0)
+      all-long = omega (arith, l .len-is, simp length-append at (ap length (b .rest)))
+
+      pub no-answers-room : {answers image lengths : List ℕ} {r : ℕ} → r ≡ length answers → r < len + more → Room z text answers image lengths → ⊥
+      no-answers-room q h m = omega (arith, m .answers-room, all-long)
+
+      pub all-room : {answers image lengths : List ℕ} {r size : ℕ} → length text ≤ most-text → r ≡ length answers → len + more ≤ r
+          → size ≡ length (imageOf (sessionFrom z text 0)) → size ≤ length image → 2 ≤ length lengths → Room z text answers image lengths
+      all-room t q h i g k = record { text-room = t; answers-room = omega (arith, all-long); image-room = omega arith; lengths-room = k }
+
+  pub all-put : (out : List ℕ) {out₁ out₂ : List ℕ} → out₁ ≡ out → out₂ ≡ sets out₁ 0 (first ++ transcriptFrom w text at) → out₂ ≡ sets out 0 (transcriptFrom z text 0)
+  all-put out d e = e ∙ rw (d, b .rest)
+
+pub no-image-room : {z : Session} {text answers image lengths : List ℕ} {size : ℕ} → size ≡ length (imageOf (sessionFrom z text 0)) → length image < size → Room z text answers image lengths → ⊥
+no-image-room e h m = omega (arith, m .image-room)
+
+pub both-put : (first : List ℕ) (len : ℕ) (more out : List ℕ) {out₁ out₂ : List ℕ} → len ≤ length first → out₁ ≡ sets out 0 (take len first) → out₂ ≡ sets out₁ len more
+    → out₂ ≡ sets out 0 (take len first ++ more)
+both-put first len more out h e f =
+    let q : len ≡ 0 + length (take len first) = omega (arith, length-take-le len first h) in
+    f ∙ rw e (ap (λ (x : ℕ). sets (sets out 0 (take len first)) x more) q ∙ sym (sets-append (take len first) more out 0))
+
+-- the first run
+pub ran-behind : {z : Session} {text kept : List ℕ} {n m : ℕ} {ds : List Desk} {cs os : List ℕ} {at len : ℕ} {kept′ : List ℕ} (r : Ran z text 0 kept n m ds cs os at len kept′)
+    → Behind z (r .session) text at (take len kept′)
+ran-behind r = record { rest = rw (ran-part r) (r .rest); leaves = r .leaves }

@@ -2,16 +2,15 @@
 use mathlib.Core.Path.{_≡_, refl, sym, ap, _∙_}
 use mathlib.Core.List.{List, [], _∷_, _++_}
 use mathlib.Core.Option.{none, some}
-use Prim.Native.Nat.{ℕ, _*_}
+use Prim.Native.Nat.{ℕ}
 use native.Mathlib.Omega.{arith}
-use lib.ListN.{length, take, getD}
 use Rattle.schedule.specs.Lines.{LF}
 use Rattle.image.specs.Encode.{encode}
 use Rattle.image.specs.Places.{length-encode}
 use Rattle.image.specs.Load.{load-encode}
 use Rattle.session.specs.Session.{Session}
 use Rattle.session.specs.Transcript.{linesOf, transcriptFrom, sessionFrom}
-use Rattle.capi.specs.Access.{Left, begin, started, imageOf, startOf, accessRun}
+use Rattle.capi.specs.Access.{begin, started, imageOf, startOf, accessRun}
 use Rattle.capi.specs.Kept.{Kept, session-kept}
 use Rattle.capi.specs.CutLaws.{lines-cut, session-append, bytes-append}
 use Rattle.capi.specs.StartLaws.{start-load}

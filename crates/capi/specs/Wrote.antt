@@ -1,22 +1,19 @@
 -- What a call that is not refused wrote.
-use mathlib.Core.Path.{_≡_, refl, sym, ap, _∙_}
+use mathlib.Core.Path.{_≡_, refl, ap, _∙_}
 use mathlib.Core.List.{List, [], _∷_}
 use mathlib.Core.Option.{none, some}
-use mathlib.Core.Bool.{true}
 use Prim.Native.Nat.{ℕ, _≤_}
 use native.Mathlib.Omega.{arith}
 use lib.ListN.{length, take, getD, set, length-set}
 use lib.Seq.{sets, getD-set-same, getD-set-other}
 use Rattle.laws.specs.Loop.{cases}
-use Rattle.machine.specs.Rules.{Rules}
 use Rattle.image.specs.Load.{Loaded, load, Loads, by-damage, by-rule, as-saved, load-loads}
 use Rattle.load.specs.Loading.{saved-part}
 use Rattle.session.specs.Session.{Session}
 use Rattle.session.specs.Transcript.{transcriptFrom, sessionFrom}
-use Rattle.capi.specs.Access.{Left, left, imageOf, begin, started, startOf, fits, runFrom, runStarted, accessRun}
+use Rattle.capi.specs.Access.{Left, imageOf, begin, started, startOf, fits, runFrom, accessRun}
 use Rattle.capi.specs.Kept.{Kept}
 use Rattle.capi.specs.RunLaws.{Room, says-fits}
-use Rattle.capi.specs.StartLaws.{start-load}
 
 -- "`lengths` holds the bytes written to each"
 abbrev pub answersIn : Left → List ℕ

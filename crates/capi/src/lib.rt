@@ -1,13 +1,15 @@
 // The face to other languages: a saved table and a schedule in, the answers and the table saved after it out.
 ghost use mathlib.Core.Path.{_≡_};
+ghost use mathlib.Core.Bool.{true};
 ghost use Prim.Native.Nat.{ℕ, _+_, _≤_};
 ghost use lib.ListN.{length, take};
 ghost use lib.Seq.{sets};
 ghost use Rattle.session.specs.Holds.{SomeSession};
 ghost use Rattle.session.specs.Transcript.{most-text};
 ghost use Rattle.capi.specs.Access.{left, accessRun};
-ghost use Rattle.capi.specs.Lines.{RoomFor, Lined, SomeCore, ImageSize, ImageRoom, ImageSaved, RunsFrom};
+ghost use Rattle.capi.specs.Lines.{most-part, RoomFor, Lined, SomeCore, ImageSize, ImageRoom, ImageSaved, BothPut, Finishes, RunsFrom, Starts};
 use clock::PLACES;
+use load::Loading;
 use load::Outcome;
 use table::CELL;
 use table::CELLS;
@@ -28,6 +30,19 @@ const PART: usize = 16384;
 struct Ended {
     core: Core,
     len: usize,
+}
+
+// Zeros, of which the contract tells the number alone.
+fn kept_room() -> [u8; KEPT]
+    ensures { λ r. ⌜ length r ≡ 131072 ⌝ }
+{
+    [0u8; KEPT]
+}
+
+fn part_room() -> [u8; PART]
+    ensures { λ r. ⌜ length r ≡ most-part ⌝ }
+{
+    [0u8; PART]
 }
 
 // The first len bytes of a part, put into the buffer from place at on.
@@ -58,7 +73,7 @@ fn lines(
     ensures { λ r. ⌜ Lined (core .n) (core .m) (core .desks) (now (cells .entry)) (now (opens .entry)) (now (text .entry)) at put (now (out .entry)) from (r .core .n) (r .core .m) (r .core .desks) (now (cells .exit)) (now (opens .exit)) (r .len) (now (out .exit)) ⌝ }
 {
     let mut last = core;
-    let mut part = [0u8; PART];
+    let mut part = part_room();
     let mut place = at;
     let mut len = 0;
     while place < text.len() {
@@ -107,7 +122,72 @@ fn save_image(
     image::save_parts(core, cells, opens, out)
 }
 
-// From a session: nothing is put before it is known that all of it fits.
+// The first answers and those of the lines behind them, into a buffer that has room for both.
+fn put_answers(
+    first: &[u8],
+    len: usize,
+    core: Core,
+    first_cells: [u16; PLACES * CELLS * CELL],
+    first_opens: [u16; OPENS * OPEN],
+    text: &[u8],
+    at: usize,
+    answers: &mut [u8],
+)
+    requires { ⌜ SomeSession (core .n) (core .m) (core .desks) «first_cells» «first_opens» ⌝ }
+    requires { ⌜ (length (now text) ≤ most-text) × ((len ≤ length (now first)) × RoomFor (core .n) (core .m) (core .desks) «first_cells» «first_opens» (now text) at true (now answers) len) ⌝ }
+    ensures { λ _. ⌜ BothPut (core .n) (core .m) (core .desks) «first_cells» «first_opens» (now (text .entry)) at (take len (now (first .entry))) (now (answers .entry)) (now (answers .exit)) ⌝ }
+{
+    let mut cells = first_cells;
+    let mut opens = first_opens;
+    copy(first, len, answers, 0);
+    lines(core, &mut cells, &mut opens, text, at, true, answers, len);
+}
+
+// Behind the first answers: what the lines there answer is counted, and nothing is put before it is known that all of it fits.
+fn finish(
+    first: &[u8],
+    len: usize,
+    core: Core,
+    cells: [u16; PLACES * CELLS * CELL],
+    opens: [u16; OPENS * OPEN],
+    text: &[u8],
+    at: usize,
+    answers: &mut [u8],
+    image_out: &mut [u8],
+    lengths: &mut [u64],
+) -> u64
+    requires { ⌜ SomeSession (core .n) (core .m) (core .desks) cells opens ⌝ }
+    requires { ⌜ (length (now text) ≤ most-text) × ((len ≤ length (now first)) × (2 ≤ length (now lengths))) ⌝ }
+    ensures { λ r. ⌜ Finishes (core .n) (core .m) (core .desks) cells opens (now (text .entry)) at (take len (now (first .entry))) (now (answers .entry)) (now («image_out» .entry)) (now (lengths .entry)) (left r (now (answers .exit)) (now («image_out» .exit)) (now (lengths .exit))) ⌝ }
+{
+    let mut last_cells = cells;
+    let mut last_opens = opens;
+    let e = lines(
+        core,
+        &mut last_cells,
+        &mut last_opens,
+        text,
+        at,
+        false,
+        answers,
+        len,
+    );
+    let last = e.core;
+    let all = len + e.len;
+    if answers.len() < all {
+        return 14;
+    }
+    if image_out.len() < image_size(last) {
+        return 14;
+    }
+    put_answers(first, len, core, cells, opens, text, at, answers);
+    let size = save_image(last, &last_cells, &last_opens, image_out);
+    lengths[0] = all as u64;
+    lengths[1] = size as u64;
+    0
+}
+
+// From a session.
 fn run_from(
     core: Core,
     first_cells: [u16; PLACES * CELLS * CELL],
@@ -128,37 +208,38 @@ fn run_from(
     }
     let mut cells = first_cells;
     let mut opens = first_opens;
-    let mut kept = [0u8; KEPT];
+    let mut kept = kept_room();
     let p = session::run(core, &mut cells, &mut opens, text, 0, &mut kept);
     let middle = p.core;
     let at = p.at;
     let len = p.len;
-    let mut last_cells = cells;
-    let mut last_opens = opens;
-    let e = lines(
+    finish(
+        &kept,
+        len,
         middle,
-        &mut last_cells,
-        &mut last_opens,
+        cells,
+        opens,
         text,
         at,
-        false,
         answers,
-        len,
-    );
-    let last = e.core;
-    let all = len + e.len;
-    if answers.len() < all {
-        return 14;
+        image_out,
+        lengths,
+    )
+}
+
+// The table in an image; from an empty one there is none yet, and nothing but zeros.
+fn start(image: &[u8]) -> Loading
+    ensures { λ r. ⌜ Starts (now (image .entry)) (r .answer) (r .table) ⌝ }
+{
+    if image.len() == 0 {
+        let none = table::begin(0, 0);
+        let t = none.table;
+        return Loading {
+            answer: Outcome::Accepted,
+            table: t,
+        };
     }
-    if image_out.len() < image_size(last) {
-        return 14;
-    }
-    copy(&kept, len, answers, 0);
-    lines(middle, &mut cells, &mut opens, text, at, true, answers, len);
-    let size = save_image(last, &last_cells, &last_opens, image_out);
-    lengths[0] = all as u64;
-    lengths[1] = size as u64;
-    0
+    load::load(image)
 }
 
 // Nothing is kept between two calls: what goes on is the image.
@@ -172,13 +253,7 @@ pub extern "C" fn access_run(
 ) -> u64
     ensures { λ r. ⌜ left r (now (answers .exit)) (now («image_out» .exit)) (now (lengths .exit)) ≡ accessRun (now (image .entry)) (now (schedule .entry)) (now (answers .entry)) (now («image_out» .entry)) (now (lengths .entry)) ⌝ }
 {
-    if image.len() == 0 {
-        let none = session::start();
-        let cells = [0u16; PLACES * CELLS * CELL];
-        let opens = [0u16; OPENS * OPEN];
-        return run_from(none, cells, opens, schedule, answers, image_out, lengths);
-    }
-    let l = load::load(image);
+    let l = start(image);
     let o = l.answer;
     let t = l.table;
     match o {

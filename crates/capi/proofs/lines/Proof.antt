@@ -1,21 +1,16 @@
-use Prim.Native.Nat.{ℕ, _+_, _-_}
-use mathlib.Core.Path.{_≡_, _∙_}
+use Prim.Native.Nat.{_+_, _-_}
+use mathlib.Core.Path.{_≡_, sym, _∙_}
 use mathlib.Core.Logic.{⊎-elim}
-use native.Mathlib.Omega.{arith}
-use lib.ListN.{length, take, length-replicate}
+use lib.ListN.{length, take}
 use lib.Seq.{sets}
 use Rattle.laws.specs.Loop.{pick}
 use Rattle.session.specs.Session.{Session}
 use Rattle.session.specs.Holds.{Holds}
 use Rattle.capi.specs.Lines.{most-part}
-use Rattle.capi.specs.LinesLaws.{Lining, lining-start, lining-long, lining-room, lining-on, lining-end}
+use Rattle.capi.specs.LinesLaws.{Lining, lining-start, lining-long, lining-room, lining-place, lining-sum, lining-part, lining-less, lining-on, lining-end}
 use borrow.Author.Needs.{needs}
 use Rattle.capi.proofs.lines.Statement.{statement}
 use Rattle.capi.proofs.lines.Tie as tie
-use Rattle.capi.proofs.lines.Reads as reads
-use Rattle.capi.proofs.lines.Lts as lts
-use Rattle.capi.proofs.copy.Reads as copy-reads
-use Rattle.session.proofs.run.Reads as run-reads
 
 abbrev Inv-loop : tie.InvT-loop
 Inv-loop cells₀ opens₀ text at put out₀ from last₀ part₀ place₀ len₀ cells opens out last part place len =
@@ -26,7 +21,7 @@ abbrev μ-loop : tie.MeasureT-loop
 
 -- the buffer after a turn
 put-out : (c : tie.Joined1 Inv-loop μ-loop)
-    → (let a = c .before .before .before .before .before .before .before .before .before .before .args in let L = c .before .before .before .before .before .before .before .loop in let u = c .before .before .run in
+    → (let a = c .before .before .before .before .before .before .before .before .before .before .before .args in let L = c .before .before .before .before .before .before .before .loop in let u = c .before .before .run in
     c .if1 .out ≡ pick (a .put) (sets (L .out) (a .from + L .len) (take (u .result .len) (u .last .1 .1 .1 .1 .1 .0))) (L .out))
 put-out c =
     ⊎-elim
@@ -34,51 +29,55 @@ put-out c =
     (λ w. rw (w .0 .left) (w .1))
     (c .if1 .came)
 
+part-room-requires : tie.Need-part-room-requires Inv-loop μ-loop
+part-room-requires c κs = search needs
+
 loop-holds : tie.Need-loop-holds Inv-loop μ-loop
-loop-holds c = (length-replicate {A = ℕ} 16384 0, λ z h. lining-start h)
+loop-holds c = (c .part-room .ensures, λ z h. lining-start h)
 
 slice-aggregate-run : tie.Need-slice-aggregate-run Inv-loop μ-loop
-slice-aggregate-run c = search needs
+slice-aggregate-run c = sym (c .before .before .before .before .loop .inv .0)
 
 run-requires : tie.Need-run-requires Inv-loop μ-loop
 run-requires c κs =
-    let p = c .before .before .before .before .before .before .before .pre in
+    let p = c .before .before .before .before .before .before .before .before .pre in
     let g = c .before .before .before .before .loop .inv .1 (p .0 .session) (p .0 .holds) in
     record { session = g .session; holds = g .holds }
 
 slice-aggregate-copy : tie.Need-slice-aggregate-copy Inv-loop μ-loop
-slice-aggregate-copy c = search needs
+slice-aggregate-copy c = sym (c .before .before .before .run .kept .1 .1 .1 .1 .1 .0 ∙ c .before .before .before .before .before .before .before .before .loop .inv .0)
 
 add-copy : tie.Need-add-copy Inv-loop μ-loop
 add-copy c =
-    let p = c .before .before .before .before .before .before .before .before .before .before .before .before .pre in
-    let g = c .before .before .before .before .before .before .before .before .before .loop .inv .1 (p .0 .session) (p .0 .holds) in
+    let p = c .before .before .before .before .before .before .before .before .before .before .before .before .before .pre in
+    let L = c .before .before .before .before .before .before .before .before .before .loop in
+    let g = L .inv .1 (p .0 .session) (p .0 .holds) in
     let r = c .before .before .before .before .run .ensures (g .session) (g .holds) in
-    omega (arith, lining-room g r (p .1 .1 (p .0 .session) (p .0 .holds) (c .before .before .if1 .taken)), lining-long g, c .before .before .before .before .before .before .before .before .before .before .before .before .good)
+    record { fits = lining-place g r (p .1 .1 (p .0 .session) (p .0 .holds) (c .before .before .if1 .taken)) (c .before .before .before .before .before .before .before .before .before .before .before .before .before .good .1 .1 .1 .1 .1 .1 .0 .0) }
 
 copy-requires : tie.Need-copy-requires Inv-loop μ-loop
 copy-requires c κs =
-    let p = c .before .before .before .before .before .before .before .before .before .before .before .before .pre in
-    let g = c .before .before .before .before .before .before .before .before .before .loop .inv .1 (p .0 .session) (p .0 .holds) in
+    let p = c .before .before .before .before .before .before .before .before .before .before .before .before .before .pre in
+    let L = c .before .before .before .before .before .before .before .before .before .loop in
+    let g = L .inv .1 (p .0 .session) (p .0 .holds) in
     let r = c .before .before .before .before .run .ensures (g .session) (g .holds) in
-    (omega (arith, r .len-is, r .fits, c .before .before .before .before .run .kept), lining-room g r (p .1 .1 (p .0 .session) (p .0 .holds) (c .before .before .if1 .taken)))
+    (lining-part g r, lining-room g r (p .1 .1 (p .0 .session) (p .0 .holds) (c .before .before .if1 .taken)))
 
 add-len : tie.Need-add-len Inv-loop μ-loop
 add-len c =
-    let p = c .before .before .before .before .before .before .before .before .before .before .before .pre in
+    let p = c .before .before .before .before .before .before .before .before .before .before .before .before .pre in
     let L = c .before .before .before .before .before .before .before .before .loop in
     let g = L .inv .1 (p .0 .session) (p .0 .holds) in
     let r = c .before .before .before .run .ensures (g .session) (g .holds) in
-    omega (arith, g .few, g .within, r .len-is, r .fits, L .inv .0, p .1 .0)
+    record { fits = lining-sum g r (L .inv .0) (p .1 .0) }
 
 loop-less : tie.Need-loop-less Inv-loop μ-loop
 loop-less c =
-    let p = c .before .before .before .before .before .before .before .before .before .before .before .pre in
+    let p = c .before .before .before .before .before .before .before .before .before .before .before .before .pre in
     let L = c .before .before .before .before .before .before .before .before .loop in
     let g = L .inv .1 (p .0 .session) (p .0 .holds) in
     let r = c .before .before .before .run .ensures (g .session) (g .holds) in
-    let h = c .before .before .before .before .before .before .before .loop-test .taken in
-    omega (arith, r .progress h (omega (arith, L .inv .0)), h)
+    lining-less g r (L .inv .0) (c .before .before .before .before .before .before .before .loop-test .taken)
 
 loop-again : tie.Need-loop-again Inv-loop μ-loop
 loop-again c =
@@ -89,10 +88,10 @@ loop-again c =
     )
 
 same-length : tie.Need-same-length Inv-loop μ-loop
-same-length c = let p = c .before .before .before .before .pre in lining-long (c .before .loop .inv .1 (p .0 .session) (p .0 .holds))
+same-length c = let p = c .before .before .before .before .before .pre in lining-long (c .before .loop .inv .1 (p .0 .session) (p .0 .holds))
 
 returns : tie.Need-returns Inv-loop μ-loop
-returns c z h = lining-end (c .before .loop .inv .1 z h) (c .before .before .before .before .pre .1 .0) (c .loop-test .left)
+returns c z h = lining-end (c .before .loop .inv .1 z h) (c .before .before .before .before .before .pre .1 .0) (c .loop-test .left)
 
 pub lines-spec : {M : Type 1} → statement M
 lines-spec =
@@ -100,6 +99,7 @@ lines-spec =
     (tie.spec
     Inv-loop
     μ-loop
+    part-room-requires
     loop-holds
     slice-aggregate-run
     run-requires

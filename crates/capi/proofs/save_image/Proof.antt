@@ -1,16 +1,10 @@
-use mathlib.Core.Path.{refl, sym, ap, _∙_}
-use mathlib.Core.List.{List}
-use Prim.Native.Nat.{ℕ, _≤_}
+use mathlib.Core.Path.{refl, ap}
 use native.Mathlib.Omega.{arith}
 use lib.ListN.{length}
-use lib.Seq.{sets}
 use Rattle.capi.specs.ImageLaws.{no-image, image-is}
 use borrow.Author.Needs.{needs}
 use Rattle.capi.proofs.save_image.Statement.{statement}
 use Rattle.capi.proofs.save_image.Tie as tie
-use Rattle.capi.proofs.save_image.Reads as reads
-use Rattle.capi.proofs.save_image.Lts as lts
-use Rattle.image.proofs.save_parts.Reads as save-parts-reads
 
 returns : tie.Need-returns
 returns c z h =
