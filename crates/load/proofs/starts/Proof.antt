@@ -40,9 +40,9 @@ loop-again c =
     let l = c .before .before .before .before .before .args .l .now in (
       search needs,
       ⊎-elim
-      (λ w. rw (w .1) (record { to = λ e. clash e; from = λ f. absurd (w .0 .taken (f (L .i) (omega arith))) }))
-      (λ w. rw (w .1) (says-as (L .same) (L .inv .1) (λ f. below-more _ _ f (w .0 .left)) (λ f k h. f k (omega arith))))
-      (c .if1 .came),
+          (λ w. rw (w .1) (record { to = λ e. clash e; from = λ f. absurd (w .0 .taken (f (L .i) (omega arith))) }))
+          (λ w. rw (w .1) (says-as (L .same) (L .inv .1) (λ f. below-more _ _ f (w .0 .left)) (λ f k h. f k (omega arith))))
+          (c .if1 .came),
     )
 
 returns : tie.Need-returns Inv-loop μ-loop
