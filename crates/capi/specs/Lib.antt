@@ -8,3 +8,4 @@ pub mod CutLaws
 pub mod Kept
 pub mod Wrote
 pub mod Split
+pub mod Demand
