@@ -38,7 +38,8 @@ use Rattle.image.specs.Encode.{words, cellPart, cellBytes, perDesk, openBlocks,
 use Rattle.image.specs.Places.{length-encode, part-3}
 use Rattle.image.specs.Fields.{vec-words, vecOf, cellOf, openOf, writerIn, numberIn}
 use Rattle.image.specs.Decode.{nIn, mIn, countIn, deskPlace, cellPlace, openPlace, deskIn, cellIn, entryIn, decode, Shows, n-back, m-back, count-back, applied-back, clock-back, cell-back, shows-at, open-name}
-use Rattle.load.specs.Read.{wordsFrom, cellFrom, openFrom, deskFrom, noDesk, noCell, noOpen, deskFor, cellFor, openFor, Fits, CellsRead, OpensRead, getD-part, part-part, place-words, cell-read, open-read}
+use Rattle.load.specs.Spread.{Among, Spread, OpensRead}
+use Rattle.load.specs.Read.{wordsFrom, cellFrom, openFrom, deskFrom, noDesk, noCell, noOpen, deskFor, cellFor, openFor, Fits, CellsRead, getD-part, part-part, place-words, cell-read, open-read}
 
 -- desks: one part of them, read at p of the payload
 module _ (b : List ℕ) (n : ℕ) (h : n ≤ places) (g : Desk → Vec) (p : ℕ) (reads : (i : ℕ) → g (deskFrom b i) ≡ vecOf (part (deskPlace p i) 16 b)) (past : g noDesk ≡ zeros) (none-there : g desk0 ≡ zeros) where
@@ -140,36 +141,21 @@ module _ (b : List ℕ) (n m : ℕ) (hn : n ≤ places) (hm : m ≤ desk-cells) 
           each zero = cell-out cs (suc i) zero (λ p q. omega (arith, q .0))
           each (suc x) = cell-off i x (λ q. o (omega arith) (q .0))
 
--- open writes
-module _ (b : List ℕ) (n m count : ℕ) (few : count ≤ entries) (os : List ℕ) (read : OpensRead b n m count os) where
-  entry-on : (p : ℕ) → p < count → openAt os p ≡ openFrom b (openPlace n m p)
-  unfolding openFor
-  entry-on p h = read p (omega arith) ∙ rw (lt-ltb p count h)
-
-  entry-off : (p : ℕ) → p < entries → count ≤ p → isFree (openAt os p) ≡ true
-  unfolding openFor
-  entry-off p h l = rw (read p h, le-ltb p count l)
-
-  writer-read : (p : ℕ) → p < count → openAt os p .writer ≡ writerIn (part (openPlace n m p) 28 b)
-  writer-read p h =
+-- open writes: what stands at a place of the image, as the code reads it
+module _ (b : List ℕ) (n m p : ℕ) where
+  writer-read : openFrom b (openPlace n m p) .writer ≡ writerIn (part (openPlace n m p) 28 b)
+  writer-read =
       let z : openPlace n m p + 0 ≡ openPlace n m p = omega arith in
-      ap (λ (o : Open). o .writer) (entry-on p h) ∙ sym (getD-part b (openPlace n m p) 28 0 (omega arith) ∙ rw z)
+      sym (getD-part b (openPlace n m p) 28 0 (omega arith) ∙ rw z)
 
-  number-read : (p : ℕ) → p < count → number (openAt os p) ≡ numberIn (part (openPlace n m p) 28 b)
+  number-read : number (openFrom b (openPlace n m p)) ≡ numberIn (part (openPlace n m p) 28 b)
   unfolding numberIn
-  number-read p h =
-      rw (← writer-read p h, part-part b (openPlace n m p) 4 16 28 (omega arith), ← place-words b (openPlace n m p + 4), entry-on p h)
-
-  whole-read : (p : ℕ) → p < count → openM (openAt os p) ≡ openOf (part (openPlace n m p) 28 b)
-  whole-read p h = ap openM (entry-on p h) ∙ open-read b (openPlace n m p)
+  number-read = rw (← writer-read, part-part b (openPlace n m p) 4 16 28 (omega arith), ← place-words b (openPlace n m p + 4))
 
 -- all of it, of the image of a table s that keeps the rules
-module _ (s : State) (ok : Rules s) (os : List ℕ) (read : OpensRead (encode s) (s .desks) (s .cells) (openCount s) os) where
+module _ (s : State) (ok : Rules s) where
   abbrev at : ℕ → Name
   at p = getD (names s) p no-name
-
-  few : openCount s ≤ entries
-  few = ok .frame .ranges .few
 
   is-open : (p : ℕ) → p < openCount s → OpenName s (at p)
   is-open p h = each-in (OpenName s) (names s) no-name (names-open s) p (omega (arith, length-names s))
@@ -177,62 +163,79 @@ module _ (s : State) (ok : Rules s) (os : List ℕ) (read : OpensRead (encode s)
   shows : (p : ℕ) → p < openCount s → Shows s (at p .writer) (at p .number) (part (openPlace (s .desks) (s .cells) p) 28 (encode s))
   shows p h = shows-at s ok p h
 
-  writer-is : (p : ℕ) → p < openCount s → openAt os p .writer ≡ at p .writer
-  writer-is p h = writer-read (encode s) (s .desks) (s .cells) (openCount s) few os read p h ∙ shows p h .writer
+  abbrev from : ℕ → Open
+  from p = openFrom (encode s) (openPlace (s .desks) (s .cells) p)
 
-  number-is : (p : ℕ) → p < openCount s → number (openAt os p) ≡ at p .number
-  number-is p h = number-read (encode s) (s .desks) (s .cells) (openCount s) few os read p h ∙ shows p h .number
+  writer-from : (p : ℕ) → p < openCount s → from p .writer ≡ at p .writer
+  writer-from p h = writer-read (encode s) (s .desks) (s .cells) p ∙ shows p h .writer
 
-  in-use : (p : ℕ) → p < openCount s → isFree (openAt os p) ≡ false
-  in-use p h = ne-eqb (openAt os p .writer) 0 (λ e. (let w = writer-is p h in let i = is-open p h .writer-in .0 in omega arith))
+  number-from : (p : ℕ) → p < openCount s → number (from p) ≡ at p .number
+  number-from p h = number-read (encode s) (s .desks) (s .cells) p ∙ shows p h .number
 
-  named-so : (p : ℕ) → p < openCount s → namedAt os (at p .writer) (at p .number) p ≡ true
-  named-so p h = rw (← writer-is p h, ← number-is p h) (own-named (openAt os p) (in-use p h))
+  has-writer : (p : ℕ) → p < openCount s → from p .writer ≡ 0 → ⊥
+  has-writer p h e = let w = writer-from p h in let i = is-open p h .writer-in .0 in omega arith
 
-  -- an entry with a name is one of those that were counted, and the name is its own
-  is-counted : (p u k : ℕ) → p < entries → namedAt os u k p ≡ true → p < openCount s
-  is-counted p u k h t = go (decLt p (openCount s))
-    where
-      go : Dec (p < openCount s) → p < openCount s
-      go (yes l) = l
-      go (no l) =
-          absurd (apart (namedAt os u k p) t (free-named (openAt os p) u k (entry-off (encode s) (s .desks) (s .cells) (openCount s) few os read p h (omega arith))))
+  -- the entries, wherever they stand
+  module _ (os : List ℕ) (read : OpensRead (encode s) (s .desks) (s .cells) (openCount s) os) where
+    spread : Spread (encode s) (s .desks) (s .cells) (openCount s) os
+    spread = read has-writer
 
-  own-name : (p u k : ℕ) → p < openCount s → namedAt os u k p ≡ true → (at p .writer ≡ u) × (at p .number ≡ k)
-  own-name p u k h t = let q = named-is (openAt os p) u k t in (sym (writer-is p h) ∙ q .1, sym (number-is p h) ∙ q .2)
+    writer-is : (p : ℕ) → p < openCount s → openAt os (spread .at p) .writer ≡ at p .writer
+    writer-is p h = ap (λ (o : Open). o .writer) (spread .there p h) ∙ writer-from p h
 
-  pub unique-read : Unique os
-  unique-read e j he hj ne u k t r =
-      let a = is-counted e u k he t in
-      let b = is-counted j u k hj r in
-      let x = own-name e u k a t in
-      let y = own-name j u k b r in
-      let w : at e .writer ≡ at j .writer = x .0 ∙ sym (y .0) in
-      let v : at e .number ≡ at j .number = x .1 ∙ sym (y .1) in
-      let z : at e ≡ at j = λ i. record { writer = w i; number = v i } in
-      ne (names-distinct s ok e j (omega (arith, length-names s)) (omega (arith, length-names s)) z)
+    number-is : (p : ℕ) → p < openCount s → number (openAt os (spread .at p)) ≡ at p .number
+    number-is p h = ap number (spread .there p h) ∙ number-from p h
 
-  opens-is : (u k : ℕ) (o : Option machine.Open) → s .opens u k ≡ o → opensM os u k ≡ o
-  opens-is u k none e =
-      opens-none os u k (λ p h. cases (namedAt os u k p)
-      (λ t. let c = is-counted p u k h t in
-      let x = own-name p u k c t in
-      let i : isOpen s u k ≡ true = rw (x .0, x .1) at (is-open p c .is-open) in
-      clash (sym (ap (λ (o : Option machine.Open). not (isNone o)) e) ∙ i))
-      (λ t. t))
-  opens-is u k (some w) e =
-      let g = open-named s u k (open-name s ok u k (ap (λ (o : Option machine.Open). not (isNone o)) e)) in
-      let p : ℕ = g .at in
-      let c : p < openCount s = omega (arith, g .small, length-names s) in
-      let w1 : at p .writer ≡ u = ap (λ (x : Name). x .writer) (g .is) in
-      let w2 : at p .number ≡ k = ap (λ (x : Name). x .number) (g .is) in
-      let t : namedAt os u k p ≡ true = rw (w1, w2) at (named-so p c) in
-      let sh : some (openOf (part (openPlace (s .desks) (s .cells) p) 28 (encode s))) ≡ s .opens u k = rw (w1, w2) at (shows p c .whole) in
-      opens-at os p u k unique-read (omega (arith, few)) t
-      ∙ ap some (whole-read (encode s) (s .desks) (s .cells) (openCount s) few os read p c) ∙ sh ∙ e
+    in-use : (p : ℕ) → p < openCount s → isFree (openAt os (spread .at p)) ≡ false
+    in-use p h = ne-eqb (openAt os (spread .at p) .writer) 0 (λ e. (let w = writer-is p h in let i = is-open p h .writer-in .0 in omega arith))
 
-  pub opens-read : opensM os ≡ s .opens
-  opens-read = fun-ext (λ u. fun-ext (λ k. opens-is u k (s .opens u k) refl))
+    named-so : (p : ℕ) → p < openCount s → namedAt os (at p .writer) (at p .number) (spread .at p) ≡ true
+    named-so p h = rw (← writer-is p h, ← number-is p h) (own-named (openAt os (spread .at p)) (in-use p h))
+
+    -- an entry with a name is one of those that were counted
+    is-counted : (e u k : ℕ) → e < entries → namedAt os u k e ≡ true → Among (openCount s) (spread .at) e
+    is-counted e u k h t = spread .rest e h (cases (isFree (openAt os e)) (λ f. absurd (apart (namedAt os u k e) t (free-named (openAt os e) u k f))) (λ f. f))
+
+    -- and the name is its own
+    own-name : (p u k : ℕ) → p < openCount s → namedAt os u k (spread .at p) ≡ true → (at p .writer ≡ u) × (at p .number ≡ k)
+    own-name p u k h t = let q = named-is (openAt os (spread .at p)) u k t in (sym (writer-is p h) ∙ q .1, sym (number-is p h) ∙ q .2)
+
+    name-of : (e u k : ℕ) (a : Among (openCount s) (spread .at) e) → namedAt os u k e ≡ true → (at (a .p) .writer ≡ u) × (at (a .p) .number ≡ k)
+    name-of e u k a t = own-name (a .p) u k (a .small) (rw (a .is) at t)
+
+    pub unique-read : Unique os
+    unique-read e j he hj ne u k t r =
+        let a = is-counted e u k he t in
+        let b = is-counted j u k hj r in
+        let x = name-of e u k a t in
+        let y = name-of j u k b r in
+        let w : at (a .p) .writer ≡ at (b .p) .writer = x .0 ∙ sym (y .0) in
+        let v : at (a .p) .number ≡ at (b .p) .number = x .1 ∙ sym (y .1) in
+        let z : at (a .p) ≡ at (b .p) = λ i. record { writer = w i; number = v i } in
+        let q : a .p ≡ b .p = names-distinct s ok (a .p) (b .p) (omega (arith, a .small, length-names s)) (omega (arith, b .small, length-names s)) z in
+        ne (a .is ∙ ap (spread .at) q ∙ sym (b .is))
+
+    opens-is : (u k : ℕ) (o : Option machine.Open) → s .opens u k ≡ o → opensM os u k ≡ o
+    opens-is u k none e =
+        opens-none os u k (λ j h. cases (namedAt os u k j)
+        (λ t. let a = is-counted j u k h t in
+        let x = name-of j u k a t in
+        let i : isOpen s u k ≡ true = rw (x .0, x .1) at (is-open (a .p) (a .small) .is-open) in
+        clash (sym (ap (λ (o : Option machine.Open). not (isNone o)) e) ∙ i))
+        (λ t. t))
+    opens-is u k (some w) e =
+        let g = open-named s u k (open-name s ok u k (ap (λ (o : Option machine.Open). not (isNone o)) e)) in
+        let p : ℕ = g .at in
+        let c : p < openCount s = omega (arith, g .small, length-names s) in
+        let w1 : at p .writer ≡ u = ap (λ (x : Name). x .writer) (g .is) in
+        let w2 : at p .number ≡ k = ap (λ (x : Name). x .number) (g .is) in
+        let t : namedAt os u k (spread .at p) ≡ true = rw (w1, w2) at (named-so p c) in
+        let sh : some (openOf (part (openPlace (s .desks) (s .cells) p) 28 (encode s))) ≡ s .opens u k = rw (w1, w2) at (shows p c .whole) in
+        opens-at os (spread .at p) u k unique-read (spread .inside p c) t
+        ∙ ap some (ap openM (spread .there p c) ∙ open-read (encode s) (openPlace (s .desks) (s .cells) p)) ∙ sh ∙ e
+
+    pub opens-read : opensM os ≡ s .opens
+    opens-read = fun-ext (λ u. fun-ext (λ k. opens-is u k (s .opens u k) refl))
 
 -- unset cells
 zero-vector : (t : ℕ) → vecOf (replicate 16 0) t ≡ 0

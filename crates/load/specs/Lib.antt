@@ -1,3 +1,4 @@
 pub mod Read
+pub mod Spread
 pub mod Back
 pub mod Loading

@@ -85,12 +85,9 @@ pub fits-is : (b : List ℕ) (n m count : ℕ) → n ≡ nIn b → m ≡ mIn b �
 fits-is b n m count en em ec a n8 d m64 few e =
     record { desks = (omega arith, omega arith); cells = (omega arith, omega arith); few = omega arith; size = rw (en, em, ec) at e }
 
--- the rows and entries that were read
+-- the rows that were read
 abbrev pub CellsRead : List ℕ → ℕ → ℕ → List ℕ → Type 0
 CellsRead b n m cs = (s : ℕ) → s < all-cells → cellAt cs s ≡ cellFor b n m s
-
-abbrev pub OpensRead : List ℕ → ℕ → ℕ → ℕ → List ℕ → Type 0
-OpensRead b n m count os = (p : ℕ) → p < entries → openAt os p ≡ openFor b n m count p
 
 -- where a cell and an open write stand, and that they lie within
 pub record Within (b : List ℕ) (n k q r w at : ℕ) : Type 0 where
@@ -163,6 +160,10 @@ pub open-past : (b : List ℕ) (n m count p : ℕ) (o : Open) → count ≤ p �
 unfolding openFor
 open-past b n m count p o h e = rw (le-ltb p count h) e
 
+pub open-is : (b : List ℕ) (n m count p : ℕ) (o : Open) → p < count → o ≡ openFor b n m count p → o ≡ openFrom b (openPlace n m p)
+unfolding openFor
+open-is b n m count p o h e = e ∙ rw (lt-ltb p count h)
+
 pub desk-there : (b : List ℕ) (n i : ℕ) (d : Desk) → i < n → d ≡ deskFrom b i → d ≡ deskFor b n i
 unfolding deskFor
 desk-there b n i d h e = rw (lt-ltb i n h) e
@@ -171,7 +172,7 @@ pub desk-past : (b : List ℕ) (n i : ℕ) (d : Desk) → n ≤ i → d ≡ noDe
 unfolding deskFor
 desk-past b n i d h e = rw (le-ltb i n h) e
 
--- one row, one entry more
+-- one row more
 pub cells-more : (b : List ℕ) (n m s : ℕ) (l r : List ℕ) (c : Cell) → ((t : ℕ) → t < s → cellAt l t ≡ cellFor b n m t) → s < all-cells → c ≡ cellFor b n m s → CellPut l s c r
     → (t : ℕ) → t < s + 1 → cellAt r t ≡ cellFor b n m t
 cells-more b n m s l r c h hs e p t ht =
@@ -179,19 +180,6 @@ cells-more b n m s l r c h hs e p t ht =
     (λ q. rw q (cellAt-put l s c (p .full) hs (p .size) ∙ e))
     (λ q. cellAt-other l s c (p .full) t q ∙ h t (less q)))
   where
-    less : (t ≡ s → ⊥) → t < s
-    less q = omega arith
-
-pub opens-more : (b : List ℕ) (n m count s : ℕ) (l r : List ℕ) (o : Open) → ((t : ℕ) → t < s → openAt l t ≡ openFor b n m count t) → s < entries → o ≡ openFor b n m count s → OpenPut l s o r
-    → (t : ℕ) → t < s + 1 → openAt r t ≡ openFor b n m count t
-opens-more b n m count s l r o h hs e p t ht =
-    same-or t s
-    (λ q. rw q (openAt-stored l r s o hs st ∙ e))
-    (λ q. openAt-kept l r s o hs st t (omega arith) q ∙ h t (less q))
-  where
-    st : entriesOf r ≡ set (entriesOf l) s o
-    st = rw (p .is) (entriesOf-put l s hs (p .size) o (p .full))
-
     less : (t ≡ s → ⊥) → t < s
     less q = omega arith
 

@@ -1,17 +1,18 @@
 // A table read from its saved image (document 01, "Saved image").
 ghost use mathlib.Core.Path.{_≡_};
 ghost use Prim.Native.Nat.{ℕ, _+_, _*_, _/_, _<_, _≤_};
-ghost use lib.ListN.{length, take};
+ghost use lib.ListN.{length, take, replicate};
 ghost use Rattle.laws.specs.Says.{Says};
 ghost use Rattle.laws.specs.Tab.{tab};
 ghost use Rattle.clock.specs.Vectors.{places};
-ghost use Rattle.table.specs.Value.{desk-cells, all-cells, entries};
+ghost use Rattle.table.specs.Value.{desk-cells, all-cells, entries, open-width};
 ghost use Rattle.table.specs.Model.{model};
 ghost use Rattle.table.specs.Sound.{Sound};
 ghost use Rattle.table.specs.Begin.{freshTable};
 ghost use Rattle.image.specs.Encode.{perDesk, encode};
 ghost use Rattle.image.specs.Decode.{nIn, mIn, countIn};
-ghost use Rattle.load.specs.Read.{wordAt, wordsFrom, bytesFrom, cellFrom, openFrom, deskFrom, deskFor, cellFor, openFor, Fits, CellsRead, OpensRead};
+ghost use Rattle.load.specs.Read.{wordAt, wordsFrom, bytesFrom, cellFrom, openFrom, deskFrom, deskFor, cellFor, openFor, Fits, CellsRead};
+ghost use Rattle.load.specs.Spread.{OpensRead};
 ghost use Rattle.load.specs.Back.{ReadAs, Reads};
 ghost use Rattle.load.specs.Loading.{Answers};
 use clock::Clock;
@@ -22,6 +23,7 @@ use table::CELLS;
 use table::Cell;
 use table::Core;
 use table::Desk;
+use table::Found;
 use table::OPEN;
 use table::OPENS;
 use table::Open;
@@ -246,14 +248,33 @@ fn open_or(b: &[u8], n: usize, m: usize, c: usize, count: usize, p: usize) -> Op
     }
 }
 
+// The write's number, and 0 where its writer is no desk.
+fn number_of(o: Open) -> u16 {
+    let w = table::wide(o.writer);
+    let v = o.vector;
+    if w == 0 {
+        return 0;
+    }
+    if PLACES < w {
+        return 0;
+    }
+    v[w - 1]
+}
+
+// Each goes into the entry where a search for it begins, or a free one behind that.
 fn read_opens(b: &[u8], n: usize, m: usize, c: usize, count: usize, opens: &mut [u16; OPENS * OPEN])
     requires { ⌜ (Fits (now b)) × ((n ≡ nIn (now b)) × ((m ≡ mIn (now b)) × ((c ≡ perDesk m) × (count ≡ countIn (now b))))) ⌝ }
+    requires { ⌜ now opens ≡ replicate (entries * open-width) 0 ⌝ }
     ensures { λ _. ⌜ OpensRead (now (b .entry)) n m count (now (opens .exit)) ⌝ }
 {
     let mut p = 0;
-    while p < OPENS {
+    while p < count {
         let o = open_or(b, n, m, c, count, p);
-        table::put_open(opens, p, o);
+        let found = table::find_free(opens, table::wide(o.writer), number_of(o));
+        let Found::At(e) = found else {
+            return;
+        };
+        table::put_open(opens, e, o);
         p += 1;
     }
 }

@@ -1,4 +1,4 @@
-use Rattle.load.specs.Read.{deskFor, cellFor, openFor, cells-more, opens-more}
+use Rattle.load.specs.Read.{deskFor, cellFor, cells-more}
 use Rattle.table.specs.Value.{desk0, all-cells, cellAt, entries, openAt}
 use Rattle.laws.specs.Tab.{tab, fill-start, fill-more, fill-end}
 use Rattle.clock.specs.Vectors.{places}

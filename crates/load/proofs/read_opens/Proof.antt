@@ -1,54 +1,78 @@
-use Rattle.load.specs.Read.{deskFor, cellFor, openFor, cells-more, opens-more}
-use Rattle.table.specs.Value.{desk0, all-cells, cellAt, entries, openAt}
-use Rattle.laws.specs.Tab.{tab, fill-start, fill-more, fill-end}
-use Rattle.clock.specs.Vectors.{places}
-use lib.ListN.{length, getD, drop}
+use Rattle.load.specs.Spread.{Writers, Spread, spread-start, spread-room, spread-more}
+use Rattle.load.specs.Read.{open-is}
+use Rattle.table.specs.Value.{entries, open-width}
+use Rattle.table.specs.Names.{freeAt, found-at, found-nothing}
 use native.Mathlib.Omega.{arith}
-use mathlib.Core.List.{_++_}
-use mathlib.Core.Path.{_≡_, _∙_, refl}
+use mathlib.Core.Path.{_≡_, _∙_}
 use Prim.Native.Nat.{ℕ, _≤_, _<_, _-_, _+_, _*_}
 use borrow.Author.Needs.{needs}
 use Rattle.load.proofs.read_opens.Statement.{statement}
 use Rattle.load.proofs.read_opens.Tie as tie
-use Rattle.load.proofs.read_opens.Reads as reads
-use Rattle.load.proofs.read_opens.Lts as lts
-use Rattle.load.proofs.open_or.Reads as open-or-reads
-use Rattle.table.proofs.put_open.Reads as put-open-reads
 
 abbrev Inv-loop : tie.InvT-loop
-Inv-loop b n m c count opens₀ p₀ opens p = (p ≤ entries) × ((t : ℕ) → t < p → openAt opens t ≡ openFor b n m count t)
+Inv-loop b n m c count opens₀ p₀ opens p = (p ≤ count) × (Writers b n m p → Spread b n m p opens)
 
 abbrev μ-loop : tie.MeasureT-loop
-μ-loop b n m c count opens₀ p₀ opens p = entries - p
+μ-loop b n m c count opens₀ p₀ opens p = count - p
 
--- src/lib.rt:243:5
 loop-holds : tie.Need-loop-holds Inv-loop μ-loop
-loop-holds c = (search needs, λ t h. absurd (omega arith))
+loop-holds c = let A = c .before .args in (search needs, λ w. rw (c .before .pre .1) (spread-start (A .b .now) (A .n) (A .m) (entries * open-width)))
 
--- src/lib.rt:244:13
 open-or-requires : tie.Need-open-or-requires Inv-loop μ-loop
-open-or-requires c κs = let P = (c .before .before .before .pre) in let L = (c .before .loop) in (P .0, (P .1 .0, (P .1 .1 .0, (P .1 .1 .1 .0, (P .1 .1 .1 .1, omega arith)))))
+open-or-requires c κs =
+    let P = c .before .before .before .pre .0 in
+    (P .0, (P .1 .0, (P .1 .1 .0, (P .1 .1 .1 .0, (P .1 .1 .1 .1, omega (arith, P .0 .few, P .1 .1 .1 .1))))))
 
--- src/lib.rt:245:9
+wide-requires : tie.Need-wide-requires Inv-loop μ-loop
+wide-requires c κs = search needs
+
+number-of-requires : tie.Need-number-of-requires Inv-loop μ-loop
+number-of-requires c κs = search needs
+
+find-free-requires : tie.Need-find-free-requires Inv-loop μ-loop
+find-free-requires c κs = search needs
+
+enum-known-found : tie.Need-enum-known-found Inv-loop μ-loop
+enum-known-found c = search needs
+
+enum-told : tie.Need-enum-told Inv-loop μ-loop
+enum-told c = search needs
+
+returns : tie.Need-returns Inv-loop μ-loop
+returns c =
+    let L = c .before .before .before .before .before .before .before .before .loop in
+    let A = c .before .before .before .before .before .before .before .before .before .before .args in
+    let P = c .before .before .before .before .before .before .before .before .before .before .pre .0 in
+    λ w. absurd (spread-room (A .b .now) (A .n) (A .m) (L .p) (L .opens) (λ q h. w q (omega arith)) (L .inv .1 (λ q h. w q (omega arith))) (omega (arith, P .0 .few, P .1 .1 .1 .1))
+    (found-nothing (freeAt (L .opens)) (c .before .before .find-free .result) (c .before .before .find-free .ensures) (c .enum-told .given .1)))
+
 put-open-requires : tie.Need-put-open-requires Inv-loop μ-loop
-put-open-requires c κs = search needs
+put-open-requires c κs =
+    found-at (freeAt (c .before .before .before .before .before .before .before .before .before .before .loop .opens)) (c .before .before .before .before .find-free .result) (c .before .before .found .given .0 .0) (c .before .before .before .before .find-free .ensures) (c .before .before .found .given .1) .0
 
--- src/lib.rt:246:9
 add-p : tie.Need-add-p Inv-loop μ-loop
 add-p c = search needs
 
--- src/lib.rt:243:5
 loop-less : tie.Need-loop-less Inv-loop μ-loop
 loop-less c = search needs
 
--- src/lib.rt:243:5
 loop-again : tie.Need-loop-again Inv-loop μ-loop
-loop-again c = let L = (c .before .before .before .before .loop) in let A = (c .before .before .before .before .before .before .args) in
-    (search needs, opens-more (A .b .now) (A .n) (A .m) (A .count) (L .p) (L .opens) (c .put-open .last .0) (c .before .before .open-or .result) (L .inv .1) (omega arith) (c .before .before .open-or .ensures) (c .put-open .ensures))
+loop-again c =
+    let L = c .before .before .before .before .before .before .before .before .before .before .before .loop in
+    let A = c .before .before .before .before .before .before .before .before .before .before .before .before .before .args in
+    let e = c .before .before .before .found .given .0 .0 in
+    let f = found-at (freeAt (L .opens)) (c .before .before .before .before .before .find-free .result) e (c .before .before .before .before .before .find-free .ensures) (c .before .before .before .found .given .1) in (
+      search needs,
+      λ w. spread-more (A .b .now) (A .n) (A .m) (L .p) (L .opens) w (L .inv .1 (λ q h. w q (omega arith))) e _ _ (f .0) (f .1) (c .put-open .ensures)
+          (open-is (A .b .now) (A .n) (A .m) (A .count) (L .p) _ (omega arith) (c .before .before .before .before .before .before .before .before .before .open-or .ensures)),
+    )
 
--- src/lib.rt:238:1
-returns : tie.Need-returns Inv-loop μ-loop
-returns c = let L = (c .before .loop) in λ t h. L .inv .1 t (omega arith)
+returns-2 : tie.Need-returns-2 Inv-loop μ-loop
+returns-2 c =
+    let L = c .before .loop in
+    let A = c .before .before .before .args in
+    let e : L .p ≡ A .count = omega arith in
+    λ w. rw (← e) (L .inv .1 (rw (← e) at w))
 
 pub read-opens-spec : {M : Type 1} → statement M
 read-opens-spec =
@@ -58,8 +82,14 @@ read-opens-spec =
     μ-loop
     loop-holds
     open-or-requires
+    wide-requires
+    number-of-requires
+    find-free-requires
+    enum-known-found
+    enum-told
+    returns
     put-open-requires
     add-p
     loop-less
     loop-again
-    returns)
+    returns-2)
