@@ -39,7 +39,7 @@ use Rattle.image.specs.Places.{length-encode, part-3}
 use Rattle.image.specs.Fields.{vec-words, vecOf, cellOf, openOf, writerIn, numberIn}
 use Rattle.image.specs.Decode.{nIn, mIn, countIn, deskPlace, cellPlace, openPlace, deskIn, cellIn, entryIn, decode, Shows, n-back, m-back, count-back, applied-back, clock-back, cell-back, shows-at, open-name}
 use Rattle.load.specs.Spread.{Among, Spread, OpensRead}
-use Rattle.load.specs.Read.{wordsFrom, cellFrom, openFrom, deskFrom, noDesk, noCell, noOpen, deskFor, cellFor, openFor, Fits, CellsRead, getD-part, part-part, place-words, cell-read, open-read}
+use Rattle.load.specs.Read.{wordsFrom, cellFrom, openFrom, deskFrom, noDesk, noCell, deskFor, cellFor, Fits, CellsRead, getD-part, part-part, place-words, cell-read, open-read}
 
 -- desks: one part of them, read at p of the payload
 module _ (b : List ℕ) (n : ℕ) (h : n ≤ places) (g : Desk → Vec) (p : ℕ) (reads : (i : ℕ) → g (deskFrom b i) ≡ vecOf (part (deskPlace p i) 16 b)) (past : g noDesk ≡ zeros) (none-there : g desk0 ≡ zeros) where

@@ -53,18 +53,11 @@ noDesk = record { applied = replicate places 0; clock = clockOf (replicate place
 abbrev pub noCell : Cell
 noCell = record { writer = 0; status = 0; vector = replicate places 0 }
 
-abbrev pub noOpen : Open
-noOpen = record { writer = 0; status = 0; cell = 0; vector = replicate places 0; marks = replicate places 0 }
-
--- desk i of n; row s of the cells; entry p: all from 0
 unfoldable pub deskFor : List ℕ → ℕ → ℕ → Desk
 deskFor b n i = pick (ltb i n) (deskFrom b i) noDesk
 
 unfoldable pub cellFor : List ℕ → ℕ → ℕ → ℕ → Cell
 cellFor b n m s = pick (ltb (s / desk-cells) n) (pick (ltb (s % desk-cells) m) (cellFrom b (cellPlace n m (s / desk-cells) (s % desk-cells))) noCell) noCell
-
-unfoldable pub openFor : List ℕ → ℕ → ℕ → ℕ → ℕ → Open
-openFor b n m count p = pick (ltb p count) (openFrom b (openPlace n m p)) noOpen
 
 -- the sizes that an image tells of itself are in range, and its length is theirs
 pub record Fits (b : List ℕ) : Type 0 where
@@ -151,18 +144,6 @@ cell-past b n m s x c ex h e = rw (← ex, le-ltb x m h) (cases (ltb (s / desk-c
 pub cell-off : (b : List ℕ) (n m s i : ℕ) (c : Cell) → i ≡ s / desk-cells → n ≤ i → c ≡ noCell → c ≡ cellFor b n m s
 unfolding cellFor
 cell-off b n m s i c ei h e = rw (← ei, le-ltb i n h) e
-
-pub open-there : (b : List ℕ) (n m count p at : ℕ) (o : Open) → p < count → at ≡ openPlace n m p → o ≡ openFrom b at → o ≡ openFor b n m count p
-unfolding openFor
-open-there b n m count p at o h ea e = e ∙ rw (lt-ltb p count h, ea)
-
-pub open-past : (b : List ℕ) (n m count p : ℕ) (o : Open) → count ≤ p → o ≡ noOpen → o ≡ openFor b n m count p
-unfolding openFor
-open-past b n m count p o h e = rw (le-ltb p count h) e
-
-pub open-is : (b : List ℕ) (n m count p : ℕ) (o : Open) → p < count → o ≡ openFor b n m count p → o ≡ openFrom b (openPlace n m p)
-unfolding openFor
-open-is b n m count p o h e = e ∙ rw (lt-ltb p count h)
 
 pub desk-there : (b : List ℕ) (n i : ℕ) (d : Desk) → i < n → d ≡ deskFrom b i → d ≡ deskFor b n i
 unfolding deskFor

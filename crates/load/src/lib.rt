@@ -10,8 +10,8 @@ ghost use Rattle.table.specs.Model.{model};
 ghost use Rattle.table.specs.Sound.{Sound};
 ghost use Rattle.table.specs.Begin.{freshTable};
 ghost use Rattle.image.specs.Encode.{perDesk, encode};
-ghost use Rattle.image.specs.Decode.{nIn, mIn, countIn};
-ghost use Rattle.load.specs.Read.{wordAt, wordsFrom, bytesFrom, cellFrom, openFrom, deskFrom, deskFor, cellFor, openFor, Fits, CellsRead};
+ghost use Rattle.image.specs.Decode.{nIn, mIn, countIn, openPlace};
+ghost use Rattle.load.specs.Read.{wordAt, wordsFrom, bytesFrom, cellFrom, openFrom, deskFrom, deskFor, cellFor, Fits, CellsRead};
 ghost use Rattle.load.specs.Spread.{OpensRead};
 ghost use Rattle.load.specs.Back.{ReadAs, Reads};
 ghost use Rattle.load.specs.Loading.{Answers};
@@ -229,23 +229,13 @@ fn read_cells(b: &[u8], n: usize, m: usize, c: usize, cells: &mut [u16; PLACES *
     }
 }
 
-// Entry p of the open writes.
-fn open_or(b: &[u8], n: usize, m: usize, c: usize, count: usize, p: usize) -> Open
-    requires { ⌜ (Fits (now b)) × ((n ≡ nIn (now b)) × ((m ≡ mIn (now b)) × ((c ≡ perDesk m) × ((count ≡ countIn (now b)) × (p < entries))))) ⌝ }
-    ensures { λ r. ⌜ r ≡ openFor (now (b .entry)) n m count p ⌝ }
+// Open write p of the image.
+fn open_of(b: &[u8], n: usize, m: usize, c: usize, count: usize, p: usize) -> Open
+    requires { ⌜ (Fits (now b)) × ((n ≡ nIn (now b)) × ((m ≡ mIn (now b)) × ((c ≡ perDesk m) × ((count ≡ countIn (now b)) × (p < count))))) ⌝ }
+    ensures { λ r. ⌜ r ≡ openFrom (now (b .entry)) (openPlace n m p) ⌝ }
 {
-    if p < count {
-        let at = field_place(n, c * n, p / 18, 28 * (p % 18));
-        return read_open(b, at);
-    }
-    let zero = [0u16; PLACES];
-    Open {
-        writer: 0,
-        status: 0,
-        cell: 0,
-        vector: zero,
-        marks: zero,
-    }
+    let at = field_place(n, c * n, p / 18, 28 * (p % 18));
+    read_open(b, at)
 }
 
 // The write's number, and 0 where its writer is no desk.
@@ -269,7 +259,7 @@ fn read_opens(b: &[u8], n: usize, m: usize, c: usize, count: usize, opens: &mut 
 {
     let mut p = 0;
     while p < count {
-        let o = open_or(b, n, m, c, count, p);
+        let o = open_of(b, n, m, c, count, p);
         let found = table::find_free(opens, table::wide(o.writer), number_of(o));
         let Found::At(e) = found else {
             return;

@@ -1,5 +1,4 @@
 use Rattle.load.specs.Spread.{Writers, Spread, spread-start, spread-room, spread-more}
-use Rattle.load.specs.Read.{open-is}
 use Rattle.table.specs.Value.{entries, open-width}
 use Rattle.table.specs.Names.{freeAt, found-at, found-nothing}
 use native.Mathlib.Omega.{arith}
@@ -18,10 +17,10 @@ abbrev μ-loop : tie.MeasureT-loop
 loop-holds : tie.Need-loop-holds Inv-loop μ-loop
 loop-holds c = let A = c .before .args in (search needs, λ w. rw (c .before .pre .1) (spread-start (A .b .now) (A .n) (A .m) (entries * open-width)))
 
-open-or-requires : tie.Need-open-or-requires Inv-loop μ-loop
-open-or-requires c κs =
+open-of-requires : tie.Need-open-of-requires Inv-loop μ-loop
+open-of-requires c κs =
     let P = c .before .before .before .pre .0 in
-    (P .0, (P .1 .0, (P .1 .1 .0, (P .1 .1 .1 .0, (P .1 .1 .1 .1, omega (arith, P .0 .few, P .1 .1 .1 .1))))))
+    (P .0, (P .1 .0, (P .1 .1 .0, (P .1 .1 .1 .0, (P .1 .1 .1 .1, search needs)))))
 
 wide-requires : tie.Need-wide-requires Inv-loop μ-loop
 wide-requires c κs = search needs
@@ -64,7 +63,7 @@ loop-again c =
     let f = found-at (freeAt (L .opens)) (c .before .before .before .before .before .find-free .result) e (c .before .before .before .before .before .find-free .ensures) (c .before .before .before .found .given .1) in (
       search needs,
       λ w. spread-more (A .b .now) (A .n) (A .m) (L .p) (L .opens) w (L .inv .1 (λ q h. w q (omega arith))) e _ _ (f .0) (f .1) (c .put-open .ensures)
-          (open-is (A .b .now) (A .n) (A .m) (A .count) (L .p) _ (omega arith) (c .before .before .before .before .before .before .before .before .before .open-or .ensures)),
+          (c .before .before .before .before .before .before .before .before .before .open-of .ensures),
     )
 
 returns-2 : tie.Need-returns-2 Inv-loop μ-loop
@@ -81,7 +80,7 @@ read-opens-spec =
     Inv-loop
     μ-loop
     loop-holds
-    open-or-requires
+    open-of-requires
     wide-requires
     number-of-requires
     find-free-requires

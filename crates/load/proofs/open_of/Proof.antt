@@ -1,0 +1,42 @@
+use Rattle.load.specs.Read.{Within, open-where}
+use Rattle.image.specs.Decode.{openPlace}
+use Rattle.load.specs.Read.{openFrom}
+use native.Mathlib.Omega.{arith}
+use mathlib.Core.Path.{_≡_, ap, _∙_}
+use Prim.Native.Nat.{ℕ, _*_, _/_, _%_}
+use borrow.Author.Needs.{needs}
+use Rattle.load.proofs.open_of.Statement.{statement}
+use Rattle.load.proofs.open_of.Tie as tie
+
+stands : (c : tie.Start) → (let A = c .args in Within (A .b .now) (A .n) (A .c * A .n) (A .p / 18) (28 * (A .p % 18)) 28 (openPlace (A .n) (A .m) (A .p)))
+stands c =
+    let A = c .args in
+    let P = c .pre in
+    open-where (A .b .now) (P .0) (A .n) (A .m) (A .p) (A .c) (A .count) (P .1 .0) (P .1 .1 .0) (P .1 .1 .1 .0) (P .1 .1 .1 .1 .0) (P .1 .1 .1 .1 .1)
+
+mul-field-place : tie.Need-mul-field-place
+mul-field-place c = omega (arith, stands (c .before) .before)
+
+mul-field-place-2 : tie.Need-mul-field-place-2
+mul-field-place-2 c = search needs
+
+field-place-requires : tie.Need-field-place-requires
+field-place-requires c κs = let w = stands (c .before) in (w .desks, (w .before, (w .block, w .payload)))
+
+read-open-requires : tie.Need-read-open-requires
+read-open-requires c κs = let w = stands (c .before .before) in omega (arith, w .is, w .ends, c .field-place .ensures)
+
+returns : tie.Need-returns
+returns c =
+    let w = stands (c .before .before .before) in
+    c .read-open .ensures ∙ ap (λ (k : ℕ). openFrom (c .before .before .before .args .b .now) k) (c .before .field-place .ensures ∙ w .is)
+
+pub open-of-spec : {M : Type 1} → statement M
+open-of-spec =
+    tie.close
+    (tie.spec
+    mul-field-place
+    mul-field-place-2
+    field-place-requires
+    read-open-requires
+    returns)
