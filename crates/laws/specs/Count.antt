@@ -36,3 +36,16 @@ module _ {A : Type 0} (p : A → Bool) (d : A) where
   count-miss (x ∷ l) zero b f = let h = count-le l in rw f (omega arith)
   count-miss (x ∷ l) (suc j) b f =
       let h = count-miss l j (omega arith) f in cases (p x) (λ t. rw t (omega arith)) (λ t. rw t (omega arith))
+
+-- none passes
+pub count-none : {A : Type 0} (p : A → Bool) (l : List A) (d : A) → ((j : ℕ) → j < length l → p (getD l j d) ≡ false) → count p l ≡ 0
+unfolding count
+count-none p [] d h = refl
+count-none p (x ∷ l) d h = let r = count-none p l d (λ j b. h (suc j) (omega arith)) in rw (h 0 (omega arith)) (omega arith)
+
+-- a store that begins the test at one element
+pub count-more : {A : Type 0} (p : A → Bool) (l : List A) (k : ℕ) (a d : A) → k < length l → p (getD l k d) ≡ false → p a ≡ true → count p (set l k a) ≡ suc (count p l)
+unfolding count
+count-more p [] k a d h f t = absurd (omega arith)
+count-more p (x ∷ l) zero a d h f t = rw (f, t) (omega arith)
+count-more p (x ∷ l) (suc k) a d h f t = let r = count-more p l k a d (omega arith) f t in omega arith

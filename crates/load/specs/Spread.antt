@@ -10,7 +10,7 @@ use lib.ListN.{length, getD, set, replicate}
 use Rattle.laws.specs.Loop.{pick, cases}
 use Rattle.laws.specs.Says.{apart}
 use Rattle.laws.specs.Update.{same-or}
-use Rattle.laws.specs.Count.{count, count-all}
+use Rattle.laws.specs.Count.{count, count-all, count-none, count-more}
 use Rattle.table.specs.declared.Open.{Open}
 use Rattle.table.specs.Value.{entries, open-width, open0, openAt, open-writer, isFree, entriesOf, entriesOf-put, getD-entriesOf, length-entriesOf, openAt-stored, openAt-kept, OpenPut}
 use Rattle.table.specs.Names.{freeAt}
@@ -46,11 +46,6 @@ OpensRead b n m first os = Writers b n m first → Spread b n m first os
 free-zeros : (k e : ℕ) → isFree (openAt (replicate k 0) e) ≡ true
 free-zeros k e = eq-eqb (openAt (replicate k 0) e .writer) 0 (open-writer (replicate k 0) e ∙ zeros-at k (e * open-width))
 
-count-none : {A : Type 0} (p : A → Bool) (l : List A) (d : A) → ((j : ℕ) → j < length l → p (getD l j d) ≡ false) → count p l ≡ 0
-unfolding count
-count-none p [] d h = refl
-count-none p (x ∷ l) d h = let r = count-none p l d (λ j b. h (suc j) (omega arith)) in rw (h 0 (omega arith)) (omega arith)
-
 pub spread-start : (b : List ℕ) (n m k : ℕ) → Spread b n m 0 (replicate k 0)
 spread-start b n m k = record {
   at = λ p. 0;
@@ -59,13 +54,6 @@ spread-start b n m k = record {
   rest = λ e h f. absurd (apart (isFree (openAt (replicate k 0) e)) (free-zeros k e) f);
   used = count-none inUse (entriesOf (replicate k 0)) open0 (λ j h. let z : j < entries = rw length-entriesOf at h in rw (getD-entriesOf (replicate k 0) j z, free-zeros k j));
 }
-
--- a store that begins the test at one element
-count-more : {A : Type 0} (p : A → Bool) (l : List A) (k : ℕ) (a d : A) → k < length l → p (getD l k d) ≡ false → p a ≡ true → count p (set l k a) ≡ suc (count p l)
-unfolding count
-count-more p [] k a d h f t = absurd (omega arith)
-count-more p (x ∷ l) zero a d h f t = rw (f, t) (omega arith)
-count-more p (x ∷ l) (suc k) a d h f t = let r = count-more p l k a d (omega arith) f t in omega arith
 
 module _ (b : List ℕ) (n m first : ℕ) (os : List ℕ) (w : Writers b n m (first + 1)) (s : Spread b n m first os) where
   -- while there are fewer than 64 an entry is free
