@@ -13,7 +13,7 @@ use Rattle.session.specs.Session.{Session}
 use Rattle.session.specs.Transcript.{transcriptFrom, sessionFrom, most-text}
 use Rattle.session.specs.Laws.{from-end, left-end}
 use Rattle.session.specs.Holds.{Holds}
-use Rattle.session.specs.Run.{Ran, ran-part}
+use Rattle.session.specs.Run.{Ran, ran-rest, ran-leaves, ran-within, ran-progress, ran-part}
 use Rattle.capi.specs.Lines.{most-part, LinedFrom}
 
 -- bytes that are put only if they are to be put
@@ -65,7 +65,7 @@ module _ {z : Session} {text : List ℕ} {from : ℕ} {put : Bool} {out : List �
 
   module _ {part : List ℕ} {n′ m′ : ℕ} {ds′ : List Desk} {cs′ os′ : List ℕ} {at′ more : ℕ} {part′ : List ℕ} (r : Ran (g .session) text at part n′ m′ ds′ cs′ os′ at′ more part′) where
     all-is : transcriptFrom z text from ≡ (g .lines ++ r .lines) ++ transcriptFrom (r .session) text at′
-    all-is = g .rest ∙ ap (λ (x : List ℕ). g .lines ++ x) (r .rest) ∙ sym (append-assoc (g .lines) (r .lines) (transcriptFrom (r .session) text at′))
+    all-is = g .rest ∙ ap (λ (x : List ℕ). g .lines ++ x) (ran-rest r) ∙ sym (append-assoc (g .lines) (r .lines) (transcriptFrom (r .session) text at′))
 
     -- what a run answered has room, as all of it has
     pub lining-room : base + length (transcriptFrom z text from) ≤ length out → base + len + more ≤ length out′
@@ -82,7 +82,7 @@ module _ {z : Session} {text : List ℕ} {from : ℕ} {put : Bool} {out : List �
     lining-part = omega (arith, r .len-is, r .fits, ap length (r .stored) ∙ length-sets part 0 (r .lines))
 
     pub lining-less : length part ≡ most-part → at < length text → length text - at′ < length text - at
-    lining-less p h = omega (arith, r .progress h (omega arith))
+    lining-less p h = omega (arith, ran-progress r h (omega arith))
 
     -- one run more
     pub lining-on : {out″ : List ℕ} → length part ≡ most-part → at < length text → out″ ≡ pick put (sets out′ (base + len) (take more part′)) out′
@@ -94,10 +94,10 @@ module _ {z : Session} {text : List ℕ} {from : ℕ} {put : Bool} {out : List �
       len-is = omega (arith, g .len-is, r .len-is, length-append (g .lines) (r .lines));
       stored = put-more put out (g .lines) (r .lines) base len (g .len-is) (g .stored) (rw (ran-part r) at e);
       rest = all-is;
-      leaves = g .leaves ∙ r .leaves;
-      back = omega (arith, g .back, r .back);
-      within = omega (arith, g .within, r .within);
-      few = omega (arith, g .few, g .back, r .len-is, r .fits, r .progress h (omega arith));
+      leaves = g .leaves ∙ ran-leaves r;
+      back = omega (arith, g .back, ran-within r .0);
+      within = omega (arith, g .within, ran-within r .1);
+      few = omega (arith, g .few, g .back, r .len-is, r .fits, ran-progress r h (omega arith));
     }
 
   -- the end of the text

@@ -14,7 +14,7 @@ use Rattle.table.specs.declared.Desk.{Desk}
 use Rattle.session.specs.Session.{Session}
 use Rattle.session.specs.Transcript.{transcriptFrom, sessionFrom, most-text}
 use Rattle.session.specs.Holds.{Holds}
-use Rattle.session.specs.Run.{Ran, ran-part}
+use Rattle.session.specs.Run.{Ran, ran-rest, ran-leaves, ran-part}
 use Rattle.capi.specs.Access.{left, imageOf, fits, runFrom}
 use Rattle.capi.specs.Lines.{LinedFrom, Behind}
 
@@ -93,4 +93,4 @@ both-put first len more out h e f =
 -- the first run
 pub ran-behind : {z : Session} {text kept : List ℕ} {n m : ℕ} {ds : List Desk} {cs os : List ℕ} {at len : ℕ} {kept′ : List ℕ} (r : Ran z text 0 kept n m ds cs os at len kept′)
     → Behind z (r .session) text at (take len kept′)
-ran-behind r = record { rest = rw (ran-part r) (r .rest); leaves = r .leaves }
+ran-behind r = record { rest = rw (ran-part r) (ran-rest r); leaves = ran-leaves r }

@@ -216,8 +216,8 @@ module _ {n m : ℕ} {ds : List Desk} {cs os own : List ℕ} {i : ℕ} {d : Desk
   acting none ne h = absurd (ne (h .holds .size))
   acting (some s) ne h = record { desks = ds; placed = placed h }
 
-  zero-of : (z : Session) → n ≡ 0 → Seated n m ds cs os own i d z → (z ≡ none) × Zero 0 ds cs os
-  zero-of none e h = (refl, record { size = refl; desks = h .holds .desks; cells = h .holds .cells; opens = h .holds .opens })
+  zero-of : (z : Session) → n ≡ 0 → Seated n m ds cs os own i d z → (z ≡ none) × Zero 0 0 ds cs os
+  zero-of none e h = (refl, record { size = refl; many = refl; desks = h .holds .desks; cells = h .holds .cells; opens = h .holds .opens })
   zero-of (some s) e h = absurd (omega (arith, h .holds .sound .rules .frame .ranges .desks .0))
 
 begin-yes : (a b : ℕ) → begins a b ≡ true → begin a b ≡ record { answer = machine.began; table = some (fresh a b) }
@@ -235,10 +235,10 @@ turned-first {n} {m} {ds} {cs} {os} {own} {d} s list names z e h =
     let y = zero-of z e h in
     rw (y .0) (go s (stays h) (y .1))
   where
-    stay : (i : ℕ) → set ds (seatOf i) d ≡ ds → Zero 0 ds cs os → Turned 0 0 ds cs os i d (machine.refused machine.no-step) (record { answer = machine.refused machine.no-step; session = none })
+    stay : (i : ℕ) → set ds (seatOf i) d ≡ ds → Zero 0 0 ds cs os → Turned 0 0 ds cs os i d (machine.refused machine.no-step) (record { answer = machine.refused machine.no-step; session = none })
     stay i q y = record { answer-is = refl; holds = rw q y }
 
-    go : (s : Line) → set ds (seatOf (actor s)) d ≡ ds → Zero 0 ds cs os
+    go : (s : Line) → set ds (seatOf (actor s)) d ≡ ds → Zero 0 0 ds cs os
         → (let r = firstOf d s in Turned (r .n) (r .m) ds cs os (actor s) (r .desk) (answerOf (r .answer) names) (turn none (lineIn s list)))
     go (New a b) q y =
         cases (begins a b)

@@ -39,8 +39,9 @@ abbrev pub zeroCore : Core
 zeroCore = record { n = 0; m = 0; desks = zeroDesks }
 
 -- no table yet
-pub record Zero (n : ℕ) (ds : List Desk) (cs os : List ℕ) : Type 0 where
+pub record Zero (n m : ℕ) (ds : List Desk) (cs os : List ℕ) : Type 0 where
   pub size : n ≡ 0
+  pub many : m ≡ 0
   pub desks : ds ≡ zeroDesks
   pub cells : cs ≡ zeroCells
   pub opens : os ≡ zeroOpens
@@ -51,7 +52,7 @@ pub record Tabled (n m : ℕ) (ds : List Desk) (cs os : List ℕ) (s : State) : 
   pub sound : Sound n m ds cs os
 
 abbrev pub Holds : ℕ → ℕ → List Desk → List ℕ → List ℕ → Session → Type 0
-Holds n m ds cs os none = Zero n ds cs os
+Holds n m ds cs os none = Zero n m ds cs os
 Holds n m ds cs os (some s) = Tabled n m ds cs os s
 
 -- they hold some session
@@ -61,7 +62,7 @@ pub record SomeSession (n m : ℕ) (ds : List Desk) (cs os : List ℕ) : Type 0 
 
 -- the start
 pub zero-holds : SomeSession 0 0 zeroDesks zeroCells zeroOpens
-zero-holds = record { session = none; holds = record { size = refl; desks = refl; cells = refl; opens = refl } }
+zero-holds = record { session = none; holds = record { size = refl; many = refl; desks = refl; cells = refl; opens = refl } }
 
 -- "N n m" needs nothing but the two numbers --
 
@@ -89,7 +90,7 @@ zero-model : (n m : ℕ) → model n m zeroDesks zeroCells zeroOpens ≡ fresh n
 unfolding freshTable
 zero-model n m = fresh-model n m
 
-pub begun-holds : (n m : ℕ) (ds : List Desk) (cs os : List ℕ) → In most-desks n → In most-cells m → Zero 0 ds cs os → Holds n m ds cs os (some (fresh n m))
+pub begun-holds : (n m : ℕ) (ds : List Desk) (cs os : List ℕ) → In most-desks n → In most-cells m → Zero 0 0 ds cs os → Holds n m ds cs os (some (fresh n m))
 begun-holds n m ds cs os hn hm z = rw (z .desks, z .cells, z .opens) (record {
   model-is = zero-model n m;
   sound = record { rules = rw (zero-model n m) (fresh-rules n m hn hm); blanks = λ s h e. zero-cell s h; unique = unique-zeros (entries * open-width) };

@@ -1,6 +1,6 @@
 -- A run over the lines of a text: how far it got, what it wrote, and the session it left.
 use mathlib.Core.Path.{_≡_, refl, sym, ap, subst, _∙_}
-use mathlib.Core.List.{List, [], _++_, append-assoc}
+use mathlib.Core.List.{List, [], _++_, append-assoc, append-nil}
 use mathlib.Core.Option.{Option, none}
 use mathlib.Core.Bool.{Bool, true}
 use Prim.Native.Nat.{ℕ, _+_, _<_, _≤_, min, max}
@@ -33,67 +33,131 @@ use Rattle.session.specs.Act.{Turned}
 abbrev pub most-answer : ℕ
 most-answer = 770
 
--- From the session z at place `from` on: whole lines stand at the front of the buffer, they are the transcript's, and the session that is left is
--- the one that they leave.
+-- Lines one by one, while there is text and room for a line of any answer: each is answered by its turn, and the answer's line stands behind those
+-- before it. From the session z at a place, with len bytes of the room in use, to the session and the place reached.
+pub data Passed (text : List ℕ) (room : ℕ) : (z : Session) (from len : ℕ) (session : Session) (at : ℕ) (lines : List ℕ) → Type 0 where
+  here : {z : Session} {at len : ℕ} → Passed text room z at len z at []
+  line : {z session : Session} {from len at : ℕ} {lines : List ℕ} → from < length text → len + most-answer ≤ room
+      → Passed text room (turnAt z text from .session) (nextAt text from) (len + length (answerLine (turnAt z text from .answer))) session at lines
+      → Passed text room z from len session at (answerLine (turnAt z text from .answer) ++ lines)
+
+-- A run from the session z at place `from` on: the lines that it passed, their answers at the front of the buffer, the session that they left. It
+-- goes on to the end of the text, or until a line of any answer has no room.
 pub record Ran (z : Session) (text : List ℕ) (from : ℕ) (out : List ℕ) (n m : ℕ) (ds : List Desk) (cs os : List ℕ) (at len : ℕ) (out′ : List ℕ) : Type 0 where
   pub session : Session
   pub lines : List ℕ
+  pub passed : Passed text (length out) z from 0 session at lines
+  pub stops : at < length text → length out < len + most-answer
   pub holds : Holds n m ds cs os session
   pub stored : out′ ≡ sets out 0 lines
   pub len-is : len ≡ length lines
   pub fits : length lines ≤ length out
-  pub rest : transcriptFrom z text from ≡ lines ++ transcriptFrom session text at
-  pub leaves : sessionFrom z text from ≡ sessionFrom session text at
-  pub within : at ≤ max from (length text)
-  pub back : from ≤ at
-  pub progress : from < length text → most-answer ≤ length out → from < at
 
 -- for every session that the values held
 abbrev pub Runs : (n m : ℕ) (ds : List Desk) (cs os text : List ℕ) (from : ℕ) (out : List ℕ) (n′ m′ : ℕ) (ds′ : List Desk) (cs′ os′ : List ℕ) (at len : ℕ) (out′ : List ℕ) → Type 0
 Runs n m ds cs os text from out n′ m′ ds′ cs′ os′ at len out′ =
     (z : Session) → Holds n m ds cs os z → Ran z text from out n′ m′ ds′ cs′ os′ at len out′
 
+module _ {text : List ℕ} {room : ℕ} where
+  -- one line more at the end
+  pub passed-on : {z session : Session} {from len at : ℕ} {lines : List ℕ} → Passed text room z from len session at lines → at < length text → len + length lines + most-answer ≤ room
+      → Passed text room z from len (turnAt session text at .session) (nextAt text at) (lines ++ answerLine (turnAt session text at .answer))
+  passed-on {z} {from = from} {len = len} here h r =
+      rw (← append-nil (answerLine (turnAt z text from .answer))) (line {len = len} h (omega arith) here)
+  passed-on {z} {session} {from} {len} {at} (line {lines = lines} g q p) h r =
+      let w = answerLine (turnAt z text from .answer) in
+      rw append-assoc (line g q (passed-on p h (omega (arith, length-append w lines))))
+
+  -- what is left from there on gives what the whole gives
+  pub passed-rest : {z session : Session} {from len at : ℕ} {lines : List ℕ} → Passed text room z from len session at lines
+      → transcriptFrom z text from ≡ lines ++ transcriptFrom session text at
+  passed-rest here = refl
+  passed-rest {z} {session} {from} {at = at} (line {lines = lines} g q p) =
+      let w = answerLine (turnAt z text from .answer) in
+      from-line z text from g ∙ ap (λ (x : List ℕ). w ++ x) (passed-rest p) ∙ sym (append-assoc w lines (transcriptFrom session text at))
+
+  pub passed-leaves : {z session : Session} {from len at : ℕ} {lines : List ℕ} → Passed text room z from len session at lines
+      → sessionFrom z text from ≡ sessionFrom session text at
+  passed-leaves here = refl
+  passed-leaves {z} {from = from} (line g q p) = left-line z text from g ∙ passed-leaves p
+
+  pub passed-within : {z session : Session} {from len at : ℕ} {lines : List ℕ} → Passed text room z from len session at lines → (from ≤ at) × (at ≤ max from (length text))
+  passed-within here = (omega arith, omega arith)
+  passed-within {from = from} (line g q p) =
+      let h = passed-within p in
+      (omega (arith, h .0, next-more text from g), omega (arith, h .1, next-le text from))
+
+  -- it stands where it began only if it passed no line
+  pub passed-still : {z session : Session} {from len at : ℕ} {lines : List ℕ} → Passed text room z from len session at lines → at ≡ from → length lines ≡ 0
+  passed-still here e = refl
+  passed-still {from = from} (line g q p) e = absurd (omega (arith, passed-within p .0, next-more text from g))
+
+  -- no choice is left: where it stops is fixed, and so are the lines and the session
+  pub passed-once : {z s t : Session} {from len a b : ℕ} {k l : List ℕ} → Passed text room z from len s a k → Passed text room z from len t b l
+      → (a < length text → room < len + length k + most-answer) → (b < length text → room < len + length l + most-answer)
+      → (s ≡ t) × ((a ≡ b) × (k ≡ l))
+  passed-once here here f g = (refl, (refl, refl))
+  passed-once here (line h q p) f g = absurd (omega (arith, f h))
+  passed-once (line h q p) here f g = absurd (omega (arith, g h))
+  passed-once {z} {from = from} {len = len} (line {lines = k} h q p) (line {lines = l} h′ q′ p′) f g =
+      let w = answerLine (turnAt z text from .answer) in
+      let r = passed-once p p′ (λ x. omega (arith, f x, length-append w k)) (λ x. omega (arith, g x, length-append w l)) in
+      (r .0, (r .1 .0, ap (λ (x : List ℕ). w ++ x) (r .1 .1)))
+
+-- what a run tells of the text
+module _ {z : Session} {text : List ℕ} {from : ℕ} {out : List ℕ} {n m : ℕ} {ds : List Desk} {cs os : List ℕ} {at len : ℕ} {out′ : List ℕ}
+    (r : Ran z text from out n m ds cs os at len out′) where
+  pub ran-rest : transcriptFrom z text from ≡ r .lines ++ transcriptFrom (r .session) text at
+  ran-rest = passed-rest (r .passed)
+
+  pub ran-leaves : sessionFrom z text from ≡ sessionFrom (r .session) text at
+  ran-leaves = passed-leaves (r .passed)
+
+  pub ran-within : (from ≤ at) × (at ≤ max from (length text))
+  ran-within = passed-within (r .passed)
+
+  -- with room for a line it gets further
+  pub ran-progress : from < length text → most-answer ≤ length out → from < at
+  ran-progress h g = same-or at from
+      (λ q. absurd (let x = r .stops (omega arith) in omega (arith, passed-still (r .passed) q, r .len-is)))
+      (λ q. omega (arith, ran-within .0))
+
+  -- two runs of one text from one session into one buffer
+  module _ {n′ m′ : ℕ} {ds′ : List Desk} {cs′ os′ : List ℕ} {at′ len′ : ℕ} {out″ : List ℕ} (q : Ran z text from out n′ m′ ds′ cs′ os′ at′ len′ out″) where
+    same-run : (r .session ≡ q .session) × ((at ≡ at′) × (r .lines ≡ q .lines))
+    same-run = passed-once (r .passed) (q .passed) (λ h. omega (arith, r .stops h, r .len-is)) (λ h. omega (arith, q .stops h, q .len-is))
+
+    -- the same session, place, number of bytes, and buffer
+    pub one-run : (r .session ≡ q .session) × ((at ≡ at′) × ((len ≡ len′) × (out′ ≡ out″)))
+    one-run =
+        let e = same-run in
+        (e .0, (e .1 .0, (r .len-is ∙ ap length (e .1 .1) ∙ sym (q .len-is), r .stored ∙ ap (sets out 0) (e .1 .1) ∙ sym (q .stored))))
+
 -- a run under way
 pub record Going (z : Session) (text : List ℕ) (from : ℕ) (out : List ℕ) (n m : ℕ) (ds : List Desk) (cs os : List ℕ) (at len : ℕ) (out′ : List ℕ) : Type 0 where
   pub session : Session
   pub lines : List ℕ
+  pub passed : Passed text (length out) z from 0 session at lines
   pub holds : Holds n m ds cs os session
   pub stored : out′ ≡ sets out 0 lines
   pub len-is : len ≡ length lines
   pub fits : length lines ≤ length out
-  pub rest : transcriptFrom z text from ≡ lines ++ transcriptFrom session text at
-  pub leaves : sessionFrom z text from ≡ sessionFrom session text at
-  pub within : at ≤ max from (length text)
-  pub back : from ≤ at
-  pub still : at ≡ from → len ≡ 0
 
 pub going-start : {z : Session} {text : List ℕ} {from : ℕ} {out : List ℕ} {n m : ℕ} {ds : List Desk} {cs os : List ℕ} → Holds n m ds cs os z
     → Going z text from out n m ds cs os from 0 out
-going-start {z} h = record {
-  session = z;
-  lines = [];
-  holds = h;
-  stored = refl;
-  len-is = refl;
-  fits = omega arith;
-  rest = refl;
-  leaves = refl;
-  within = omega arith;
-  back = omega arith;
-  still = λ _. refl;
-}
+going-start {z} h = record { session = z; lines = []; passed = here; holds = h; stored = refl; len-is = refl; fits = omega arith }
 
 module _ {z : Session} {text : List ℕ} {from : ℕ} {out : List ℕ} {n m : ℕ} {ds : List Desk} {cs os : List ℕ} {at len : ℕ} {out′ : List ℕ}
     (g : Going z text from out n m ds cs os at len out′) where
   -- one line more
   pub going-on : {n′ m′ : ℕ} {cs′ os′ : List ℕ} {i : ℕ} {d : Desk} (answer : machine.Answer) {o : Option Said} {at′ len′ : ℕ} {out″ : List ℕ}
-      → at < length text
+      → at < length text → len + most-answer ≤ length out
       → Turned n′ m′ ds cs′ os′ i d answer (turn (g .session) o)
       → o ≡ pick (endedAt text at) (lineOf (lineAt text at)) none
       → Stored out′ len (answerLine answer) out″ len′ → len′ ≤ length out
       → at′ ≡ nextAt text at
       → Going z text from out n′ m′ (set ds (seatOf i) d) cs′ os′ at′ len′ out″
-  going-on {n′} {m′} {cs′} {os′} {i} {d} answer {o} {at′} {len′} {out″} h t eo s room ea =
+  going-on {n′} {m′} {cs′} {os′} {i} {d} answer {o} {at′} {len′} {out″} h free t eo s room ea =
       let k = turnAt (g .session) text at in
       let w = answerLine (k .answer) in
       let e : turn (g .session) o ≡ k = ap (turn (g .session)) eo in
@@ -103,6 +167,7 @@ module _ {z : Session} {text : List ℕ} {from : ℕ} {out : List ℕ} {n m : �
       record {
         session = k .session;
         lines = g .lines ++ w;
+        passed = rw ea (passed-on (g .passed) h (omega (arith, g .len-is)));
         holds = subst (λ (x : Turn). Holds n′ m′ (set ds (seatOf i) d) cs′ os′ (x .session)) e (t .holds);
         stored =
             s .stored ∙ ap (λ (x : List ℕ). sets out′ len x) b ∙ ap (λ (x : List ℕ). sets x len w) (g .stored)
@@ -110,32 +175,12 @@ module _ {z : Session} {text : List ℕ} {from : ℕ} {out : List ℕ} {n m : �
             ∙ sym (sets-append (g .lines) w out 0);
         len-is = l;
         fits = omega arith;
-        rest =
-            g .rest ∙ ap (λ (x : List ℕ). g .lines ++ x) (from-line (g .session) text at h) ∙ sym (append-assoc (g .lines) w (transcriptFrom (k .session) text (nextAt text at)))
-            ∙ ap (λ (x : ℕ). (g .lines ++ w) ++ transcriptFrom (k .session) text x) (sym ea);
-        leaves = g .leaves ∙ left-line (g .session) text at h ∙ ap (λ (x : ℕ). sessionFrom (k .session) text x) (sym ea);
-        within = omega (arith, next-le text at);
-        back = omega (arith, g .back, next-more text at h);
-        still = λ q. absurd (omega (arith, g .back, next-more text at h));
       }
 
   -- the end of the text, or no room for every answer
   pub going-end : (at < length text → length out < len + most-answer) → Ran z text from out n m ds cs os at len out′
-  going-end h = record {
-    session = g .session;
-    lines = g .lines;
-    holds = g .holds;
-    stored = g .stored;
-    len-is = g .len-is;
-    fits = g .fits;
-    rest = g .rest;
-    leaves = g .leaves;
-    within = g .within;
-    back = g .back;
-    progress = λ l r. same-or at from
-        (λ q. absurd (let x = h (omega arith) in let y = g .still q in omega arith))
-        (λ q. omega (arith, g .back));
-  }
+  going-end h =
+      record { session = g .session; lines = g .lines; passed = g .passed; stops = h; holds = g .holds; stored = g .stored; len-is = g .len-is; fits = g .fits }
 
   pub going-long : length out′ ≡ length out
   going-long = ap length (g .stored) ∙ length-sets out 0 (g .lines)
@@ -186,7 +231,7 @@ pub data Printed (text : List ℕ) : Session → ℕ → List ℕ → Type 0 whe
 
 printed-all : {text : List ℕ} {z : Session} {at : ℕ} {all : List ℕ} → Printed text z at all → all ≡ transcriptFrom z text at
 printed-all {text} {z} {at} (done h) = sym (from-end z text at h)
-printed-all (call {more = more} r p) = ap (λ (x : List ℕ). x ++ more) (ran-part r) ∙ ap (λ (x : List ℕ). r .lines ++ x) (printed-all p) ∙ sym (r .rest)
+printed-all (call {more = more} r p) = ap (λ (x : List ℕ). x ++ more) (ran-part r) ∙ ap (λ (x : List ℕ). r .lines ++ x) (printed-all p) ∙ sym (ran-rest r)
 
 -- from no table at place 0 to the end
 pub whole-text : {text all : List ℕ} → length text ≤ most-text → Printed text none 0 all → all ≡ transcript text

@@ -306,7 +306,7 @@ pub fn run(
         if out.len() - len < LONGEST_ANSWER {
             break;
         }
-        let line = schedule::line_at(text, place);
+        let line = reader::first_line(text, place);
         let end = place + line.len();
         let s = said(line, end < text.len(), &mut list);
         let p = seat(actor(s));

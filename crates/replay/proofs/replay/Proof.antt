@@ -4,6 +4,7 @@ use Prim.Native.Nat.{_-_}
 use native.Mathlib.Omega.{arith}
 use lib.ListN.{length}
 use Rattle.session.specs.Holds.{SomeSession, zero-holds}
+use Rattle.session.specs.Run.{ran-progress}
 use borrow.Author.Needs.{needs}
 use Rattle.replay.proofs.replay.Statement.{statement}
 use Rattle.replay.proofs.replay.Tie as tie
@@ -38,7 +39,7 @@ loop-less c =
     let L = c .before .before .before .before .before .before .before .before .before .loop in
     let r = c .before .before .before .before .run .ensures (L .inv .0 .session) (L .inv .0 .holds) in
     let h = c .before .before .before .before .before .before .before .before .loop-test .taken in
-    omega (arith, h, r .progress h (omega (arith, L .inv .1)))
+    omega (arith, h, ran-progress r h (omega (arith, L .inv .1)))
 
 loop-again : tie.Need-loop-again Inv-loop μ-loop
 loop-again c =

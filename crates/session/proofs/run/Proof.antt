@@ -41,8 +41,8 @@ seated c z h = let L = c .before .before .before .before .before .before .before
 }
 
 -- the line is the text's
-line-is : (c : tie.After-line-at Inv-loop μ-loop) → c .line-at .result .now ≡ lineAt (c .before .before .before .before .before .before .before .before .before .args .text .now) (c .before .before .before .loop .place)
-line-is c = c .line-at .ensures .0
+line-is : (c : tie.After-first-line Inv-loop μ-loop) → c .first-line .result .now ≡ lineAt (c .before .before .before .before .before .before .before .before .before .args .text .now) (c .before .before .before .loop .place)
+line-is c = c .first-line .ensures .0
 
 onward : (c : tie.After-behind Inv-loop μ-loop) → c .behind .result ≡ nextAt (c .before .before .before .before .before .before .before .before .before .before .before .before .before .before .before .before .before .before .before .before .before .before .before .before .before .before .before .before .before .before .before .before .args .text .now) (c .before .before .before .before .before .before .before .before .before .before .before .before .before .before .before .before .before .before .before .before .before .before .before .before .before .before .loop .place)
 onward c = next-place (c .before .before .before .before .before .before .before .before .before .before .before .before .before .before .before .before .before .before .before .before .before .before .before .before .before .before .before .before .before .before .before .before .args .text .now) (c .before .before .before .before .before .before .before .before .before .before .before .before .before .before .before .before .before .before .before .before .before .before .before .before .before .before .loop .place) (omega (arith, c .before .before .before .before .before .before .before .before .before .before .before .before .before .before .before .before .before .before .before .before .before .before .before .before .before .loop-test .taken)) (line-is (c .before .before .before .before .before .before .before .before .before .before .before .before .before .before .before .before .before .before .before .before .before .before .before)) refl (c .behind .ensures)
@@ -61,8 +61,8 @@ loop-holds c =
 sub-if1 : tie.Need-sub-if1 Inv-loop μ-loop
 sub-if1 c = search needs
 
-line-at-requires : tie.Need-line-at-requires Inv-loop μ-loop
-line-at-requires c κs = search needs
+first-line-requires : tie.Need-first-line-requires Inv-loop μ-loop
+first-line-requires c κs = search needs
 
 add-end : tie.Need-add-end Inv-loop μ-loop
 add-end c = search needs
@@ -149,7 +149,7 @@ loop-again c =
           λ z hz.
               let g = L .inv .1 .1 .1 z hz in
               rw e
-              (going-on g _ h (t .ensures (L .desks) (g .session) (seated q (g .session) (g .holds)))
+              (going-on g _ h (omega (arith, c .before .before .before .before .before .before .before .before .before .before .before .before .before .before .before .before .before .before .before .before .before .before .before .before .if1 .left, L .inv .1 .0, L .inv .1 .1 .0)) (t .ensures (L .desks) (g .session) (seated q (g .session) (g .holds)))
               (q .before .before .before .before .before .before .before .said .ensures .is ∙ said-is _ _ (omega (arith, h)) (line-is (q .before .before .before .before .before .before .before .before .before)) refl refl)
               (w .0) room (onward c)),
         ),
@@ -180,7 +180,7 @@ run-spec =
     owns-requires
     loop-holds
     sub-if1
-    line-at-requires
+    first-line-requires
     add-end
     said-requires
     actor-requires
