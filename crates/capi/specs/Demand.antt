@@ -1,5 +1,4 @@
--- Demand 3 of schedule text: the table that its lines leave, and the history of its own steps. (`resumed` says that the same text run by several
--- calls, saved and loaded between them, is no other.)
+-- Demand 3 of the lines of schedule text: the table that they leave, and the history of their own steps.
 use mathlib.Core.Path.{_≡_, refl, sym, ap, subst, _∙_}
 use mathlib.Core.List.{List, [], _∷_, _++_}
 use mathlib.Core.Option.{Option, none, some}
@@ -46,9 +45,9 @@ pub record BegunAt (ls : List TextLine) : Type 0 where
   pub none-yet : sessionOf none before ≡ none
   pub begins-it : lineAnswer none (line .bytes) (line .ended) ≡ record { answer = began; session = some (fresh n m) }
 
--- a text that leaves a table
-pub record Told (text : List ℕ) (s : State) : Type 0 where
-  pub begun : BegunAt (linesOf text)
+-- lines that leave a table
+pub record Told (ls : List TextLine) (s : State) : Type 0 where
+  pub begun : BegunAt ls
   pub leaves : s ≡ run reload (fresh (begun .n) (begun .m)) (actsOf (begun .after))
   pub holds : Demand3 s (history reload (fresh (begun .n) (begun .m)) (actsOf (begun .after)))
 
@@ -123,16 +122,21 @@ abbrev tableOr : State → Session → State
 tableOr s none = s
 tableOr s (some t) = t
 
--- of every text that leaves a table
-pub text-demand-3 : (text : List ℕ) (s : State) → sessionFrom none text 0 ≡ some s → Told text s
-unfolding sessionFrom sessionOf
-text-demand-3 text s e =
-    let b = begun-at (linesOf text) s e in
+-- of all lines that leave a table
+pub lines-demand-3 : (ls : List TextLine) (s : State) → sessionOf none ls ≡ some s → Told ls s
+unfolding sessionOf
+lines-demand-3 ls s e =
+    let b = begun-at ls s e in
     let acts = actsOf (b .after) in
     let t = run reload (fresh (b .n) (b .m)) acts in
-    let left : sessionOf none (linesOf text) ≡ some t =
+    let left : sessionOf none ls ≡ some t =
     ap (sessionOf none) (b .split) ∙ session-append none (b .before) (b .line ∷ b .after)
     ∙ ap (λ (z : Session). sessionOf z (b .line ∷ b .after)) (b .none-yet) ∙ ap (λ (x : Turn). sessionOf (x .session) (b .after)) (b .begins-it)
     ∙ acts-leave (fresh (b .n) (b .m)) (b .after) in
     let q : s ≡ t = ap (tableOr s) (sym e ∙ left) in
     record { begun = b; leaves = q; holds = subst (λ (x : State). Demand3 x (history reload (fresh (b .n) (b .m)) acts)) (sym q) (demand-3 (b .n) (b .m) (b .desks) (b .cells) acts) }
+
+-- of every text that leaves a table
+pub text-demand-3 : (text : List ℕ) (s : State) → sessionFrom none text 0 ≡ some s → Told (linesOf text) s
+unfolding sessionFrom
+text-demand-3 text s e = lines-demand-3 (linesOf text) s e

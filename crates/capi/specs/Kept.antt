@@ -31,7 +31,7 @@ turn-kept (some s) none k = k
 turn-kept (some s) (some (begin-line n m)) k = k
 turn-kept (some s) (some (step-line a)) k = step-keeps-rules k a
 
-lines-kept : (z : Session) (ls : List TextLine) → Kept z → Kept (sessionOf z ls)
+pub lines-kept : (z : Session) (ls : List TextLine) → Kept z → Kept (sessionOf z ls)
 unfolding sessionOf
 lines-kept z [] k = k
 lines-kept z (l ∷ ls) k =

@@ -9,3 +9,4 @@ pub mod Kept
 pub mod Wrote
 pub mod Split
 pub mod Demand
+pub mod Calls
