@@ -183,7 +183,7 @@ writesThat p h = count (writePasses p) h
 abbrev pub writesOf : ℕ → List Event → ℕ
 writesOf u h = writesThat (λ t k. eqb t u) h
 
--- the write u.k is among the entries
+-- the entry is the write u.k
 abbrev pub isApplied : ℕ → ℕ → Entry → Bool
 isApplied u k (own-read p x v) = false
 isApplied u k (applied w) = isName w u k
