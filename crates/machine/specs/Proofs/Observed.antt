@@ -29,7 +29,6 @@ observed-fresh n m = record {
   traced = record {
     story = record {
       ordered = record {
-        number = λ p u x v k a. clash (cc);
         source = λ q i x v u k a. clash (cc);
         once = λ p q u k a. let b = a .at in clash (cc);
         numbered = λ u x v k earlier later q. absurd (no-cut earlier (write-at u x v k) later q);

@@ -22,9 +22,8 @@ use Rattle.machine.specs.Demand3.{WriteAt, UpTo, NumberedInOrder}
 abbrev pub add : List Event → Event → List Event
 add h e = h ++ e ∷ []
 
--- of a history: numbers count from 1, what a read shows was written before, no name is written twice, numbers follow one another
+-- of a history: what a read shows was written before, no name is written twice, numbers count from 1
 pub record Ordered (h : List Event) : Type 0 where
-  pub number : (p u x v k : ℕ) → At h p (write-at u x v k) → 1 ≤ k
   pub source : (q i x v u k : ℕ) → At h q (read-at i x (shown v u k)) → (p : ℕ) × (p < q) × WriteAt h p u k
   pub once : (p q u k : ℕ) → WriteAt h p u k → WriteAt h q u k → p ≡ q
   pub numbered : NumberedInOrder h
@@ -243,7 +242,6 @@ not-op n = record {
 
 pub ordered-add : {h : List Event} {e : Event} → Ordered h → NewEvent h e → Ordered (add h e)
 ordered-add {h} {e} o n = record {
-  number = λ p u x v k a. number′ p u x v k (at-either h e p (write-at u x v k) a);
   source = λ q i x v u k a. source′ q i x v u k (at-either h e q (read-at i x (shown v u k)) a);
   once = λ p q u k a b. once′ p q u k a b (at-either h e p (write-at u (a .cell) (a .status) k) (a .at)) (at-either h e q (write-at u (b .cell) (b .status) k) (b .at));
   numbered = λ u x v k earlier later q. numbered′ u x v k earlier (cut-end h e earlier (write-at u x v k) later q);
@@ -256,10 +254,6 @@ ordered-add {h} {e} o n = record {
     -- a new write's number is above those of the writes before it
     unwritten : (u x v k p : ℕ) → e ≡ write-at u x v k → WriteAt h p u k → ⊥
     unwritten u x v k p y w = let a = n .next u x v k y in let b = number-in (o .numbered) u k w in omega arith
-
-    number′ : (p u x v k : ℕ) → AtEnd h e p (write-at u x v k) → 1 ≤ k
-    number′ p u x v k (before a) = o .number p u x v k a
-    number′ p u x v k (last _ z) = let a = n .next u x v k z in omega arith
 
     source′ : (q i x v u k : ℕ) → AtEnd h e q (read-at i x (shown v u k)) → (p : ℕ) × (p < q) × WriteAt (add h e) p u k
     source′ q i x v u k (before a) = let r = o .source q i x v u k a in (r .0, r .1, write-old h e (r .2))

@@ -47,7 +47,7 @@ origin-old {h} e o g =
 -- each write that a desk made is known there
 pub own-known : {s : State} {h : List Event} → Traced s h → {p u k : ℕ} → WriteAt h p u k → (1 ≤ k) × (k ≤ s .clock u u)
 own-known {s} {h} r {p} {u} {k} w =
-    let one = r .story .ordered .number p u (w .cell) (w .status) k (w .at) in
+    let one = number-in (r .story .ordered .numbered) u k w .0 in
     (one, r .clock u u k one .1 (record { place = p; event = write-at u (w .cell) (w .status) k; at = w .at; op = a-write; upto = record { place = p; write = w; order = inl refl } }))
 
 -- a clock counts, at its own place, the writes that its desk has made
