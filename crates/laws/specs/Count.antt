@@ -1,7 +1,7 @@
 -- How many elements pass a test, and what a store does to that.
 use Prim.Native.Nat.{ℕ, zero, suc, _+_, _-_, _<_, _≤_}
 use mathlib.Core.Path.{_≡_, refl, sym, ap, _∙_}
-use mathlib.Core.List.{List, [], _∷_}
+use mathlib.Core.List.{List, [], _∷_, _++_}
 use mathlib.Core.Bool.{Bool, true, false}
 use native.Mathlib.Omega.{arith}
 use lib.ListN.{length, getD, set}
@@ -49,3 +49,9 @@ unfolding count
 count-more p [] k a d h f t = absurd (omega arith)
 count-more p (x ∷ l) zero a d h f t = rw (f, t) (omega arith)
 count-more p (x ∷ l) (suc k) a d h f t = let r = count-more p l k a d (omega arith) f t in omega arith
+
+-- one more element at the end
+pub count-end : {A : Type 0} (p : A → Bool) (l : List A) (a : A) → count p (l ++ a ∷ []) ≡ pick (p a) 1 0 + count p l
+unfolding count
+count-end p [] a = refl
+count-end p (x ∷ l) a = let r = count-end p l a in omega arith

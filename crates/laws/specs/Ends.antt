@@ -1,7 +1,7 @@
 -- A list with one more element at its end.
 use Prim.Native.Nat.{ℕ, zero, suc, _<_}
-use mathlib.Core.Path.{_≡_, refl, sym, ap}
-use mathlib.Core.List.{List, [], _∷_, _++_, List·Memᴰ, List·Memᴰ·head, List·Memᴰ·tail}
+use mathlib.Core.Path.{_≡_, refl, sym, ap, _∙_, subst}
+use mathlib.Core.List.{List, [], _∷_, _++_, append-nil, append-assoc, List·Memᴰ, List·Memᴰ·head, List·Memᴰ·tail}
 use mathlib.Core.Option.{some}
 use native.Mathlib.Omega.{arith}
 use lib.ListN.{length, getElem?}
@@ -28,9 +28,13 @@ module _ {A : Type 0} where
   at-before (x ∷ l) a zero b e = e
   at-before (x ∷ l) a (suc p) b e = at-before l a p b e
 
+  -- the element behind l
+  pub at-cut : (l : List A) (a : A) (m : List A) → getElem? (l ++ a ∷ m) (length l) ≡ some a
+  at-cut [] a m = refl
+  at-cut (x ∷ l) a m = at-cut l a m
+
   pub at-end : (l : List A) (a : A) → getElem? (l ++ a ∷ []) (length l) ≡ some a
-  at-end [] a = refl
-  at-end (x ∷ l) a = at-end l a
+  at-end l a = at-cut l a []
 
   pub at-either : (l : List A) (a : A) (p : ℕ) (b : A) → getElem? (l ++ a ∷ []) p ≡ some b → AtEnd l a p b
   at-either [] a zero b e = last refl (cc)
@@ -67,3 +71,12 @@ pub record Cut {A : Type 0} (b : A) (l : List A) : Type 0 where
 pub cut-at : {A : Type 0} {b : A} {l : List A} → List·Memᴰ b l → Cut b l
 cut-at {A} (List·Memᴰ·head {xs = xs} e) = record { earlier = []; later = xs; is = ap {B = List A} (λ y. y ∷ xs) (sym e) }
 cut-at {A} (List·Memᴰ·tail {x = x} m) = let c = cut-at m in record { earlier = x ∷ c .earlier; later = c .later; is = ap {B = List A} (λ y. x ∷ y) (c .is) }
+
+-- what holds of the empty list, and goes on from each part at the front to the part with the next element, holds of the list
+pub by-parts : {A : Type 0} (P : List A → Type 0) (l : List A) → P []
+    → ((earlier : List A) (a : A) (later : List A) → l ≡ earlier ++ a ∷ later → P earlier → P (earlier ++ a ∷ [])) → P l
+by-parts {A} P l start more = go [] l refl start
+  where
+    go : (earlier later : List A) → l ≡ earlier ++ later → P earlier → P l
+    go earlier [] e p = subst P (sym (e ∙ append-nil earlier)) p
+    go earlier (a ∷ later) e p = go (earlier ++ a ∷ []) later (e ∙ sym (append-assoc earlier (a ∷ []) later)) (more earlier a later e p)

@@ -65,3 +65,7 @@ all-not p (suc n) at e =
 
 pub says-ltb : (a b : ℕ) → Says (ltb a b) (a < b)
 says-ltb a b = record { to = ltb-true a b; from = lt-ltb a b }
+
+-- two tests that say the same
+pub says-one : {P : Type 0} (a b : Bool) → Says a P → Says b P → a ≡ b
+says-one a b p q = cases b (λ e. p .from (q .to e) ∙ sym e) (λ e. cases a (λ f. apart b (q .from (p .to f)) e) (λ f. f ∙ sym e))

@@ -1,13 +1,14 @@
 -- Demand 3, as a statement about a table and the history observed of it.
 use mathlib.Core.Path.{_≡_}
 use mathlib.Core.Logic.{_⊎_, _↔_}
-use mathlib.Core.List.{List, [], _∷_, _++_, List·Memᴰ}
+use mathlib.Core.List.{List, _∷_, _++_, List·Memᴰ}
 use mathlib.Core.Option.{some}
-use Prim.Native.Nat.{ℕ, _≤_}
-use Rattle.machine.specs.Table.{Vec, Name, name, Cell, set, away, held, done, Open, State, place}
-use Rattle.machine.specs.Answer.{Shown}
+use Prim.Native.Nat.{ℕ, suc, _≤_, _<_}
+use Rattle.machine.specs.Table.{Vec, Name, name, set, away, held, done, Open, State, written, place}
+use Rattle.machine.specs.Answer.{Shown, wrote}
+use Rattle.machine.specs.Steps.{openCount, Write, step}
 use Rattle.machine.specs.Rules.{In}
-use Rattle.machine.specs.History.{Event, read-at, write-at, receive-at, Entry, own-read, applied, deskList, latest, At, Precedes}
+use Rattle.machine.specs.History.{Event, read-at, write-at, receive-at, Entry, own-read, applied, deskList, latest, At, Precedes, writesOf, openWrites}
 
 -- the accepted write u.k stands at the place q of the history
 pub record WriteAt (h : List Event) (q u k : ℕ) : Type 0 where
@@ -23,6 +24,18 @@ pub data OpAt (h : List Event) (q : ℕ) : Entry → Type 0 where
 -- the write u.k is among the entries
 abbrev pub Has : List Entry → ℕ → ℕ → Type 0
 Has l u k = List·Memᴰ (applied (name u k)) l
+
+-- each write in a desk's list is an accepted one
+abbrev pub ListsAccepted : List Event → Type 0
+ListsAccepted h = (i u k : ℕ) → Has (deskList i h) u k → (q : ℕ) × WriteAt h q u k
+
+-- and stands there once
+abbrev pub ListsOnce : List Event → Type 0
+ListsOnce h = (i u k : ℕ) (earlier later : List Entry) → deskList i h ≡ earlier ++ applied (name u k) ∷ later → Has earlier u k → ⊥
+
+-- the causal order never goes back, so it has no cycle
+abbrev pub OrderForward : List Event → Type 0
+OrderForward h = (p q : ℕ) → Precedes h p q → p < q
 
 -- "each read shows the latest earlier write in that desk's list .., or unset"
 abbrev pub ReadsLatest : List Event → Type 0
@@ -71,9 +84,28 @@ pub record VectorTellsOrder (s : State) (h : List Event) : Type 0 where
   pub of-open : (u k q : ℕ) (w : Open) → s .opens u k ≡ some w → WriteAt h q u k → (t j : ℕ) → 1 ≤ j → (j ≤ w .vector t) ↔ UpTo h q t j
   pub of-cell : (i x v u q : ℕ) (w : Vec) → s .cell i x ≡ set v u w → WriteAt h q u (w u) → (t j : ℕ) → 1 ≤ j → (j ≤ w t) ↔ UpTo h q t j
 
+-- "Write number k of desk u is named u.k": before it stand k-1 accepted writes of u
+abbrev pub NumberedInOrder : List Event → Type 0
+NumberedInOrder h = (u x v k : ℕ) (earlier later : List Event) → h ≡ earlier ++ write-at u x v k ∷ later → k ≡ suc (writesOf u earlier)
+
+-- write names come from the accepted history: those in it, how many the table counts, and the one that the next write answers
+pub record NamesObserved (s : State) (h : List Event) : Type 0 where
+  pub numbered : NumberedInOrder h
+  pub counted : (u : ℕ) → written s u ≡ writesOf u h
+  pub next : (i x v : ℕ) (w : Name) → step s (Write i x v) .answer ≡ wrote w → w ≡ name i (suc (writesOf i h))
+
+-- and so does the open count
+abbrev pub OpenObserved : State → List Event → Type 0
+OpenObserved s h = openCount s ≡ openWrites (s .desks) h
+
 pub record Demand3 (s : State) (h : List Event) : Type 0 where
+  pub lists-accepted : ListsAccepted h
+  pub lists-once : ListsOnce h
+  pub order-forward : OrderForward h
   pub reads-latest : ReadsLatest h
   pub causes-first : CausesFirst h
   pub held-iff-cause-missing : HeldIffCauseMissing s h
   pub places-observed : PlacesObserved s h
   pub vector-tells-order : VectorTellsOrder s h
+  pub names-observed : NamesObserved s h
+  pub open-observed : OpenObserved s h

@@ -1,12 +1,15 @@
 -- What is observed of a schedule, from its steps and the answers alone: the history, each desk's list, and the causal order.
 -- The machine keeps none of this.
 use mathlib.Core.Path.{_≡_}
-use mathlib.Core.Bool.{Bool, true, false, _&&_}
+use mathlib.Core.Bool.{Bool, true, false, not, _&&_}
 use mathlib.Core.List.{List, [], _∷_, _++_, map}
 use mathlib.Core.Option.{Option, none, some}
 use Prim.Native.Nat.{ℕ, zero, suc, _<_}
 use lib.Dec.{eqb}
 use lib.ListN.{getElem?}
+use Rattle.laws.specs.All.{all}
+use Rattle.laws.specs.Count.{count}
+use Rattle.laws.specs.Lists.{any}
 use Rattle.machine.specs.Table.{Name, name, State}
 use Rattle.machine.specs.Answer.{Shown, unset, shown, Answer, began, shows, wrote, holds, applies, judged, refused}
 use Rattle.machine.specs.Steps.{Step, Read, Write, Deliver, Trip, Out, step}
@@ -162,3 +165,33 @@ pub data Precedes (h : List Event) : ℕ → ℕ → Type 0 where
   shown-by : {p q i u x v k : ℕ} → At h p (write-at u x v k) → At h q (read-at i x (shown v u k)) → Precedes h p q
   -- "and what follows from these by chaining"
   chained : {p q r : ℕ} → Precedes h p q → Precedes h q r → Precedes h p r
+
+-- Counts: "both come from the accepted history" --
+
+-- the event is an accepted write u.k that passes a test
+abbrev pub writePasses : (ℕ → ℕ → Bool) → Event → Bool
+writePasses p (read-at i x v) = false
+writePasses p (write-at u x v k) = p u k
+writePasses p (receive-at i w) = false
+writePasses p (apply-at i w) = false
+
+-- how many accepted writes pass
+abbrev pub writesThat : (ℕ → ℕ → Bool) → List Event → ℕ
+writesThat p h = count (writePasses p) h
+
+-- how many accepted writes the desk u has
+abbrev pub writesOf : ℕ → List Event → ℕ
+writesOf u h = writesThat (λ t k. eqb t u) h
+
+-- the entry is the write u.k
+abbrev pub isApplied : ℕ → ℕ → Entry → Bool
+isApplied u k (own-read p x v) = false
+isApplied u k (applied w) = isName w u k
+
+-- u.k is missing in the list of some desk from 1 to n
+abbrev pub someLacks : ℕ → List Event → ℕ → ℕ → Bool
+someLacks n h u k = not (all (λ i. any (isApplied u k) (deskList i h)) n 1)
+
+-- "A write is open from its acceptance until it is applied at all n desks": how many are
+abbrev pub openWrites : ℕ → List Event → ℕ
+openWrites n h = writesThat (someLacks n h) h

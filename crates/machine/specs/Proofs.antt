@@ -5,6 +5,7 @@ pub mod Apply
 pub mod Cascade
 pub mod Kept
 pub mod Refusals
+pub mod Alone
 pub mod Cases
 pub mod Blanks
 pub mod Desks
@@ -17,4 +18,5 @@ pub mod Small
 pub mod Marked
 pub mod Observed
 pub mod Runs
+pub mod Counted
 pub mod Demand3

@@ -11,7 +11,7 @@ use Rattle.laws.specs.Count.{count, count-all, count-miss}
 use Rattle.laws.specs.Find.{firstOf, first-none}
 use Rattle.laws.specs.Sum.{sum, one, tally, sum-same, sum-zero, sum-one}
 use Rattle.machine.specs.Rules.{In}
-use Rattle.machine.specs.Steps.{isNone, isOpen, openCount}
+use Rattle.machine.specs.Steps.{isNone, openCount}
 use Rattle.machine.specs.Table.{written, most-open}
 use Rattle.table.specs.declared.Desk.{Desk}
 use Rattle.table.specs.declared.Open.{Open}
@@ -110,19 +110,3 @@ module _ {n m : ℕ} {ds : List Desk} {cs os : List ℕ} (ok : Sound n m ds cs o
   full-many f h =
       let c = count-all inUse open0 (entriesOf os) (λ j b. let z : j < entries = rw length-entriesOf at b in rw (getD-entriesOf os j z, f j z)) in
       omega (arith, open-is, length-entriesOf os)
-
-  -- "With n = 1 a write is never open, so 5 is not met."
-  pub alone-few : n ≡ 1 → openCount (model n m ds cs os) < most-open
-  unfolding openCount
-  alone-few e =
-      let s = model n m ds cs os in
-      let z = sum-same n (λ u. 0) (λ u. tally (written s u) (isOpen s u)) (λ u a b. sum-same (written s u) (λ k. 0) (λ k. one (isOpen s u k)) (λ k c d. rw (closed u k)) ∙ sum-zero (written s u)) in
-      omega (arith, sum-zero n)
-    where
-      closed : (u k : ℕ) → isOpen (model n m ds cs os) u k ≡ false
-      closed u k =
-          cases (isOpen (model n m ds cs os) u k)
-          (λ t. absurd (let b = ok .rules .frame .open-exactly u k .0 t in
-          let same : b .lacks .desk ≡ u = omega (arith, b .writer, b .lacks .desk-in) in
-          omega (arith, b .lacks .lower, b .number .1, ap (λ (j : ℕ). model n m ds cs os .applied j u) same)))
-          (λ t. t)

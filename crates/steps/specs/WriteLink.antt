@@ -14,6 +14,7 @@ use Rattle.machine.specs.Table as states
 use Rattle.machine.specs.Answer as machine
 use Rattle.machine.specs.Rules.{In}
 use Rattle.machine.specs.Steps.{Write, write, openCount, everywhere, stillOpen, mark, newWrite, nextNumber, nextVector}
+use Rattle.machine.specs.Proofs.Alone.{alone-none-open}
 use Rattle.clock.specs.declared.Clock.{Clock}
 use Rattle.clock.specs.Vectors.{places, place, place-set, place-raised, raised, raiseClock}
 use Rattle.table.specs.declared.Cell.{Cell}
@@ -31,7 +32,7 @@ use Rattle.steps.specs.Stepped.{Placed, Stepped}
 use Rattle.steps.specs.LookStepped.{in-places, in-cells, in-desks, desk-shape, taken-stepped}
 use Rattle.steps.specs.LookLink.{clock-start}
 use Rattle.steps.specs.WriteTurn.{Spotted, newMarks, enterAt, wroteDesk, wroteCell, wroteOpen, wroteTurn}
-use Rattle.steps.specs.WriteCount.{free-few, alone-few}
+use Rattle.steps.specs.WriteCount.{free-few}
 
 -- no mark but the writer's
 place-zeros : (n t : ℕ) → place (replicate n 0) t ≡ 0
@@ -156,7 +157,7 @@ module _ {n m : ℕ} {ds : List Desk} {cs os own : List ℕ} {i : ℕ} {d : Desk
 
       few-open : (s : Spot) → Spotted n os s → (s ≡ Full → ⊥) → openCount (model n m ds cs os) < states.most-open
       few-open (Entry e) h ne = free-few (p .sound) e (h .1 .0) (h .1 .1)
-      few-open Alone h ne = alone-few (p .sound) h
+      few-open Alone h ne = omega (arith, alone-none-open (p .sound .rules) h)
       few-open Full h ne = absurd (ne refl)
 
       pub write-stepped : (s : Spot) → v ≤ states.most-status → Spotted n os s → (s ≡ Full → ⊥)

@@ -19,11 +19,12 @@ use Rattle.machine.specs.Rules.{In, Rules}
 use Rattle.machine.specs.History.{Event, write-at, applied, deskList, Precedes, Act, run, history}
 use Rattle.machine.specs.Demand3.{WriteAt, of-write, Has, CauseMissing, Received, HeldIffCauseMissing, UpTo, Demand3}
 use Rattle.machine.specs.Proofs.Kept.{fresh-rules, one-place, done-counted}
-use Rattle.machine.specs.Proofs.Order.{at-one, Ordered}
-use Rattle.machine.specs.Proofs.Traced.{Origin, origin-write, own-known}
+use Rattle.machine.specs.Proofs.Order.{at-one, Ordered, forward}
+use Rattle.machine.specs.Proofs.Traced.{Origin, origin-write}
 use Rattle.machine.specs.Proofs.Marked.{Mark}
 use Rattle.machine.specs.Proofs.Observed.{Observed, observed-fresh}
 use Rattle.machine.specs.Proofs.Runs.{rules-kept, observed-run}
+use Rattle.machine.specs.Proofs.Counted.{write-in, names-observed, open-observed}
 
 -- a write that is not ready: its own number is not next, or another desk's place fails
 data Unready (a : Vec) (u : ℕ) (w : Vec) : Type 0 where
@@ -47,15 +48,9 @@ module _ {s : State} {h : List Event} (r : Rules s) (b : Observed s h) where
   ordered : Ordered h
   ordered = b .traced .story .ordered
 
-  write-in : {q u k : ℕ} → WriteAt h q u k → In (s .desks) u × In (written s u) k
-  write-in {u = u} w =
-      let n = own-known (b .traced) w in
-      let own = r .frame .clocks .own u in
-      (r .frame .counts .inside u u (omega (arith, n .0, n .1)) .1, (n .0, omega (arith, n .1)))
-
   applied-observed : (i u k q : ℕ) → In (s .desks) i → WriteAt h q u k → (place s i u k ≡ done) ↔ Has (deskList i h) u k
   applied-observed i u k q hi w =
-      let c = write-in w in
+      let c = write-in r (b .traced) w in
       Iff·trans (done-counted (r .frame) i u k hi (c .0) (c .1)) (λ le. b .traced .counts i u k .1 (c .1 .0, le), λ m. b .traced .counts i u k .0 m .1)
 
   unreceived : (i u k q : ℕ) → In (s .desks) i → WriteAt h q u k → (place s i u k ≡ away) ↔ (Received h i u k → ⊥)
@@ -123,7 +118,7 @@ module _ {s : State} {h : List Event} (r : Rules s) (b : Observed s h) where
       to (some x) e z = let d : place s i u k ≡ x .marks i = rw e in held-lacks i u k q x hi w e (sym d ∙ z)
 
       from : CauseMissing h i q → place s i u k ≡ held
-      from c = go (one-place r i u k hi (write-in w .0) (write-in w .1))
+      from c = let c = write-in r (b .traced) w in go (one-place r i u k hi (c .0) (c .1))
         where
           go : (place s i u k ≡ away) ⊎ ((place s i u k ≡ held) ⊎ (place s i u k ≡ done)) → place s i u k ≡ held
           go (inl z) = absurd (unreceived i u k q hi w .0 z got)
@@ -135,6 +130,9 @@ module _ {s : State} {h : List Event} (r : Rules s) (b : Observed s h) where
 
   pub demand-of : Demand3 s h
   demand-of = record {
+    lists-accepted = b .traced .story .written;
+    lists-once = b .traced .story .once;
+    order-forward = λ p q c. forward ordered c;
     reads-latest = b .traced .story .latest;
     causes-first = b .traced .story .causes;
     held-iff-cause-missing = held-iff;
@@ -143,6 +141,8 @@ module _ {s : State} {h : List Event} (r : Rules s) (b : Observed s h) where
       of-open = λ u k q w e a. tells-at (b .traced .opens u k w e) a;
       of-cell = λ i x v u q w e a. tells-at (b .traced .cell i x v u w e) a;
     };
+    names-observed = names-observed r (b .traced);
+    open-observed = open-observed r (b .traced);
   }
 
 -- a reload gives back every table that keeps the rules

@@ -133,7 +133,7 @@ listed-inside i h p x v m = let k = listed-from i 0 h p x v m in omega arith
 
 -- the write of a name --
 
-names-are : (w : Name) (u k : ℕ) → isName w u k ≡ true → w ≡ name u k
+pub names-are : (w : Name) (u k : ℕ) → isName w u k ≡ true → w ≡ name u k
 names-are w u k e = cases (eqb (w .writer) u)
     (λ a. cases (eqb (w .number) k)
     (λ b. let p = eqb-true (w .writer) u a in let q = eqb-true (w .number) k b in λ i. record { writer = p i; number = q i })

@@ -11,7 +11,7 @@ use Rattle.laws.specs.Says.{clash}
 use Rattle.machine.specs.Table.{Name, name, held, done, Open, State, fresh}
 use Rattle.machine.specs.Steps.{read, readClock, stillOpen, mark, apply, hold, nextNumber, nextVector, raise, newWrite, write}
 use Rattle.machine.specs.Rules.{Frame, Rules}
-use Rattle.machine.specs.History.{Event, receive-at, apply-at, own-read, latestFrom, listFrom}
+use Rattle.machine.specs.History.{Event, write-at, receive-at, apply-at, own-read, applied, latestFrom, listFrom}
 use Rattle.machine.specs.Demand3.{Received, its-own, delivered}
 use Rattle.machine.specs.Proofs.Kept.{ReadyAt, read-rules, ready-next}
 use Rattle.machine.specs.Proofs.Order.{add, at-new}
@@ -29,11 +29,12 @@ observed-fresh n m = record {
   traced = record {
     story = record {
       ordered = record {
-        number = λ p u x v k a. clash (cc);
         source = λ q i x v u k a. clash (cc);
         once = λ p q u k a. let b = a .at in clash (cc);
+        numbered = λ u x v k earlier later q. absurd (no-cut earlier (write-at u x v k) later q);
       };
       written = λ i u k m. absurd (List·Memᴰ·not-nil m);
+      once = λ i u k earlier later q. absurd (no-cut earlier (applied (name u k)) later q);
       latest = λ i p x v earlier later q. absurd (no-cut earlier (own-read p x v) later q);
       causes = record { writes = λ i b earlier later q. absurd (no-cut earlier b later q); reads = λ i b earlier later q. absurd (no-cut earlier b later q) };
     };

@@ -1,24 +1,32 @@
 -- The causal order of a history, and what one more event does to it.
-use mathlib.Core.Path.{_≡_, refl, sym, subst}
+use mathlib.Core.Path.{_≡_, refl, sym, ap, subst}
 use mathlib.Core.Logic.{_⊎_, inl, inr, _↔_}
+use mathlib.Core.Bool.{true, false}
 use mathlib.Core.List.{List, [], _∷_, _++_}
-use Prim.Native.Nat.{ℕ, _≤_, _<_}
+use Prim.Native.Nat.{ℕ, suc, _≤_, _<_}
 use native.Mathlib.Omega.{arith}
+use native.Mathlib.Decide.{decLe}
+use borrow.Author.Tests.{eq-eqb, ne-eqb}
+use lib.Dec.{eqb}
 use lib.ListN.{length}
-use Rattle.laws.specs.Ends.{AtEnd, before, last, at-inside, at-before, at-end, at-either}
+use Rattle.laws.specs.Ends.{AtEnd, before, last, at-inside, at-before, at-end, at-either, CutEnd, inside, outside, cut-end, by-parts}
+use Rattle.laws.specs.Count.{count, count-end}
+use Rattle.laws.specs.Says.{clash}
+use Rattle.laws.specs.Update.{same-or}
 use Rattle.machine.specs.Answer.{shown}
-use Rattle.machine.specs.History.{Event, read-at, write-at, At, OpOf, a-read, a-write, Precedes, same-desk, shown-by, chained}
-use Rattle.machine.specs.Demand3.{WriteAt, UpTo}
+use Rattle.machine.specs.Rules.{In}
+use Rattle.machine.specs.History.{Event, read-at, write-at, receive-at, apply-at, writePasses, writesOf, At, OpOf, a-read, a-write, Precedes, same-desk, shown-by, chained}
+use Rattle.machine.specs.Demand3.{WriteAt, UpTo, NumberedInOrder}
 
 -- one more event
 abbrev pub add : List Event → Event → List Event
 add h e = h ++ e ∷ []
 
--- of a history: numbers count from 1, what a read shows was written before, no name is written twice
+-- of a history: what a read shows was written before, no name is written twice, numbers count from 1
 pub record Ordered (h : List Event) : Type 0 where
-  pub number : (p u x v k : ℕ) → At h p (write-at u x v k) → 1 ≤ k
   pub source : (q i x v u k : ℕ) → At h q (read-at i x (shown v u k)) → (p : ℕ) × (p < q) × WriteAt h p u k
   pub once : (p q u k : ℕ) → WriteAt h p u k → WriteAt h q u k → p ≡ q
+  pub numbered : NumberedInOrder h
 
 pub at-one : (h : List Event) (p : ℕ) {e f : Event} → At h p e → At h p f → e ≡ f
 at-one h p a b = cc
@@ -159,29 +167,93 @@ module _ (h : List Event) (e : Event) where
         to k (before a) = record { place = k .place; event = k .event; at = a; op = k .op; upto = upto-less (k .upto) (at-inside h (k .place) (k .event) a) }
         to k (last _ z) = absurd (op (subst (OpOf i) (sym z) (k .op)))
 
+-- the numbers of a desk's writes --
+
+-- a write of u, or no write of u
+data WriteCase (u : ℕ) (e : Event) : Type 0 where
+  its-write : (x v k : ℕ) → e ≡ write-at u x v k → WriteCase u e
+  other : writePasses (λ t k. eqb t u) e ≡ false → WriteCase u e
+
+write-case : (u : ℕ) (e : Event) → WriteCase u e
+write-case u (read-at i x v) = other refl
+write-case u (write-at t x v k) = same-or t u (λ z. its-write x v k (ap (λ (t : ℕ). write-at t x v k) z)) (λ z. other (ne-eqb t u z))
+write-case u (receive-at i w) = other refl
+write-case u (apply-at i w) = other refl
+
+pub writes-more : (u : ℕ) (h : List Event) (x v k : ℕ) → writesOf u (add h (write-at u x v k)) ≡ suc (writesOf u h)
+writes-more u h x v k =
+    let c = count-end (writePasses (λ t k. eqb t u)) h (write-at u x v k) in
+    let z : eqb u u ≡ true = eq-eqb u u refl in
+    omega (arith, rw z at c)
+
+pub writes-same : (u : ℕ) (h : List Event) (e : Event) → writePasses (λ t k. eqb t u) e ≡ false → writesOf u (add h e) ≡ writesOf u h
+writes-same u h e n = let c = count-end (writePasses (λ t k. eqb t u)) h e in omega (arith, rw n at c)
+
+-- they are 1 to how many there are
+module _ {h : List Event} (o : NumberedInOrder h) (u k : ℕ) where
+  pub number-in : {p : ℕ} → WriteAt h p u k → In (writesOf u h) k
+  unfolding count
+  number-in {p} w = by-parts (λ l. (p : ℕ) → WriteAt l p u k → In (writesOf u l) k) h (λ p w. let a = w .at in clash (cc)) more p w
+    where
+      more : (earlier : List Event) (e : Event) (later : List Event) → h ≡ earlier ++ e ∷ later → ((p : ℕ) → WriteAt earlier p u k → In (writesOf u earlier) k)
+          → (p : ℕ) → WriteAt (add earlier e) p u k → In (writesOf u (add earlier e)) k
+      more earlier e later z ih p w = go (at-either earlier e p (write-at u (w .cell) (w .status) k) (w .at)) (write-case u e)
+        where
+          go : AtEnd earlier e p (write-at u (w .cell) (w .status) k) → WriteCase u e → In (writesOf u (add earlier e)) k
+          go (before a) (other n) = rw (writes-same u earlier e n) (ih p (record { cell = w .cell; status = w .status; at = a }))
+          go (before a) (its-write x v j y) =
+              let b = ih p (record { cell = w .cell; status = w .status; at = a }) in
+              rw (y, writes-more u earlier x v j) (b .0, omega (arith, b .1))
+          go (last _ y) _ =
+              let n = o u (w .cell) (w .status) k earlier later (rw y at z) in
+              rw (y, writes-more u earlier (w .cell) (w .status) k) (omega arith)
+
+  pub number-written : In (writesOf u h) k → (p : ℕ) × WriteAt h p u k
+  unfolding count
+  number-written = by-parts (λ l. In (writesOf u l) k → (p : ℕ) × WriteAt l p u k) h (λ b. absurd (omega arith)) more
+    where
+      more : (earlier : List Event) (e : Event) (later : List Event) → h ≡ earlier ++ e ∷ later → (In (writesOf u earlier) k → (p : ℕ) × WriteAt earlier p u k)
+          → In (writesOf u (add earlier e)) k → (p : ℕ) × WriteAt (add earlier e) p u k
+      more earlier e later z ih b = go (write-case u e) (decLe k (writesOf u earlier))
+        where
+          old : In (writesOf u earlier) k → (p : ℕ) × WriteAt (add earlier e) p u k
+          old b = let r = ih b in (r .0, write-old earlier e (r .1))
+
+          go : WriteCase u e → Dec (k ≤ writesOf u earlier) → (p : ℕ) × WriteAt (add earlier e) p u k
+          go (other n) _ = old (rw (writes-same u earlier e n) at b)
+          go (its-write x v j y) (yes le) = old (b .0, le)
+          go (its-write x v j y) (no gt) =
+              let n = o u x v j earlier later (rw y at z) in
+              let m = writes-more u earlier x v j in
+              let b′ : In (writesOf u (add earlier (write-at u x v j))) k = rw y at b in
+              let kj : j ≡ k = omega (arith, b′ .1) in
+              (length earlier, record { cell = x; status = v; at = rw (y, kj) (at-new earlier (write-at u x v k)) })
+
 -- what a new event has to keep
 pub record NewEvent (h : List Event) (e : Event) : Type 0 where
-  pub number : (u x v k : ℕ) → e ≡ write-at u x v k → 1 ≤ k
   pub source : (i x v u k : ℕ) → e ≡ read-at i x (shown v u k) → (p : ℕ) × WriteAt h p u k
-  pub once : (u x v k : ℕ) → e ≡ write-at u x v k → (p : ℕ) → WriteAt h p u k → ⊥
+  pub next : (u x v k : ℕ) → e ≡ write-at u x v k → k ≡ suc (writesOf u h)
 
 pub not-op : {h : List Event} {e : Event} → ((i : ℕ) → OpOf i e → ⊥) → NewEvent h e
 not-op n = record {
-  number = λ u x v k q. absurd (n u (subst (OpOf u) (sym q) a-write));
   source = λ i x v u k q. absurd (n i (subst (OpOf i) (sym q) a-read));
-  once = λ u x v k q. absurd (n u (subst (OpOf u) (sym q) a-write));
+  next = λ u x v k q. absurd (n u (subst (OpOf u) (sym q) a-write));
 }
 
 pub ordered-add : {h : List Event} {e : Event} → Ordered h → NewEvent h e → Ordered (add h e)
 ordered-add {h} {e} o n = record {
-  number = λ p u x v k a. number′ p u x v k (at-either h e p (write-at u x v k) a);
   source = λ q i x v u k a. source′ q i x v u k (at-either h e q (read-at i x (shown v u k)) a);
   once = λ p q u k a b. once′ p q u k a b (at-either h e p (write-at u (a .cell) (a .status) k) (a .at)) (at-either h e q (write-at u (b .cell) (b .status) k) (b .at));
+  numbered = λ u x v k earlier later q. numbered′ u x v k earlier (cut-end h e earlier (write-at u x v k) later q);
 }
   where
-    number′ : (p u x v k : ℕ) → AtEnd h e p (write-at u x v k) → 1 ≤ k
-    number′ p u x v k (before a) = o .number p u x v k a
-    number′ p u x v k (last _ z) = n .number u x v k z
+    numbered′ : (u x v k : ℕ) (earlier : List Event) → CutEnd h e earlier (write-at u x v k) → k ≡ suc (writesOf u earlier)
+    numbered′ u x v k earlier (inside later z) = o .numbered u x v k earlier later z
+    numbered′ u x v k earlier (outside z y) = rw (← z) (n .next u x v k y)
+
+    -- a new write's number is above those of the writes before it
+    unwritten : (u x v k p : ℕ) → e ≡ write-at u x v k → WriteAt h p u k → ⊥
+    unwritten u x v k p y w = let a = n .next u x v k y in let b = number-in (o .numbered) u k w in omega arith
 
     source′ : (q i x v u k : ℕ) → AtEnd h e q (read-at i x (shown v u k)) → (p : ℕ) × (p < q) × WriteAt (add h e) p u k
     source′ q i x v u k (before a) = let r = o .source q i x v u k a in (r .0, r .1, write-old h e (r .2))
@@ -193,6 +265,6 @@ ordered-add {h} {e} o n = record {
     once′ : (p q u k : ℕ) (a : WriteAt (add h e) p u k) (b : WriteAt (add h e) q u k) → AtEnd h e p (write-at u (a .cell) (a .status) k)
         → AtEnd h e q (write-at u (b .cell) (b .status) k) → p ≡ q
     once′ p q u k a b (before x) (before y) = o .once p q u k (record { cell = a .cell; status = a .status; at = x }) (record { cell = b .cell; status = b .status; at = y })
-    once′ p q u k a b (before x) (last z y) = absurd (n .once u (b .cell) (b .status) k y p (record { cell = a .cell; status = a .status; at = x }))
-    once′ p q u k a b (last z x) (before y) = absurd (n .once u (a .cell) (a .status) k x q (record { cell = b .cell; status = b .status; at = y }))
+    once′ p q u k a b (before x) (last z y) = absurd (unwritten u (b .cell) (b .status) k p y (record { cell = a .cell; status = a .status; at = x }))
+    once′ p q u k a b (last z x) (before y) = absurd (unwritten u (a .cell) (a .status) k q x (record { cell = b .cell; status = b .status; at = y }))
     once′ p q u k a b (last z x) (last z′ y) = omega arith

@@ -20,7 +20,7 @@ use Rattle.machine.specs.Demand3.{WriteAt, Has, UpTo}
 use Rattle.machine.specs.Proofs.Order.{add, at-one, Ordered, NewEvent, not-op, ordered-add, forward, at-old, at-new, write-old, upto-then, upto-old, knows-other, by-desk, by-show, LastUp, itself, through, upto-last}
 use Rattle.machine.specs.Proofs.Entries.{written-some, written-found, has-keep, latest-keep, has-apply, has-applied, latest-apply, mem-old}
 use Rattle.machine.specs.Proofs.Story.{NewEntry, story-add, all-written}
-use Rattle.machine.specs.Proofs.Traced.{Origin, Traced, origin-write, origin-old, own-known, onward, backward, op-traced, other-traced}
+use Rattle.machine.specs.Proofs.Traced.{Origin, Traced, origin-write, origin-old, own-known, clock-own, onward, backward, op-traced, other-traced}
 
 -- Read --
 
@@ -38,9 +38,8 @@ module _ {s : State} {h : List Event} (r : Traced s h) (i x : ℕ) (low : Below 
 
   read-new : NewEvent h (readOf s i x)
   read-new = record {
-    number = λ u y v k q. clash (cc);
     source = λ j y v u k q. read-source (s .cell i x) refl v u k (cc);
-    once = λ u y v k q p w. clash (cc);
+    next = λ u y v k q. clash (cc);
   }
 
   read-ordered : Ordered (add h (readOf s i x))
@@ -88,6 +87,7 @@ module _ {s : State} {h : List Event} (r : Traced s h) (i x : ℕ) (low : Below 
   read-entry = record {
     new = read-new;
     written = λ j u k q. clash (cc);
+    unlisted = λ j u k q. clash (cc);
     latest = λ j y v q.
         let ei : i ≡ j = cc in
         let ey : x ≡ y = cc in
@@ -114,13 +114,11 @@ writeOf s i x v = write-at i x v (nextNumber s i)
 module _ {s : State} {h : List Event} (r : Traced s h) (i x v : ℕ) where
   write-new : NewEvent h (writeOf s i x v)
   write-new = record {
-    number = λ u y w k q. let z : nextNumber s i ≡ k = cc in omega arith;
     source = λ j y w u k q. clash (cc);
-    once = λ u y w k q p a.
+    next = λ u y w k q.
         let ei : i ≡ u = cc in
         let ek : nextNumber s i ≡ k = cc in
-        let le : k ≤ s .clock i i = rw ei (own-known r a .1) in
-        omega arith;
+        sym ek ∙ ap suc (clock-own r i) ∙ rw ei;
   }
 
   write-ordered : Ordered (add h (writeOf s i x v))
@@ -159,6 +157,7 @@ module _ {s : State} {h : List Event} (r : Traced s h) (i x v : ℕ) where
   write-entry = record {
     new = write-new;
     written = λ j u k q. clash (cc);
+    unlisted = λ j u k q. clash (cc);
     latest = λ j y w q. clash (cc);
     read-after = λ i′ y w q. clash (cc);
     apply-after = λ j u k q. clash (cc);
@@ -179,6 +178,7 @@ traced-receive {s} {h} r i w =
     (record {
       new = not-op (λ j op. elim op [ ]);
       written = λ j u k q. clash (cc);
+      unlisted = λ j u k q. clash (cc);
       latest = λ j y v q. clash (cc);
       read-after = λ j y v q. clash (cc);
       apply-after = λ j u k q. clash (cc);
@@ -218,6 +218,12 @@ module _ {s : State} {h : List Event} (r : Traced s h) (i u k : ℕ) (w : Open) 
   apply-entry = record {
     new = not-op (λ j op. elim op [ ]);
     written = λ j u′ k′ q. let z : name u k ≡ name u′ k′ = cc in (g .place, subst (λ (n : Name). WriteAt h (g .place) (n .writer) (n .number)) z (origin-write g));
+    unlisted = λ i′ u′ k′ q m.
+        let ei : i ≡ i′ = cc in
+        let z : name u k ≡ name u′ k′ = cc in
+        let m′ : Has (deskList i h) u k = rw ei (subst (λ (n : Name). Has (deskList i′ h) (n .writer) (n .number)) (sym z) m) in
+        let le = r .counts i u k .0 m′ .1 in
+        omega (arith, d .next);
     latest = λ j y v q. clash (cc);
     read-after = λ j y v q. clash (cc);
     apply-after = λ i′ u′ k′ q q′ p t j b a c.

@@ -10,14 +10,15 @@ use Rattle.laws.specs.Says.{clash}
 use Rattle.machine.specs.Table.{name}
 use Rattle.machine.specs.Answer.{Shown, unset}
 use Rattle.machine.specs.History.{Event, read-at, write-at, apply-at, Entry, own-read, applied, deskList, latest, At, Precedes}
-use Rattle.machine.specs.Demand3.{WriteAt, OpAt, of-read, of-write, Has, ReadsLatest, CausesFirst}
+use Rattle.machine.specs.Demand3.{WriteAt, OpAt, of-read, of-write, Has, ListsAccepted, ListsOnce, ReadsLatest, CausesFirst}
 use Rattle.machine.specs.Proofs.Order.{add, Ordered, NewEvent, ordered-add, forward, at-less, write-old, write-less, prec-less}
 use Rattle.machine.specs.Proofs.Entries.{OwnEntry, reads, applies, DeskCut, in-old, in-new, desk-cut, mem-cases, read-listed, listed-inside, AllWritten, written-some, latest-stable}
 
--- what a history keeps; each write in a desk's list was accepted
+-- what a history keeps
 pub record Story (h : List Event) : Type 0 where
   pub ordered : Ordered h
-  pub written : (i u k : ℕ) → Has (deskList i h) u k → (q : ℕ) × WriteAt h q u k
+  pub written : ListsAccepted h
+  pub once : ListsOnce h
   pub latest : ReadsLatest h
   pub causes : CausesFirst h
 
@@ -25,6 +26,7 @@ pub record Story (h : List Event) : Type 0 where
 pub record NewEntry (h : List Event) (e : Event) : Type 0 where
   pub new : NewEvent h e
   pub written : (i u k : ℕ) → e ≡ apply-at i (name u k) → (q : ℕ) × WriteAt h q u k
+  pub unlisted : (i u k : ℕ) → e ≡ apply-at i (name u k) → Has (deskList i h) u k → ⊥
   pub latest : (i x : ℕ) (v : Shown) → e ≡ read-at i x v → v ≡ latest h x (deskList i h)
   pub read-after : (i x : ℕ) (v : Shown) → e ≡ read-at i x v → (p t j : ℕ) → WriteAt h p t j → Precedes (add h e) p (length h) → Has (deskList i h) t j
   pub apply-after : (i u k : ℕ) → e ≡ apply-at i (name u k) → (q p t j : ℕ) → WriteAt h q u k → WriteAt h p t j → Precedes h p q → Has (deskList i h) t j
@@ -47,13 +49,21 @@ module _ (h : List Event) (e : Event) (s : Story h) (n : NewEntry h e) where
   stable : (i x : ℕ) (l : List Entry) → ((b : Entry) → List·Memᴰ b l → List·Memᴰ b (deskList i h)) → latest (add h e) x l ≡ latest h x l
   stable i x l f = latest-stable h e x unset l (all-written s i l f)
 
-  written′ : (i u k : ℕ) → Has (deskList i (add h e)) u k → (q : ℕ) × WriteAt (add h e) q u k
+  written′ : ListsAccepted (add h e)
   written′ i u k m = go (mem-cases i h e m)
     where
       go : List·Memᴰ (applied (name u k)) (deskList i h) ⊎ OwnEntry i (length h) e (applied (name u k)) → (q : ℕ) × WriteAt (add h e) q u k
       go (inl m) = let r = s .written i u k m in (r .0, write-old h e (r .1))
       go (inr (reads x v _ z)) = clash (cc)
       go (inr (applies w q z)) = let y : e ≡ apply-at i (name u k) = cc in let r = n .written i u k y in (r .0, write-old h e (r .1))
+
+  once′ : ListsOnce (add h e)
+  once′ i u k earlier later q m = go (desk-cut i h e earlier (applied (name u k)) later q)
+    where
+      go : DeskCut i h e earlier (applied (name u k)) → ⊥
+      go (in-old l z) = s .once i u k earlier l z m
+      go (in-new z (reads x v _ y)) = clash (cc)
+      go (in-new z (applies w a y)) = let a′ : e ≡ apply-at i (name u k) = cc in n .unlisted i u k a′ (rw z m)
 
   latest′ : ReadsLatest (add h e)
   latest′ i p x v earlier later q = go (desk-cut i h e earlier (own-read p x v) later q)
@@ -128,4 +138,4 @@ module _ (h : List Event) (e : Event) (s : Story h) (n : NewEntry h e) where
       go (op-write u k z a w′) = let l = write-inside w′ in listed z (omega (arith, lt))
 
   pub story-add : Story (add h e)
-  story-add = record { ordered = ordered′; written = written′; latest = latest′; causes = record { writes = causes-writes; reads = causes-reads } }
+  story-add = record { ordered = ordered′; written = written′; once = once′; latest = latest′; causes = record { writes = causes-writes; reads = causes-reads } }

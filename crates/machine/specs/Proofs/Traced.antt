@@ -4,14 +4,16 @@ use mathlib.Core.Logic.{inl, _↔_, Iff·trans, Iff·symm}
 use mathlib.Core.List.{List}
 use mathlib.Core.Option.{some}
 use Prim.Native.Nat.{ℕ, _≤_}
+use native.Mathlib.Omega.{arith}
+use native.Mathlib.Decide.{decLe}
 use lib.ListN.{length}
 use Rattle.laws.specs.Ends.{at-inside}
 use Rattle.laws.specs.Update.{upd, upd-all}
 use Rattle.machine.specs.Table.{Vec, Name, name, set, Open, State}
 use Rattle.machine.specs.Answer.{shownOf}
-use Rattle.machine.specs.History.{Event, write-at, apply-at, applied, deskList, latest, At, OpOf, a-write, same-desk}
+use Rattle.machine.specs.History.{Event, write-at, apply-at, applied, deskList, latest, writesOf, At, OpOf, a-write, same-desk}
 use Rattle.machine.specs.Demand3.{WriteAt, Has, UpTo}
-use Rattle.machine.specs.Proofs.Order.{add, one-desk, Ordered, ordered-add, at-old, at-new, upto-then, upto-old, upto-less, Knows, knows-new, knows-other}
+use Rattle.machine.specs.Proofs.Order.{add, one-desk, Ordered, ordered-add, at-old, at-new, upto-then, upto-old, upto-less, number-in, number-written, Knows, knows-new, knows-other}
 use Rattle.machine.specs.Proofs.Entries.{has-keep, latest-keep}
 use Rattle.machine.specs.Proofs.Story.{Story, NewEntry, story-add, write-inside, all-written}
 
@@ -45,8 +47,20 @@ origin-old {h} e o g =
 -- each write that a desk made is known there
 pub own-known : {s : State} {h : List Event} → Traced s h → {p u k : ℕ} → WriteAt h p u k → (1 ≤ k) × (k ≤ s .clock u u)
 own-known {s} {h} r {p} {u} {k} w =
-    let one = r .story .ordered .number p u (w .cell) (w .status) k (w .at) in
+    let one = number-in (r .story .ordered .numbered) u k w .0 in
     (one, r .clock u u k one .1 (record { place = p; event = write-at u (w .cell) (w .status) k; at = w .at; op = a-write; upto = record { place = p; write = w; order = inl refl } }))
+
+-- a clock counts, at its own place, the writes that its desk has made
+pub clock-own : {s : State} {h : List Event} → Traced s h → (u : ℕ) → s .clock u u ≡ writesOf u h
+clock-own {s} {h} r u = let a = low (decLe 1 (s .clock u u)) in let b = high (decLe 1 (writesOf u h)) in omega arith
+  where
+    low : Dec (1 ≤ s .clock u u) → s .clock u u ≤ writesOf u h
+    low (no z) = omega arith
+    low (yes z) = number-in (r .story .ordered .numbered) u (s .clock u u) (r .clock u u (s .clock u u) z .0 (omega arith) .upto .write) .1
+
+    high : Dec (1 ≤ writesOf u h) → writesOf u h ≤ s .clock u u
+    high (no z) = omega arith
+    high (yes z) = own-known r (number-written (r .story .ordered .numbered) u (writesOf u h) (z, omega arith) .1) .1
 
 -- what a desk's clock counts is before its next operation
 pub onward : {s : State} {h : List Event} → Traced s h → (e : Event) (i : ℕ) → OpOf i e → (t j : ℕ) → 1 ≤ j → j ≤ s .clock i t → UpTo (add h e) (length h) t j
