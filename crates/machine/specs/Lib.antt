@@ -11,5 +11,6 @@ pub mod Session
 pub mod Example
 pub mod Paper
 pub mod History
+pub mod PaperRuns
 pub mod Demand3
 pub mod Proofs

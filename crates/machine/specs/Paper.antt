@@ -32,6 +32,10 @@ pub record Process : Type 0 where
   pub memory : ℕ → Option Value
   pub waiting : ℕ → ℕ → Option Message
 
+-- "initially set to zero", "initialized to [0, 0, ..., 0]"; nothing was written and nothing has arrived
+abbrev pub start : Process
+start = record { Apply = zeros; Write-co = zeros; LastWriteOn = λ h. zeros; memory = λ h. none; waiting = λ u k. none }
+
 -- the assignments --
 
 abbrev pub set-Write-co : Vec → Process → Process
@@ -132,10 +136,14 @@ valueOf (set v u w) = some (record { status = v; writer = u })
 abbrev pub messageOf : ℕ → Open → Message
 messageOf u w = record { location = w .cell; value = record { status = w .status; writer = u }; Write-co = w .vector }
 
+-- the message of an open write of u that has the mark p at i
+abbrev pub markedOf : ℕ → ℕ → ℕ → Option Open → Option Message
+markedOf p i u none = none
+markedOf p i u (some w) = elim (eqb (w .marks i) p) [ true ↦ some (messageOf u w) | false ↦ none ]
+
 -- held is waiting
 abbrev pub waitingOf : ℕ → ℕ → Option Open → Option Message
-waitingOf i u none = none
-waitingOf i u (some w) = elim (eqb (w .marks i) held) [ true ↦ some (messageOf u w) | false ↦ none ]
+waitingOf i u o = markedOf held i u o
 
 abbrev pub desk : State → ℕ → Process
 desk s i = record {

@@ -9,6 +9,7 @@ pub mod Cases
 pub mod Blanks
 pub mod Desks
 pub mod Paper
+pub mod Ways
 pub mod Order
 pub mod Entries
 pub mod Story
@@ -17,4 +18,5 @@ pub mod Small
 pub mod Marked
 pub mod Observed
 pub mod Runs
+pub mod PaperRuns
 pub mod Demand3
