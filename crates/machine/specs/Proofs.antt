@@ -19,4 +19,5 @@ pub mod Marked
 pub mod Observed
 pub mod Runs
 pub mod PaperRuns
+pub mod Past
 pub mod Demand3
