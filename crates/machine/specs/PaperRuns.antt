@@ -35,8 +35,8 @@ abbrev pub take : ℕ → ℕ → Message → Ways → Ways
 take i u m w = upd w i (upd2 (w i) u (m .Write-co u) none)
 
 -- What an action of p_i, that is at p, does to the messages. "Each message sent by a process is eventually received exactly once and no
--- spurious message can ever be delivered" (section 3.1): what is received was sent, and is not received again. ("Eventually" is no
--- property of a run that ends.) Nothing that is on its way is lost under a new message.
+-- spurious message can ever be delivered" (section 3.1): a receipt takes what was sent and not yet received there. No message takes
+-- another's place on the way; and a number is sent once, as line 1 of figure 4 raises it. Not said: "eventually", of runs that end.
 pub data Carries (n i : ℕ) (p : Process) (w : Ways) : Action → Ways → Type 0 where
   sends : {h : ℕ} {v : Value} → ((j : ℕ) → w j i (sent i h v p .Write-co i) ≡ none) → Carries n i p w (a-write h v) (send n i (sent i h v p) w)
   takes : {u : ℕ} {m : Message} → w i u (m .Write-co u) ≡ some m → Carries n i p w (a-receipt u m) (take i u m w)

@@ -29,7 +29,7 @@ tableFrom (some s) ss = some (run (λ s. s) s (map take-step ss))
 abbrev pub sessionTable : ℕ → ℕ → List Step → Option State
 sessionTable n m ss = tableFrom (begin n m .table) ss
 
--- the first seven lines; the next seven
+-- the first seven lines, without N 3 2; the next seven
 abbrev pub firstLines : List Step
 firstLines = Write 1 1 2 ∷ Deliver 2 1 1 ∷ Read 2 1 ∷ Write 1 1 1 ∷ Deliver 2 1 2 ∷ Write 2 2 1 ∷ []
 
@@ -42,7 +42,7 @@ abbrev pub placesOf : Option Open → List ℕ
 placesOf none = []
 placesOf (some w) = w .vector 1 ∷ w .vector 2 ∷ w .vector 3 ∷ []
 
--- of the write u.k, and how many writes of t the desk i has applied
+-- the places of the open write u.k, and how many writes of t the desk i has applied
 abbrev pub vectorAndCount : (u k i t : ℕ) → Option State → List ℕ × ℕ
 vectorAndCount u k i t none = ([], 0)
 vectorAndCount u k i t (some s) = (placesOf (s .opens u k), s .applied i t)
