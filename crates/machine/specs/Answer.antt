@@ -1,4 +1,4 @@
--- What a step answers, and document 01's number and values for every case of it.
+-- What a step answers, and document 01's number for every case of a refusal.
 use mathlib.Core.List.{List, [], _∷_}
 use Prim.Native.Nat.{ℕ}
 use Rattle.machine.specs.Table.{Name, Cell, blank, set}
@@ -61,22 +61,7 @@ pub data Answer : Type 0 where
   judged : Verdict → Answer
   refused : Refusal → Answer
 
--- the values that the document gives with each answer, in its order --
-
-abbrev pub shownValues : Shown → List ℕ
-shownValues unset = []
-shownValues (shown v u k) = v ∷ u ∷ k ∷ []
-
+-- the numbers of a list of names, in its order
 abbrev pub nameValues : List Name → List ℕ
 nameValues [] = []
 nameValues (w ∷ l) = w .writer ∷ w .number ∷ nameValues l
-
--- a verdict has no values: the text has a word for each
-abbrev pub valuesOf : Answer → List ℕ
-valuesOf began = []
-valuesOf (shows v) = shownValues v
-valuesOf (wrote w) = w .writer ∷ w .number ∷ []
-valuesOf (holds t) = t ∷ []
-valuesOf (applies l) = nameValues l
-valuesOf (judged v) = []
-valuesOf (refused r) = numberOf r ∷ []

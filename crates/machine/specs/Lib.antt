@@ -7,9 +7,12 @@ pub mod Within
 pub mod Keeps
 pub mod Tells
 pub mod Blanks
+pub mod History
+pub mod Past
 pub mod Session
+pub mod Edges
 pub mod Example
 pub mod Paper
-pub mod History
+pub mod PaperRuns
 pub mod Demand3
 pub mod Proofs

@@ -1,4 +1,13 @@
 -- Source document 003, section 4: the data structures of a process p_i, and figures 4 and 5 line by line, as atomic actions.
+-- In the text of 003 that we have, figure 4 stands whole. Of figure 5 (the read procedure and the synchronization thread) only the
+-- caption is there: its body is missing. Its lines are taken from these places:
+--   READ, line 1         section 4.2, "At line 1, p_i incorporates ..", "a component wise maximum"; proof of lemma 1
+--   READ, line 2         section 4.2, "Then the requested value is returned"
+--   thread, line 1       section 4.2, "arrives at p_i, a new thread is spawned"; proof of lemma 3, "receives .. (line 1, Fig. 5)"
+--   thread, line 2       section 4.2, the condition in brackets after "This means that"; proof of theorem 3, condition (1)
+--   thread, lines 3 to 5 section 4.2, "lines 3 to 5 are executed atomically"; line 5: proof of lemma 1, "line 5 of the synchronization
+--                        thread". No sentence says lines 3 and 4 one by one: they are figure 4's, with u for i, by what section 4.1
+--                        says of Apply[u] and section 3.2 of the apply event.
 use mathlib.Core.Path.{_≡_}
 use mathlib.Core.Logic.{_≢_}
 use mathlib.Core.Bool.{true, false}
@@ -31,6 +40,10 @@ pub record Process : Type 0 where
   pub LastWriteOn : ℕ → Vec
   pub memory : ℕ → Option Value
   pub waiting : ℕ → ℕ → Option Message
+
+-- "initially set to zero", "initialized to [0, 0, ..., 0]"; nothing was written and nothing has arrived
+abbrev pub start : Process
+start = record { Apply = zeros; Write-co = zeros; LastWriteOn = λ h. zeros; memory = λ h. none; waiting = λ u k. none }
 
 -- the assignments --
 
@@ -132,10 +145,14 @@ valueOf (set v u w) = some (record { status = v; writer = u })
 abbrev pub messageOf : ℕ → Open → Message
 messageOf u w = record { location = w .cell; value = record { status = w .status; writer = u }; Write-co = w .vector }
 
+-- the message of an open write of u that has the mark p at i
+abbrev pub markedOf : ℕ → ℕ → ℕ → Option Open → Option Message
+markedOf p i u none = none
+markedOf p i u (some w) = elim (eqb (w .marks i) p) [ true ↦ some (messageOf u w) | false ↦ none ]
+
 -- held is waiting
 abbrev pub waitingOf : ℕ → ℕ → Option Open → Option Message
-waitingOf i u none = none
-waitingOf i u (some w) = elim (eqb (w .marks i) held) [ true ↦ some (messageOf u w) | false ↦ none ]
+waitingOf i u o = markedOf held i u o
 
 abbrev pub desk : State → ℕ → Process
 desk s i = record {

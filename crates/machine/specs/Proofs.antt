@@ -10,6 +10,7 @@ pub mod Cases
 pub mod Blanks
 pub mod Desks
 pub mod Paper
+pub mod Ways
 pub mod Order
 pub mod Entries
 pub mod Story
@@ -19,4 +20,6 @@ pub mod Marked
 pub mod Observed
 pub mod Runs
 pub mod Counted
+pub mod PaperRuns
+pub mod Past
 pub mod Demand3

@@ -7,12 +7,13 @@ use native.Mathlib.Omega.{arith}
 use native.Mathlib.Nat.{pow-suc}
 use borrow.Author.Tests.{ne-eqb, ltb-true, ltb-false}
 use lib.Dec.{eqb, ltb}
-use lib.ListN.{length, getD, length-append}
+use lib.ListN.{length, length-append}
 use Rattle.laws.specs.Count.{count}
+use Rattle.laws.specs.Each.{Each, and}
 use Rattle.laws.specs.Loop.{pick, cases}
 use Rattle.laws.specs.Text.{text}
-use Rattle.machine.specs.Table.{Name, most-open, most-writes}
-use Rattle.machine.specs.Answer.{Answer, began, shows, wrote, holds, applies, judged, refused, unset, shown, Yes, No, Unknown, numberOf, nameValues, valuesOf}
+use Rattle.machine.specs.Table.{Name, name, most-open, most-writes}
+use Rattle.machine.specs.Answer.{Answer, began, shows, wrote, holds, applies, judged, refused, unset, shown, Yes, No, Unknown, numberOf}
 use Rattle.schedule.specs.Lines.{LF}
 use Rattle.answer.specs.Bytes.{digits, decimal, nameBytes, namesBytes, answerBytes, answerLine}
 use Rattle.answer.specs.Decimal.{decimal-one, decimal-longer}
@@ -119,26 +120,40 @@ decimal-short (suc w) n h =
 number-short : (n : ℕ) → n ≤ most-writes → length (decimal n) ≤ 5
 number-short n h = decimal-short 4 n (omega arith)
 
-name-short : (w : Name) → w .writer ≤ most-writes → w .number ≤ most-writes → length (nameBytes w) ≤ 11
-name-short w h g = omega (arith, name-length (w .writer) (w .number), number-short (w .writer) h, number-short (w .number) g)
+-- each number of the answer is at most most-writes, and it has at most most-open names
+abbrev pub SmallName : Name → Type 0
+SmallName w = (w .writer ≤ most-writes) × (w .number ≤ most-writes)
 
-names-short : (l : List Name) → ((k : ℕ) → getD (nameValues l) k 0 ≤ most-writes) → length (namesBytes l) ≤ 6 * length (nameValues l)
+abbrev pub Small : Answer → Type 0
+Small began = Unit {0}
+Small (shows unset) = Unit {0}
+Small (shows (shown v u k)) = (v ≤ most-writes) × SmallName (name u k)
+Small (wrote w) = SmallName w
+Small (holds t) = t ≤ most-writes
+Small (applies l) = (length l ≤ most-open) × Each SmallName l
+Small (judged v) = Unit {0}
+Small (refused r) = numberOf r ≤ most-writes
+
+name-short : (w : Name) → SmallName w → length (nameBytes w) ≤ 11
+name-short w h = omega (arith, name-length (w .writer) (w .number), number-short (w .writer) (h .0), number-short (w .number) (h .1))
+
+names-short : (l : List Name) → Each SmallName l → length (namesBytes l) ≤ 12 * length l
 unfolding namesBytes
 names-short [] h = omega arith
-names-short (w ∷ l) h = simp length-append (omega (arith, name-short w (h 0) (h 1), names-short l (λ k. h (suc (suc k)))))
+names-short (w ∷ l) (and h t) = simp length-append (omega (arith, name-short w h, names-short l t))
 
--- no value above 65,535 and at most 64 names: 770 bytes with the LF
-pub answer-short : (a : Answer) → ((k : ℕ) → getD (valuesOf a) k 0 ≤ most-writes) → length (valuesOf a) ≤ 2 * most-open → length (answerLine a) ≤ 770
-answer-short a h n = rw length-append (omega (arith, go a h n))
+-- 770 bytes with the LF
+pub answer-short : (a : Answer) → Small a → length (answerLine a) ≤ 770
+answer-short a h = rw length-append (omega (arith, go a h))
   where
-    go : (a : Answer) → ((k : ℕ) → getD (valuesOf a) k 0 ≤ most-writes) → length (valuesOf a) ≤ 2 * most-open → length (answerBytes a) ≤ 769
-    go began h n = omega arith
-    go (shows unset) h n = omega arith
-    go (shows (shown v u k)) h n = rw (shown-length v u k) (omega (arith, number-short v (h 0), name-short (record { writer = u; number = k }) (h 1) (h 2)))
-    go (wrote w) h n = simp length-append (omega (arith, name-short w (h 0) (h 1)))
-    go (holds t) h n = simp length-append (omega (arith, number-short t (h 0)))
-    go (applies l) h n = simp length-append (omega (arith, names-short l h))
-    go (judged Yes) h n = omega arith
-    go (judged No) h n = omega arith
-    go (judged Unknown) h n = omega arith
-    go (refused r) h n = simp length-append (omega (arith, number-short (numberOf r) (h 0)))
+    go : (a : Answer) → Small a → length (answerBytes a) ≤ 769
+    go began h = omega arith
+    go (shows unset) h = omega arith
+    go (shows (shown v u k)) h = rw (shown-length v u k) (omega (arith, number-short v (h .0), name-short (name u k) (h .1)))
+    go (wrote w) h = simp length-append (omega (arith, name-short w h))
+    go (holds t) h = simp length-append (omega (arith, number-short t h))
+    go (applies l) h = simp length-append (omega (arith, h .0, names-short l (h .1)))
+    go (judged Yes) h = omega arith
+    go (judged No) h = omega arith
+    go (judged Unknown) h = omega arith
+    go (refused r) h = simp length-append (omega (arith, number-short (numberOf r) h))

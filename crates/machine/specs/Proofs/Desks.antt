@@ -3,7 +3,7 @@ use mathlib.Core.Path.{_≡_, refl, sym, ap, _∙_, fun-ext}
 use mathlib.Core.Logic.{_≢_}
 use mathlib.Core.Bool.{true, false}
 use mathlib.Core.Option.{Option, none, some}
-use Prim.Native.Nat.{ℕ, suc, _≤_, max}
+use Prim.Native.Nat.{ℕ, suc, _≤_, _<_, max}
 use native.Mathlib.Omega.{arith}
 use borrow.Author.Tests.{eqb-true, eq-eqb, ne-eqb, le-ltb}
 use lib.Dec.{eqb}
@@ -14,7 +14,7 @@ use Rattle.laws.specs.Update.{upd, upd2, same-or, upd-same, upd-other, upd-map,
 use Rattle.machine.specs.Table.{Vec, Cell, blank, set, held, done, Open, State}
 use Rattle.machine.specs.Steps.{fails, failing, ready, isNone, readClock, read, everywhere, stillOpen, mark, apply, hold, nextNumber, raise, newWrite, write}
 use Rattle.machine.specs.Rules.{In, Flat, Quiet}
-use Rattle.machine.specs.Paper.{Message, Process, WRITE, READ, receipt, resume, Idle, vectorOf, valueOf, messageOf, waitingOf, desk}
+use Rattle.machine.specs.Paper.{Message, Process, WRITE, READ, receipt, resume, Idle, vectorOf, valueOf, messageOf, markedOf, waitingOf, desk}
 use Rattle.machine.specs.Proofs.Cases.{still-cases}
 
 -- processes are the same if their parts are
@@ -39,38 +39,45 @@ pub waits : {i u : ℕ} (o : Option Open) {m : Message} → waitingOf i u o ≡ 
 waits none e = absurd (let z : _≡_ {A = ℕ} 0 1 = cc in omega arith)
 waits {i} {u} (some w) {m} e =
     cases (eqb (w .marks i) held)
-    (λ t. record { entry = w; is = refl; is-held = eqb-true (w .marks i) held t; message = (let same : some (messageOf u w) ≡ some m = rw (t, waitingOf) at e in cc) })
-    (λ f. absurd (let same : none ≡ some m = rw (f, waitingOf) at e in let z : _≡_ {A = ℕ} 0 1 = cc in omega arith))
+    (λ t. record { entry = w; is = refl; is-held = eqb-true (w .marks i) held t; message = (let same : some (messageOf u w) ≡ some m = rw (t, markedOf) at e in cc) })
+    (λ f. absurd (let same : none ≡ some m = rw (f, markedOf) at e in let z : _≡_ {A = ℕ} 0 1 = cc in omega arith))
 
-pub held-waits : (i u : ℕ) (w : Open) → w .marks i ≡ held → waitingOf i u (some w) ≡ some (messageOf u w)
-held-waits i u w h = rw (eq-eqb (w .marks i) held h, waitingOf)
+-- One mark --
 
-other-waits-not : (i u : ℕ) (w : Open) → w .marks i ≢ held → waitingOf i u (some w) ≡ none
-other-waits-not i u w h = rw (ne-eqb (w .marks i) held h, waitingOf)
+pub marked-is : (p i u : ℕ) (w : Open) → w .marks i ≡ p → markedOf p i u (some w) ≡ some (messageOf u w)
+marked-is p i u w h = rw (eq-eqb (w .marks i) p h, markedOf)
+
+pub marked-not : (p i u : ℕ) (w : Open) → w .marks i ≢ p → markedOf p i u (some w) ≡ none
+marked-not p i u w h = rw (ne-eqb (w .marks i) p h, markedOf)
 
 pub everywhere-at : (n : ℕ) (w : Open) → everywhere n w ≡ true → (t : ℕ) → In n t → w .marks t ≡ done
 unfolding everywhere
 everywhere-at n w e t h = eqb-true (w .marks t) done (all-at _ n 1 e t (h .0) (omega arith))
 
--- a mark at one desk is nothing to another
-marked-there : (i p u : ℕ) (w : Open) (j : ℕ) → j ≢ i → waitingOf j u (some (mark w i p)) ≡ waitingOf j u (some w)
-marked-there i p u w j ne = rw (upd-other (w .marks) i p j ne, waitingOf)
+module _ (p i u : ℕ) (w : Open) where
+  -- another mark at i
+  pub marked-here : (q : ℕ) → q ≢ p → markedOf p i u (some (mark w i q)) ≡ none
+  marked-here q ne = marked-not p i u (mark w i q) (λ h. ne (sym (upd-same (w .marks) i q) ∙ h))
 
-module _ (n i u : ℕ) (w : Open) where
-  -- where it is applied it waits no more
-  applied-here : waitingOf i u (stillOpen n (mark w i done)) ≡ none
+  -- a mark at one desk is nothing to another
+  pub marked-there : (q j : ℕ) → j ≢ i → markedOf p j u (some (mark w i q)) ≡ markedOf p j u (some w)
+  marked-there q j ne = rw (upd-other (w .marks) i q j ne, markedOf)
+
+-- of the marks that are not the last
+module _ (n p i u : ℕ) (w : Open) (before : p < done) where
+  -- where it is applied it has the mark no more
+  pub applied-here : markedOf p i u (stillOpen n (mark w i done)) ≡ none
   applied-here =
-      still-cases (λ o. waitingOf i u o ≡ none) n (mark w i done) (λ e. refl)
-      (λ e. other-waits-not i u (mark w i done) (λ h. (let z = upd-same (w .marks) i done in omega (arith, h, z))))
+      still-cases (λ o. markedOf p i u o ≡ none) n (mark w i done) (λ e. refl) (λ e. marked-here p i u w done (λ h. omega (arith, before)))
 
-  -- elsewhere it waits as before: what closes was held nowhere
-  applied-there : Flat n (w .marks) → (j : ℕ) → j ≢ i → waitingOf j u (stillOpen n (mark w i done)) ≡ waitingOf j u (some w)
-  applied-there flat j ne =
-      still-cases (λ o. waitingOf j u o ≡ waitingOf j u (some w)) n (mark w i done)
-      (λ e. sym (other-waits-not j u w (λ h.
-      let d = everywhere-at n (mark w i done) e j (flat j (omega arith)) in
-      omega (arith, d, upd-other (w .marks) i done j ne))))
-      (λ e. marked-there i done u w j ne)
+  -- elsewhere all is as before: what closes had the mark nowhere
+  pub applied-there : (j : ℕ) → (w .marks j ≡ p → In n j) → j ≢ i → markedOf p j u (stillOpen n (mark w i done)) ≡ markedOf p j u (some w)
+  applied-there j inside ne =
+      still-cases (λ o. markedOf p j u o ≡ markedOf p j u (some w)) n (mark w i done)
+      (λ e. sym (marked-not p j u w (λ h.
+      let d = everywhere-at n (mark w i done) e j (inside h) in
+      omega (arith, before, d, upd-other (w .marks) i done j ne))))
+      (λ e. marked-there p i u w done j ne)
 
 -- no waiting thread is enabled where no held write is ready
 enabled-ready : (n : ℕ) (a : Vec) (u : ℕ) (w : Vec) → ((t : ℕ) → In n t → t ≢ u → w t ≤ a t) → suc (a u) ≡ w u → ready n a u w ≡ true
@@ -108,20 +115,24 @@ module _ (s : State) (i x : ℕ) where
 abbrev pub Waiting : Type 0
 Waiting = ℕ → ℕ → Option Message
 
--- what waits at i among the open writes
+-- what has the mark p at i among the open writes
+abbrev pub markedAt : ℕ → ℕ → (ℕ → ℕ → Option Open) → Waiting
+markedAt p i f u k = markedOf p i u (f u k)
+
+-- what waits at i
 abbrev pub waitingAt : ℕ → (ℕ → ℕ → Option Open) → Waiting
-waitingAt i f u k = waitingOf i u (f u k)
+waitingAt i f = markedAt held i f
 
-module _ (f : ℕ → ℕ → Option Open) (u k : ℕ) (o : Option Open) (j : ℕ) where
+module _ (p : ℕ) (f : ℕ → ℕ → Option Open) (u k : ℕ) (o : Option Open) (j : ℕ) where
   -- to nothing that matters at j
-  waiting-kept : waitingOf j u o ≡ waitingOf j u (f u k) → waitingAt j (upd2 f u k o) ≡ waitingAt j f
-  waiting-kept e =
-      fun-ext (λ v. fun-ext (λ l. upd2-all f u k o (λ v l o. waitingOf j v o ≡ waitingOf j v (f v l)) v l (λ p q. rw (p, q) e) (λ n. refl)))
+  pub marked-kept : markedOf p j u o ≡ markedOf p j u (f u k) → markedAt p j (upd2 f u k o) ≡ markedAt p j f
+  marked-kept e =
+      fun-ext (λ v. fun-ext (λ l. upd2-all f u k o (λ v l o. markedOf p j v o ≡ markedOf p j v (f v l)) v l (λ a b. rw (a, b) e) (λ n. refl)))
 
-  -- to what waits as m
-  waiting-set : (q : Waiting) (m : Option Message) → waitingOf j u o ≡ m → ((v l : ℕ) → (v ≡ u → l ≡ k → ⊥) → q v l ≡ waitingAt j f v l)
-      → upd2 q u k m ≡ waitingAt j (upd2 f u k o)
-  waiting-set q m e same =
+  -- to what has the mark as m
+  pub marked-set : (q : Waiting) (m : Option Message) → markedOf p j u o ≡ m → ((v l : ℕ) → (v ≡ u → l ≡ k → ⊥) → q v l ≡ markedAt p j f v l)
+      → upd2 q u k m ≡ markedAt p j (upd2 f u k o)
+  marked-set q m e same =
       sym (upd2-is q u k m _ (rw upd2-same e) (λ v l n. rw (upd2-other f u k o v l n) (sym (same v l n))))
 
 -- Hold: the receipt --
@@ -130,11 +141,11 @@ module _ (s : State) (i u k : ℕ) (w : Open) where
   pub receipt-here : w .vector u ≡ k → receipt u (messageOf u w) (desk s i) ≡ desk (hold s i u k w) i
   receipt-here e =
       process-is refl refl refl refl
-      (rw e (waiting-set (s .opens) u k (some (mark w i held)) i _ _ (held-waits i u (mark w i held) (upd-same (w .marks) i held)) (λ v l n. refl)))
+      (rw e (marked-set held (s .opens) u k (some (mark w i held)) i _ _ (marked-is held i u (mark w i held) (upd-same (w .marks) i held)) (λ v l n. refl)))
 
   pub hold-there : s .opens u k ≡ some w → (j : ℕ) → j ≢ i → desk (hold s i u k w) j ≡ desk s j
   hold-there e j ne =
-      process-is refl refl refl refl (waiting-kept (s .opens) u k (some (mark w i held)) j (marked-there i held u w j ne ∙ ap (waitingOf j u) (sym e)))
+      process-is refl refl refl refl (marked-kept held (s .opens) u k (some (mark w i held)) j (marked-there held i u w held j ne ∙ ap (waitingOf j u) (sym e)))
 
 -- Apply: lines 3, 4, 5 --
 
@@ -159,12 +170,12 @@ module _ (s : State) (i u k : ℕ) (w : Open) where
       → resume u (messageOf u w) (set-all q (desk s i)) ≡ desk (apply s i u k w) i
   resume-here q e same =
       process-is count-here refl (cell-here vectorOf) (cell-here valueOf)
-      (rw e (waiting-set (s .opens) u k _ i q none (applied-here (s .desks) i u w) same))
+      (rw e (marked-set held (s .opens) u k _ i q none (applied-here (s .desks) held i u w (omega arith)) same))
 
   pub apply-there : Flat (s .desks) (w .marks) → (j : ℕ) → j ≢ i → waitingOf j u (some w) ≡ waitingOf j u (s .opens u k) → desk (apply s i u k w) j ≡ desk s j
   apply-there flat j ne was =
       process-is (upd2-row (s .applied) i u _ j ne) refl (cell-there vectorOf j ne) (cell-there valueOf j ne)
-      (waiting-kept (s .opens) u k _ j (applied-there (s .desks) i u w flat j ne ∙ was))
+      (marked-kept held (s .opens) u k _ j (applied-there (s .desks) held i u w (omega arith) j (λ h. flat j (omega (arith, h))) ne ∙ was))
 
 -- Write --
 
@@ -173,7 +184,7 @@ module _ (s : State) (i x v : ℕ) (new : s .opens i (nextNumber s i) ≡ none) 
   write-here =
       process-is (count-here (raise s i) i i (nextNumber s i) (newWrite s i x v)) (sym (upd-same (s .clock) i _))
       (cell-here (raise s i) i i (nextNumber s i) (newWrite s i x v) vectorOf) (cell-here (raise s i) i i (nextNumber s i) (newWrite s i x v) valueOf)
-      (sym (waiting-kept (s .opens) i (nextNumber s i) _ i (applied-here (s .desks) i i (newWrite s i x v) ∙ ap (waitingOf i i) (sym new))))
+      (sym (marked-kept held (s .opens) i (nextNumber s i) _ i (applied-here (s .desks) held i i (newWrite s i x v) (omega arith) ∙ ap (waitingOf i i) (sym new))))
 
   pub write-there : (j : ℕ) → j ≢ i → desk (write s i x v) j ≡ desk s j
   write-there j ne =

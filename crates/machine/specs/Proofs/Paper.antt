@@ -16,7 +16,7 @@ use Rattle.machine.specs.Paper.{Value, Message, Process, READ, sent, ret
 use Rattle.machine.specs.Proofs.Kept.{Midway, ReadyAt, ready-next, apply-midway, first-due, step-keeps-rules}
 use Rattle.machine.specs.Proofs.Refusals.{not-refused, step-cases}
 use Rattle.machine.specs.Proofs.Cases.{Delivery, deliver-cases, still-cases, settle-keeps, reads-keep}
-use Rattle.machine.specs.Proofs.Desks.{Waiting, waitingAt, set-all, held-waits, everywhere-at, quiet-idle, read-here, read-there, receipt-here, hold-there, resume-here, apply-there, write-here, write-there}
+use Rattle.machine.specs.Proofs.Desks.{Waiting, waitingAt, set-all, marked-is, everywhere-at, quiet-idle, read-here, read-there, receipt-here, hold-there, resume-here, apply-there, write-here, write-there}
 
 -- a waiting message that is ready goes on, whatever else waits
 thread : {s : State} {i u k : ℕ} {w : Open} → Frame s → ReadyAt s i u k w → (q : Waiting)
@@ -33,10 +33,10 @@ reads-as : (s : State) (i x : ℕ) → Does (s .desks) i (desk s i) (a-read x) (
 reads-as s i x = subst (λ (p : Process). Does (s .desks) i (desk s i) (a-read x) p) (read-here s i x) does-read
 
 -- from s to s′: actions at i, nothing elsewhere
-record Moves (s : State) (i : ℕ) (l : List Action) (s′ : State) : Type 0 where
-  desks : s′ .desks ≡ s .desks
-  runs : Runs (s .desks) i (desk s i) l (desk s′ i)
-  others : (j : ℕ) → j ≢ i → desk s′ j ≡ desk s j
+pub record Moves (s : State) (i : ℕ) (l : List Action) (s′ : State) : Type 0 where
+  pub desks : s′ .desks ≡ s .desks
+  pub runs : Runs (s .desks) i (desk s i) l (desk s′ i)
+  pub others : (j : ℕ) → j ≢ i → desk s′ j ≡ desk s j
 
 -- one application, then the rest
 apply-then : {s : State} {i u k : ℕ} {w : Open} {l : List Action} {s′ : State} → Frame s → ReadyAt s i u k w → w .marks i ≡ held
@@ -44,17 +44,17 @@ apply-then : {s : State} {i u k : ℕ} {w : Open} {l : List Action} {s′ : Stat
 apply-then {s} {i} {u} {k} {w} f r h m =
     record {
       desks = m .desks;
-      runs = then (thread f r (waitingAt i (s .opens)) (λ v l n. refl) (ap (waitingOf i u) (r .is) ∙ held-waits i u w h)) (m .runs);
+      runs = then (thread f r (waitingAt i (s .opens)) (λ v l n. refl) (ap (waitingOf i u) (r .is) ∙ marked-is held i u w h)) (m .runs);
       others = λ j ne. m .others j ne ∙ apply-there s i u k w (f .open-write u k w (r .is) .marks-flat) j ne (ap (waitingOf j u) (sym (r .is)));
     }
 
 stays : {s : State} {i : ℕ} → Moves s i [] s
 stays = record { desks = refl; runs = ends; others = λ j ne. refl }
 
-abbrev Cascades : State → ℕ → Settled → Type 0
+abbrev pub Cascades : State → ℕ → Settled → Type 0
 Cascades s i r = Moves s i (map a-thread (r .names)) (r .state)
 
-cascade : (f : ℕ) {s : State} {i : ℕ} → Midway s i → In (s .desks) i → Cascades s i (settle f s i)
+pub cascade : (f : ℕ) {s : State} {i : ℕ} → Midway s i → In (s .desks) i → Cascades s i (settle f s i)
 unfolding settle
 cascade zero m hi = stays
 cascade (suc f) {s} {i} m hi = by (λ s m hi. cascade f m hi) (firstDue s i) refl
@@ -68,9 +68,12 @@ cascade (suc f) {s} {i} m hi = by (λ s m hi. cascade f m hi) (firstDue s i) ref
         subst (λ (o : Option Open). Cascades s i (applyNext (λ s′. settle f s′ i) s i u o)) (sym (d .at .is))
         (apply-then (m .frame) (d .at) (d .is-held) (again (apply s i u k (d .entry)) (apply-midway m (d .at)) hi))
 
--- Trip --
+-- Read and trip --
 
-trip-reads : (i : ℕ) (xs : List ℕ) (s : State) → Moves s i (map a-read xs) (reads s i xs .state)
+pub read-moves : (s : State) (i x : ℕ) → Moves s i (a-read x ∷ []) (read s i x)
+read-moves s i x = record { desks = refl; runs = then (reads-as s i x) ends; others = read-there s i x }
+
+pub trip-reads : (i : ℕ) (xs : List ℕ) (s : State) → Moves s i (map a-read xs) (reads s i xs .state)
 unfolding reads
 trip-reads i [] s = stays
 trip-reads i (x ∷ xs) s =
@@ -84,7 +87,7 @@ trip-reads i (x ∷ xs) s =
 -- The steps --
 
 -- the next number of i is not open yet
-new-number : {s : State} (i : ℕ) → Frame s → s .opens i (nextNumber s i) ≡ none
+pub new-number : {s : State} (i : ℕ) → Frame s → s .opens i (nextNumber s i) ≡ none
 new-number {s} i f = by (s .opens i (nextNumber s i)) refl
   where
     by : (o : Option Open) → s .opens i (nextNumber s i) ≡ o → s .opens i (nextNumber s i) ≡ none
@@ -107,7 +110,7 @@ abbrev IsRun : State → Step → Out → Type 0
 IsRun s a o = Accepted (o .answer) → Moves s (actor a) (actionsOf s a (o .answer)) (o .state)
 
 module _ {s : State} (r : Rules s) where
-  write-moves : (i x v : ℕ) → Moves s i (a-write x (record { status = v; writer = i }) ∷ []) (write s i x v)
+  pub write-moves : (i x v : ℕ) → Moves s i (a-write x (record { status = v; writer = i }) ∷ []) (write s i x v)
   write-moves i x v =
       let new = new-number i (r .frame) in
       record {
@@ -120,7 +123,7 @@ module _ {s : State} (r : Rules s) where
     of-open : {l : List Action} {s′ : State} → Moves s i (a-receipt u (messageOf u w) ∷ l) s′ → Moves s i (receiptOf u (s .opens u k) l) s′
     of-open {l} {s′} m = subst (λ (o : Option Open). Moves s i (receiptOf u o l) s′) (sym (d .is)) m
 
-    hold-moves : Moves s i (a-receipt u (messageOf u w) ∷ []) (hold s i u k w)
+    pub hold-moves : Moves s i (a-receipt u (messageOf u w) ∷ []) (hold s i u k w)
     hold-moves =
         record {
           desks = refl;
@@ -128,7 +131,7 @@ module _ {s : State} (r : Rules s) where
           others = hold-there s i u k w (d .is);
         }
 
-    apply-moves : failing (s .desks) (s .applied i) u (w .vector) ≡ none
+    pub apply-moves : failing (s .desks) (s .applied i) u (w .vector) ≡ none
         → Moves s i (a-receipt u (messageOf u w) ∷ a-thread (name u k) ∷ map a-thread (settle most-open (apply s i u k w) i .names)) (settle most-open (apply s i u k w) i .state)
     apply-moves e =
         let o = r .frame .open-write u k w (d .is) in
@@ -149,7 +152,7 @@ module _ {s : State} (r : Rules s) where
   moves : (a : Step) → IsRun s a (step s a)
   moves (Read i x) =
       step-cases s (Read i x) (IsRun s (Read i x)) (λ r a. absurd (a r refl))
-      (λ h a. record { desks = refl; runs = then (reads-as s i x) ends; others = read-there s i x })
+      (λ h a. read-moves s i x)
   moves (Write i x v) = step-cases s (Write i x v) (IsRun s (Write i x v)) (λ r a. absurd (a r refl)) (λ h a. write-moves i x v)
   moves (Deliver i u k) =
       deliver-cases s i u k (IsRun s (Deliver i u k)) (λ r a. absurd (a r refl)) (λ w d t e a. of-open d (hold-moves d)) (λ w d e a. of-open d (apply-moves d e))
@@ -160,7 +163,7 @@ paper-run r a ok = paper-run-of (step-keeps-rules r a) (moves r a ok)
 
 -- Messages --
 
-none-some : {A R : Type 0} {a : A} → none ≡ some a → R
+pub none-some : {A R : Type 0} {a : A} → none ≡ some a → R
 none-some e = absurd (let z : _≡_ {A = ℕ} 0 1 = cc in omega arith)
 
 keeps-self : (u : ℕ) (o : Option Open) → KeepsMessage u o o

@@ -1,0 +1,77 @@
+-- Document 01, "At each edge" and "Numbers of refusal", computed. Limits and numbers stand here as the document writes them, so that
+-- the definitions are held to them.
+use mathlib.Core.Path.{_≡_, refl}
+use mathlib.Core.List.{List, [], _∷_, map}
+use mathlib.Core.Option.{none}
+use Prim.Native.Nat.{ℕ}
+use lib.ListN.{replicate}
+use Rattle.laws.specs.Loop.{turns, scan}
+use Rattle.laws.specs.All.{all}
+use Rattle.laws.specs.Update.{upd, upd2}
+use Rattle.laws.specs.Sum.{sum}
+use Rattle.laws.specs.Lists.{any, every}
+use Rattle.machine.specs.Table.{name, blank, State, fresh}
+use Rattle.machine.specs.Answer.{no-step, damaged, broken, short, numberOf, Yes, Answer, began, shows, wrote, holds, applies, judged, refused}
+use Rattle.machine.specs.Steps.{Step, Read, Write, Deliver, Trip, begin, step, answers, failing, everywhere, openCount, firstDue, settle, reads, verdict}
+use Rattle.machine.specs.History.{take-step, run}
+
+-- an answer, or a refusal's number
+pub data Reply : Type 0 where
+  given : Answer → Reply
+  E : ℕ → Reply
+
+abbrev pub replyOf : Answer → Reply
+replyOf began = given began
+replyOf (shows v) = given (shows v)
+replyOf (wrote w) = given (wrote w)
+replyOf (holds t) = given (holds t)
+replyOf (applies l) = given (applies l)
+replyOf (judged v) = given (judged v)
+replyOf (refused r) = E (numberOf r)
+
+abbrev pub replies : State → List Step → List Reply
+replies s l = map replyOf (answers s l)
+
+-- "n 8 and 9, m 64 and 65"
+pub edge-of-n-and-m : map (λ (b : ℕ × ℕ). replyOf (begin (b .0) (b .1) .answer)) ((1, 1) ∷ (8, 64) ∷ (0, 1) ∷ (9, 1) ∷ (1, 0) ∷ (1, 65) ∷ [])
+    ≡ given began ∷ given began ∷ E 11 ∷ E 11 ∷ E 11 ∷ E 11 ∷ []
+unfolding begin
+edge-of-n-and-m = refl
+
+-- "status 2 and 3"
+pub edge-of-status : replies (fresh 1 1) (Write 1 1 2 ∷ Write 1 1 3 ∷ []) ≡ given (wrote (name 1 1)) ∷ E 3 ∷ []
+unfolding all upd upd2 sum step answers everywhere openCount
+edge-of-status = refl
+
+-- "trip 16 and 17"
+pub edge-of-trip : replies (fresh 1 1) (Write 1 1 1 ∷ Trip 1 (replicate 16 1) ∷ Trip 1 (replicate 17 1) ∷ Trip 1 [] ∷ [])
+    ≡ given (wrote (name 1 1)) ∷ given (judged Yes) ∷ E 9 ∷ E 9 ∷ []
+unfolding all upd upd2 sum step answers everywhere openCount reads any every verdict
+edge-of-trip = refl
+
+-- a table of one desk that has written k times
+abbrev pub writtenTimes : ℕ → State
+writtenTimes k = record { desks = 1; cells = 1; applied = λ i u. k; clock = λ i u. k; cell = λ i x. blank; opens = λ u k. none }
+
+-- "write 65,535 and the next"
+pub edge-of-writes : replies (writtenTimes 65534) (Write 1 1 0 ∷ Write 1 1 0 ∷ []) ≡ given (wrote (name 1 65535)) ∷ E 4 ∷ []
+unfolding all upd upd2 sum step answers everywhere openCount
+edge-of-writes = refl
+
+-- "With n = 2, 64 undelivered writes, then 5; one delivered and applied, then accepted."
+pub edge-of-open : replies (run (λ s. s) (fresh 2 1) (map take-step (replicate 63 (Write 1 1 0)))) (
+    Write 1 1 0 ∷ Write 1 1 0 ∷ Write 2 1 0 ∷ Deliver 2 1 1 ∷ Write 2 1 0 ∷ Write 1 1 0 ∷ [])
+    ≡ given (wrote (name 1 64)) ∷ E 5 ∷ E 5 ∷ given (applies (name 1 1 ∷ [])) ∷ given (wrote (name 2 1)) ∷ E 5 ∷ []
+unfolding turns scan all upd upd2 sum step answers run failing everywhere openCount firstDue settle
+edge-of-open = refl
+
+-- 1, 2, 6, 7 and 8, each where it is met
+pub numbers-of-steps : replies (fresh 2 1) (
+    Read 0 1 ∷ Read 3 1 ∷ Read 1 0 ∷ Read 1 2 ∷ Deliver 1 1 1 ∷ Deliver 2 1 1 ∷ Write 1 1 0 ∷ Deliver 2 1 0 ∷ Deliver 2 1 1 ∷ Deliver 2 1 1 ∷ [])
+    ≡ E 1 ∷ E 1 ∷ E 2 ∷ E 2 ∷ E 6 ∷ E 7 ∷ given (wrote (name 1 1)) ∷ E 7 ∷ given (applies (name 1 1 ∷ [])) ∷ E 8 ∷ []
+unfolding turns scan all upd upd2 sum step answers failing everywhere openCount firstDue settle
+numbers-of-steps = refl
+
+-- those of the text, the image and the buffer
+pub numbers-elsewhere : map numberOf (no-step ∷ damaged ∷ broken ∷ short ∷ []) ≡ 10 ∷ 12 ∷ 13 ∷ 14 ∷ []
+numbers-elsewhere = refl
