@@ -6,6 +6,7 @@ pub mod Cascade
 pub mod Kept
 pub mod Refusals
 pub mod Cases
+pub mod HeldCount
 pub mod Blanks
 pub mod Desks
 pub mod Paper
