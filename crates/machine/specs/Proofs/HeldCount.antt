@@ -141,13 +141,13 @@ read-held s i x = refl
 reads-held : (s : State) (i : ℕ) (xs : List ℕ) → heldCount (reads s i xs .state) ≡ heldCount s
 reads-held s i xs = reads-keep (λ t. heldCount t ≡ heldCount s) i (λ t x e. read-held t i x ∙ e) xs s refl
 
--- u.k was accepted
-abbrev pub Accepted : State → Name → Type 0
-Accepted s w = In (s .desks) (w .writer) × In (written s (w .writer)) (w .number)
+-- u.k was written
+abbrev pub Made : State → Name → Type 0
+Made s w = In (s .desks) (w .writer) × In (written s (w .writer)) (w .number)
 
 -- the cascade: each name is that of a write that was held
 record Freed (s : State) (r : Settled) : Type 0 where
-  names : Each (Accepted s) (r .names)
+  names : Each (Made s) (r .names)
   count : heldCount s ≡ length (r .names) + heldCount (r .state)
 
 settle-held : (f : ℕ) {s : State} {i : ℕ} → Midway s i → In (s .desks) i → Freed s (settle f s i)
@@ -172,10 +172,10 @@ settle-held (suc f) {s} {i} m hi = go (λ s′ m′ h′. settle-held f {s = s�
 abbrev pub Counted : State → Answer → State → Type 0
 Counted s began s′ = heldCount s′ ≡ heldCount s
 Counted s (shows unset) s′ = heldCount s′ ≡ heldCount s
-Counted s (shows (shown v u k)) s′ = (v ≤ most-status) × (Accepted s (name u k) × (heldCount s′ ≡ heldCount s))
-Counted s (wrote w) s′ = Accepted s′ w × (heldCount s′ ≡ heldCount s)
+Counted s (shows (shown v u k)) s′ = (v ≤ most-status) × (Made s (name u k) × (heldCount s′ ≡ heldCount s))
+Counted s (wrote w) s′ = Made s′ w × (heldCount s′ ≡ heldCount s)
 Counted s (holds t) s′ = In (s .desks) t × (heldCount s′ ≡ suc (heldCount s))
-Counted s (applies l) s′ = Each (Accepted s) l × (heldCount s′ + length l ≡ suc (heldCount s))
+Counted s (applies l) s′ = Each (Made s) l × (heldCount s′ + length l ≡ suc (heldCount s))
 Counted s (judged v) s′ = heldCount s′ ≡ heldCount s
 Counted s (refused r) s′ = heldCount s′ ≡ heldCount s
 
