@@ -17,7 +17,7 @@ use Rattle.machine.specs.Table.{most-desks, most-open, Name, State}
 use Rattle.machine.specs.Answer.{Answer, began, shows, wrote, holds, applies, judged, refused, unset, shown, Yes, No, Unknown, Refusal, numberOf, no-desk, no-cell, no-status, spent, full, own-write, no-write, received, trip-size, no-step, no-size, damaged, broken, short}
 use Rattle.machine.specs.Rules.{Frame, Rules}
 use Rattle.machine.specs.Steps.{step}
-use Rattle.machine.specs.Proofs.Kept.{fresh-rules, step-keeps-rules}
+use Rattle.machine.specs.Proofs.Kept.{step-keeps-rules}
 use Rattle.machine.specs.Proofs.Refusals.{begin-cases}
 use Rattle.machine.specs.Proofs.HeldCount.{heldCount, held-few, fresh-held, Made, Counted, step-counted}
 use Rattle.schedule.specs.Grammar.{Line, begin-line, step-line, lineOf}
@@ -25,8 +25,9 @@ use Rattle.schedule.specs.Lines.{LF}
 use Rattle.schedule.specs.Facts.{step-bytes}
 use Rattle.answer.specs.Bytes.{nameBytes, namesBytes, answerLine}
 use Rattle.answer.specs.Names.{name-length, shown-length}
-use Rattle.session.specs.Session.{Session, Turn, turn, begun, lineAnswer}
+use Rattle.session.specs.Session.{Session, Turn, turn, begun}
 use Rattle.session.specs.Transcript.{TextLine, textLine, onto, linesOf, answersOf, sessionOf, printed, transcriptFrom, most-text, transcript}
+use Rattle.session.specs.Kept.{Kept, turn-kept}
 use Rattle.session.specs.Bounds.{decimal-short, number-short}
 
 -- the bytes of answers for each byte of text
@@ -41,11 +42,6 @@ each-name = 9
 abbrev pub heldIn : Session → ℕ
 heldIn none = 0
 heldIn (some s) = heldCount s
-
--- no table, or one that keeps the rules
-abbrev pub Keeps : Session → Type 0
-Keeps none = Unit {0}
-Keeps (some s) = Rules s
 
 -- the lines of a text --
 
@@ -126,45 +122,51 @@ step-bound {s} {s′} r r′ (judged Unknown) c = omega arith
 step-bound {s} {s′} r r′ (refused e) c = omega (arith, refused-bytes e)
 
 -- a line of n bytes with its LF
-record Within (n : ℕ) (z : Session) (t : Turn) : Type 0 where
-  keeps : Keeps (t .session)
-  bytes : length (answerLine (t .answer)) + each-name * heldIn (t .session) ≤ each-byte * n + each-name * heldIn z
+abbrev Within : ℕ → Session → Turn → Type 0
+Within n z t = length (answerLine (t .answer)) + each-name * heldIn (t .session) ≤ each-byte * n + each-name * heldIn z
 
-no-step-within : (n : ℕ) (z : Session) → Keeps z → 1 ≤ n → Within n z (record { answer = refused no-step; session = z })
-no-step-within n z k h = record { keeps = k; bytes = omega (arith, refused-bytes no-step) }
+refused-within : (n : ℕ) (z : Session) (r : Refusal) → 1 ≤ n → Within n z (record { answer = refused r; session = z })
+refused-within n z r h = omega (arith, refused-bytes r)
 
-turn-within : (n : ℕ) (z : Session) (o : Option Line) → Keeps z → 1 ≤ n → ((x : Line) → o ≡ some x → 4 ≤ n) → Within n z (turn z o)
-turn-within n z none k h g = no-step-within n z k h
+turn-within : (n : ℕ) (z : Session) (o : Option Line) → Kept z → 1 ≤ n → ((x : Line) → o ≡ some x → 4 ≤ n) → Within n z (turn z o)
+turn-within n z none k h g = refused-within n z no-step h
 turn-within n none (some (begin-line d m)) k h g =
-    begin-cases (λ b. Within n none (begun b))
-    (λ hd hm. record { keeps = fresh-rules d m hd hm; bytes = omega (arith, fresh-held d m) })
-    (λ _. record { keeps = tt; bytes = omega (arith, refused-bytes no-size) })
-turn-within n none (some (step-line a)) k h g = no-step-within n none k h
-turn-within n (some s) (some (begin-line d m)) k h g = no-step-within n (some s) k h
+    begin-cases (λ b. Within n none (begun b)) (λ _ _. omega (arith, fresh-held d m)) (λ _. refused-within n none no-size h)
+turn-within n none (some (step-line a)) k h g = refused-within n none no-step h
+turn-within n (some s) (some (begin-line d m)) k h g = refused-within n (some s) no-step h
 turn-within n (some s) (some (step-line a)) k h g =
-    let r = step-keeps-rules k a in
-    record { keeps = r; bytes = omega (arith, g (step-line a) refl, step-bound k r (step s a .answer) (step-counted k a)) }
+    omega (arith, g (step-line a) refl, step-bound k (step-keeps-rules k a) (step s a .answer) (step-counted k a))
 
-line-within : (l : TextLine) (z : Session) → Keeps z → 1 ≤ lineBytes l → Within (lineBytes l) z (lineAnswer z (l .bytes) (l .ended))
-line-within l z k h = turn-within (lineBytes l) z (pick (l .ended) (lineOf (l .bytes)) none) k h (go (l .ended))
+-- what a line says; nothing where no LF ended it
+said : TextLine → Option Line
+said l = pick (l .ended) (lineOf (l .bytes)) none
+
+said-bytes : (l : TextLine) (x : Line) → said l ≡ some x → 4 ≤ lineBytes l
+unfolding said
+said-bytes l x = go (l .ended)
   where
-    go : (b : Bool) (x : Line) → pick b (lineOf (l .bytes)) none ≡ some x → 4 ≤ length (l .bytes) + one b
-    go true x e = omega (arith, step-bytes (l .bytes) x e)
-    go false x e = absurd (let y : _≡_ {A = ℕ} 0 1 = cc in omega arith)
+    go : (b : Bool) → pick b (lineOf (l .bytes)) none ≡ some x → 4 ≤ length (l .bytes) + one b
+    go true e = omega (arith, step-bytes (l .bytes) x e)
+    go false e = absurd (let y : _≡_ {A = ℕ} 0 1 = cc in omega arith)
 
 -- all lines --
 
-lines-within : (ls : List TextLine) (z : Session) → Keeps z → Each (λ l. 1 ≤ lineBytes l) ls
+lines-within : (ls : List TextLine) (z : Session) → Kept z → Each (λ l. 1 ≤ lineBytes l) ls
     → length (printed (answersOf z ls)) + each-name * heldIn (sessionOf z ls) ≤ each-byte * allBytes ls + each-name * heldIn z
-unfolding printed answersOf sessionOf allBytes
+unfolding printed answersOf sessionOf allBytes said
 lines-within ls z k no = omega arith
 lines-within ls z k (and {x = l} {l = more} h e) =
-    let t = lineAnswer z (l .bytes) (l .ended) in
-    let w = line-within l z k h in
-    omega (arith, w .bytes, lines-within more (t .session) (w .keeps) e, length-append (answerLine (t .answer)) (printed (answersOf (t .session) more)))
+    let t = turn z (said l) in (
+    omega (
+      arith,
+      turn-within (lineBytes l) z (said l) k h (said-bytes l),
+      lines-within more (t .session) (turn-kept z (said l) k) e,
+      length-append (answerLine (t .answer)) (printed (answersOf (t .session) more)),
+    )
+    )
 
 -- from a place on, where the lines before it left the session z
-pub answers-bound : (z : Session) → Keeps z → (text : List ℕ) (at : ℕ)
+pub answers-bound : (z : Session) → Kept z → (text : List ℕ) (at : ℕ)
     → length (transcriptFrom z text at) ≤ each-byte * (length text - at) + each-name * heldIn z
 unfolding transcriptFrom
 answers-bound z k text at =
@@ -174,11 +176,11 @@ answers-bound z k text at =
 abbrev pub answersBound : ℕ → ℕ
 answersBound n = each-byte * n + each-name * ((most-desks - 1) * most-open)
 
-held-bound : (z : Session) → Keeps z → heldIn z ≤ (most-desks - 1) * most-open
+held-bound : (z : Session) → Kept z → heldIn z ≤ (most-desks - 1) * most-open
 held-bound none k = omega arith
 held-bound (some s) k = held-few (k .frame)
 
-pub answers-fit : (z : Session) → Keeps z → (text : List ℕ) → length (transcriptFrom z text 0) ≤ answersBound (length text)
+pub answers-fit : (z : Session) → Kept z → (text : List ℕ) → length (transcriptFrom z text 0) ≤ answersBound (length text)
 answers-fit z k text = omega (arith, answers-bound z k text 0, held-bound z k)
 
 -- the whole: a text that is too long is answered in one line
