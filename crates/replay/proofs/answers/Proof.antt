@@ -1,7 +1,5 @@
-use native.Mathlib.Omega.{arith}
 use mathlib.Core.Path.{sym}
 use Rattle.session.specs.Laws.{transcript-run, transcript-long}
-use Rattle.session.specs.AnswersBound.{transcript-bound}
 use Rattle.replay.specs.Answers.{answered}
 use borrow.Author.Needs.{needs}
 use Rattle.replay.proofs.answers.Statement.{statement}
