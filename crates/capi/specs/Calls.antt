@@ -8,7 +8,7 @@ use Rattle.session.specs.Session.{Session}
 use Rattle.session.specs.Transcript.{TextLine, linesOf, answersOf, sessionOf, printed, transcriptFrom, sessionFrom}
 use Rattle.image.specs.Encode.{encode}
 use Rattle.capi.specs.Access.{begin, imageOf, startOf, accessRun}
-use Rattle.capi.specs.Kept.{lines-kept}
+use Rattle.session.specs.Kept.{lines-kept}
 use Rattle.capi.specs.CutLaws.{session-append, bytes-append}
 use Rattle.capi.specs.Wrote.{answersIn, imageIn, wrote}
 use Rattle.capi.specs.Split.{start-image}

@@ -5,7 +5,6 @@ pub mod LinesLaws
 pub mod RunLaws
 pub mod StartLaws
 pub mod CutLaws
-pub mod Kept
 pub mod Wrote
 pub mod Split
 pub mod Demand

@@ -11,7 +11,7 @@ use Rattle.image.specs.Load.{load-encode}
 use Rattle.session.specs.Session.{Session}
 use Rattle.session.specs.Transcript.{linesOf, transcriptFrom, sessionFrom}
 use Rattle.capi.specs.Access.{begin, started, imageOf, startOf, accessRun}
-use Rattle.capi.specs.Kept.{Kept, session-kept}
+use Rattle.session.specs.Kept.{Kept, session-kept}
 use Rattle.capi.specs.CutLaws.{lines-cut, session-append, bytes-append}
 use Rattle.capi.specs.StartLaws.{start-load}
 use Rattle.capi.specs.Wrote.{answersIn, imageIn, began, wrote}

@@ -12,7 +12,7 @@ use Rattle.load.specs.Loading.{saved-part}
 use Rattle.session.specs.Session.{Session}
 use Rattle.session.specs.Transcript.{transcriptFrom, sessionFrom}
 use Rattle.capi.specs.Access.{Left, imageOf, begin, started, startOf, fits, runFrom, accessRun}
-use Rattle.capi.specs.Kept.{Kept}
+use Rattle.session.specs.Kept.{Kept}
 use Rattle.capi.specs.RunLaws.{Room, says-fits}
 
 -- "`lengths` holds the bytes written to each"

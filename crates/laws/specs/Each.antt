@@ -68,3 +68,8 @@ pub getD-map-in : {A B : Type 0} (f : A → B) (l : List A) (p : ℕ) (d : A) (e
 getD-map-in f [] p d e h = absurd (omega arith)
 getD-map-in f (x ∷ l) zero d e h = refl
 getD-map-in f (x ∷ l) (suc p) d e h = getD-map-in f l p d e (omega arith)
+
+-- what follows of each
+pub each-then : {A : Type 0} {P Q : A → Type 0} → ((x : A) → P x → Q x) → {l : List A} → Each P l → Each Q l
+each-then h no = no
+each-then h (and {x = a} p e) = and (h a p) (each-then h e)

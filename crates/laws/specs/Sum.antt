@@ -1,5 +1,5 @@
 -- Sums f 1 + .. + f n, and how many of 1 .. n pass a test.
-use Prim.Native.Nat.{ℕ, zero, suc, _+_, _-_, _<_, _≤_}
+use Prim.Native.Nat.{ℕ, zero, suc, _+_, _-_, _*_, _<_, _≤_}
 use mathlib.Core.Path.{_≡_, refl, sym, ap, _∙_}
 use mathlib.Core.Bool.{Bool, true, false}
 use native.Mathlib.Omega.{arith}
@@ -43,17 +43,20 @@ sum-at (suc n) f u a b =
     below : (u n : ℕ) → u ≤ suc n → (u ≡ suc n → ⊥) → u ≤ n
     below u n b e = omega arith
 
--- one term rises by one, and no other changes
-pub sum-one : (n : ℕ) (f g : ℕ → ℕ) (a : ℕ) → 1 ≤ a → a ≤ n → g a ≡ suc (f a) → ((j : ℕ) → (j ≡ a → ⊥) → g j ≡ f j) → sum n g ≡ suc (sum n f)
+-- one term has d more, and no other changes
+pub sum-more : (n : ℕ) (f g : ℕ → ℕ) (a d : ℕ) → 1 ≤ a → a ≤ n → g a ≡ d + f a → ((j : ℕ) → (j ≡ a → ⊥) → g j ≡ f j) → sum n g ≡ d + sum n f
 unfolding sum
-sum-one zero f g a h l e o = absurd (omega arith)
-sum-one (suc n) f g a h l e o =
+sum-more zero f g a d h l e o = absurd (omega arith)
+sum-more (suc n) f g a d h l e o =
     same-or (suc n) a
-    (λ p. let e2 : g (suc n) ≡ suc (f (suc n)) = rw p e in omega (arith, sum-same n f g (λ j x y. o j (λ r. (omega arith)))))
-    (λ p. omega (arith, o (suc n) p, sum-one n f g a h (below a n l p) e o))
+    (λ p. let e2 : g (suc n) ≡ d + f (suc n) = rw p e in omega (arith, sum-same n f g (λ j x y. o j (λ r. (omega arith)))))
+    (λ p. omega (arith, o (suc n) p, sum-more n f g a d h (below a n l p) e o))
   where
     below : (a n : ℕ) → a ≤ suc n → (suc n ≡ a → ⊥) → a ≤ n
     below a n b e = omega arith
+
+pub sum-one : (n : ℕ) (f g : ℕ → ℕ) (a : ℕ) → 1 ≤ a → a ≤ n → g a ≡ suc (f a) → ((j : ℕ) → (j ≡ a → ⊥) → g j ≡ f j) → sum n g ≡ suc (sum n f)
+sum-one n f g a h l e o = omega (arith, sum-more n f g a 1 h l (omega arith) o)
 
 -- one term rises by at most one, and no other does
 pub sum-one-le : (n : ℕ) (f g : ℕ → ℕ) (a : ℕ) → g a ≤ suc (f a) → ((j : ℕ) → (j ≡ a → ⊥) → g j ≤ f j) → sum n g ≤ suc (sum n f)
@@ -76,3 +79,26 @@ tally-above (suc n) a p h =
   where
     low : n - a ≤ tally n p → p (suc n) ≡ false → suc n - a ≤ 0 + tally n p
     low ih e = same-or (suc n - a) 0 (λ z. omega arith) (λ z. absurd (let q = h (suc n) (omega arith) (omega arith) in let w : true ≡ false = sym q ∙ e in let c : _≡_ {A = ℕ} 0 1 = cc in omega arith))
+
+-- the numbers that pass, of those where one does not
+tally-le : (n : ℕ) (p : ℕ → Bool) → tally n p ≤ n
+unfolding sum
+tally-le zero p = omega arith
+tally-le (suc n) p = let ih = tally-le n p in cases (p (suc n)) (λ e. rw e (omega arith)) (λ e. rw e (omega arith))
+
+pub tally-miss : (n : ℕ) (p : ℕ → Bool) (u : ℕ) → 1 ≤ u → u ≤ n → p u ≡ false → tally n p < n
+unfolding sum
+tally-miss zero p u a b e = absurd (omega arith)
+tally-miss (suc n) p u a b e =
+    same-or u (suc n)
+    (λ q. let h : p (suc n) ≡ false = rw q at e in let i = tally-le n p in rw h (omega arith))
+    (λ q. let ih = tally-miss n p u a (omega (arith, q)) e in cases (p (suc n)) (λ t. rw t (omega arith)) (λ t. rw t (omega arith)))
+
+-- none passes
+pub tally-none : (n : ℕ) (p : ℕ → Bool) → ((k : ℕ) → p k ≡ false) → tally n p ≡ 0
+tally-none n p h = sum-same n (λ j. 0) (λ j. one (p j)) (λ j _ _. rw (h j)) ∙ sum-zero n
+
+pub sum-times : (n c : ℕ) (f : ℕ → ℕ) → sum n (λ j. c * f j) ≡ c * sum n f
+unfolding sum
+sum-times zero c f = omega arith
+sum-times (suc n) c f = omega (arith, sum-times n c f)

@@ -7,6 +7,7 @@ pub mod Kept
 pub mod Refusals
 pub mod Alone
 pub mod Cases
+pub mod HeldCount
 pub mod Blanks
 pub mod Desks
 pub mod Paper

@@ -124,6 +124,17 @@ cells-there s l h =
     let f : 0 + length xs ≤ length l = omega (arith, few-cells s) in
     rw (sets-eq xs l 0 f) (take-at xs (drop (0 + length xs) l) (length xs) refl)
 
+-- a letter, a space and a digit at least
+pub step-bytes : (s : List ℕ) (x : Line) → lineOf s ≡ some x → 3 ≤ length s
+step-bytes s x =
+    line-all s (λ o. o ≡ some x → 3 ≤ length s) no-line
+    (λ c l h e. let k : 2 * length l ≤ length s - 1 = rw length-drop at (rw e at (rest-count (drop 1 s))) in
+    form-all (λ l o. 2 * length l ≤ length s - 1 → o ≡ some x → 3 ≤ length s) (λ l g. no-line)
+    (λ n m g q. omega arith) (λ i x g q. omega arith) (λ i x v g q. omega arith) (λ i u k g q. omega arith) (λ i xs g q. omega arith) c l k)
+  where
+    no-line : none ≡ some x → 3 ≤ length s
+    no-line q = absurd (let z : _≡_ {A = ℕ} 0 1 = cc in omega arith)
+
 -- no number above 65,535 --
 
 abbrev Small : List ℕ → Type 0

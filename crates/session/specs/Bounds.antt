@@ -109,7 +109,7 @@ one-for-one s h = rw (transcript-run s h) (printed-lfs none (linesOf s) ∙ line
 -- how long an output line is --
 
 -- w + 1 digits at most
-decimal-short : (w n : ℕ) → n < 10 ^ suc w → length (decimal n) ≤ suc w
+pub decimal-short : (w n : ℕ) → n < 10 ^ suc w → length (decimal n) ≤ suc w
 decimal-short zero n h = rw (decimal-one n h) (omega arith)
 decimal-short (suc w) n h =
     let q : 10 ^ suc (suc w) ≡ 10 ^ suc w * 10 = pow-suc 10 (suc w) in
@@ -117,7 +117,7 @@ decimal-short (suc w) n h =
     (λ e. rw (decimal-one n (ltb-true n 10 e)) (omega arith))
     (λ e. let g : 10 ≤ n = ltb-false n 10 e in rw (decimal-longer n g) (omega (arith, decimal-short w (n / 10) (omega arith))))
 
-number-short : (n : ℕ) → n ≤ most-writes → length (decimal n) ≤ 5
+pub number-short : (n : ℕ) → n ≤ most-writes → length (decimal n) ≤ 5
 number-short n h = decimal-short 4 n (omega arith)
 
 -- each number of the answer is at most most-writes, and it has at most most-open names

@@ -2,6 +2,8 @@ pub mod Session
 pub mod Transcript
 pub mod Laws
 pub mod Bounds
+pub mod Kept
+pub mod AnswersBound
 pub mod Examples
 pub mod Line
 pub mod Holds

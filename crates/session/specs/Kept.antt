@@ -3,27 +3,24 @@ use mathlib.Core.List.{List, [], _∷_}
 use mathlib.Core.Option.{Option, none, some}
 use Prim.Native.Nat.{ℕ}
 use lib.ListN.{drop}
-use Rattle.laws.specs.Loop.{pick, cases}
+use Rattle.laws.specs.Loop.{pick}
 use Rattle.machine.specs.Rules.{Rules}
-use Rattle.machine.specs.Steps.{begins, begin}
+use Rattle.machine.specs.Steps.{begin}
 use Rattle.machine.specs.Proofs.Kept.{fresh-rules, step-keeps-rules}
-use Rattle.rules.specs.Parts.{says-begins}
+use Rattle.machine.specs.Proofs.Refusals.{begin-cases}
 use Rattle.schedule.specs.Grammar.{Line, begin-line, step-line, lineOf}
 use Rattle.session.specs.Session.{Session, turn}
 use Rattle.session.specs.Transcript.{TextLine, linesOf, sessionOf, sessionFrom}
 
+-- no table, or one that keeps the rules
 abbrev pub Kept : Session → Type 0
 Kept none = Unit {0}
 Kept (some s) = Rules s
 
 begun-kept : (n m : ℕ) → Kept (begin n m .table)
-unfolding begin
-begun-kept n m =
-    cases (begins n m)
-    (λ e. let h = says-begins n m .to e in rw (e, Kept, begin) (fresh-rules n m (h .0) (h .1)))
-    (λ e. rw (e, Kept, begin) tt)
+begun-kept n m = begin-cases (λ b. Kept (b .table)) (λ hn hm. fresh-rules n m hn hm) (λ _. tt)
 
-turn-kept : (z : Session) (o : Option Line) → Kept z → Kept (turn z o .session)
+pub turn-kept : (z : Session) (o : Option Line) → Kept z → Kept (turn z o .session)
 turn-kept none none k = k
 turn-kept none (some (begin-line n m)) k = begun-kept n m
 turn-kept none (some (step-line a)) k = k
