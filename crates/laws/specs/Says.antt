@@ -65,3 +65,9 @@ all-not p (suc n) at e =
 
 pub says-ltb : (a b : ℕ) → Says (ltb a b) (a < b)
 says-ltb a b = record { to = ltb-true a b; from = lt-ltb a b }
+
+-- two tests that say one thing answer alike
+pub one-says : {P : Type 0} (a b : Bool) → Says a P → Says b P → a ≡ b
+one-says true b p q = sym (q .from (p .to refl))
+one-says false true p q = p .from (q .to refl)
+one-says false false p q = refl
