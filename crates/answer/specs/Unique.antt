@@ -1,9 +1,9 @@
 -- Of the code's answers one only stands for an answer of the machine, and one for what writing a line comes to.
-use Prim.Native.Nat.{ℕ}
+use Prim.Native.Nat.{ℕ, min}
 use mathlib.Core.Path.{_≡_, refl, sym, ap, _∙_}
 use mathlib.Core.List.{List}
 use lib.ListN.{length}
-use Rattle.machine.specs.Table.{Name}
+use Rattle.machine.specs.Table.{Name, most-open}
 use Rattle.machine.specs.Answer as machine
 use Rattle.answer.specs.declared.Refusal.{Refusal}
 use Rattle.answer.specs.declared.Refusal.the-variants.{NoDesk, NoCell, NoStatus, Spent, Full, OwnWrite, NoWrite, Received, TripSize, NoStep, NoSize, Damaged, Broken, Short}
@@ -79,6 +79,11 @@ answer-back Yes names h = refl
 answer-back No names h = refl
 answer-back Unknown names h = refl
 answer-back (Refused r) names h = ap Refused (refusal-back r)
+
+-- what `Counted` shuts out: past the end of the array any count stands for the same names
+pub cut-off : (n m : ℕ) (names : List ℕ) → min n most-open ≡ min m most-open → answerOf (Applied n) names ≡ answerOf (Applied m) names
+unfolding namesOf
+cut-off n m names e = rw e
 
 -- the code's answer that stands for x
 pub answer-is : (a : Answer) (names : List ℕ) {x : machine.Answer} → Counted a → answerOf a names ≡ x → a ≡ answerFor x
