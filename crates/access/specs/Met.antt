@@ -14,7 +14,7 @@ use Rattle.machine.specs.Steps.{Step, Deliver, step}
 use Rattle.answer.specs.declared.Answer.{Answer}
 use Rattle.answer.specs.declared.Answer.the-variants.{Refused}
 use Rattle.answer.specs.declared.Refusal.the-variants.{Broken}
-use Rattle.answer.specs.Meaning.{answerOf}
+use Rattle.answer.specs.Meaning.{answerOf, Counted}
 use Rattle.table.specs.declared.Core.{Core}
 use Rattle.table.specs.declared.Desk.{Desk}
 use Rattle.table.specs.declared.Table.{Table}
@@ -51,10 +51,11 @@ pub record Met (t : Table) (a : Step) (r : Table) (answer : machine.Answer) : Ty
 abbrev pub no-names : List ℕ
 no-names = replicate (2 * entries) 0
 
--- of a delivery also the array beside: the names applied, then zeros
+-- of a delivery also the array beside: the names applied, as many as are counted, then zeros
 pub record Brought (t : Table) (i u k : ℕ) (r : Table) (answer : Answer) (names : List ℕ) : Type 0 where
   pub met : Met t (Deliver i u k) r (answerOf answer names)
   pub names-are : names ≡ sets no-names 0 (namesBeside (answerOf answer names))
+  pub counted : Counted answer
 
 -- the table of these parts, with desk i as d where there is one
 abbrev pub tableOf : Core → ℕ → Desk → List ℕ → List ℕ → Table
@@ -114,4 +115,5 @@ module _ {t : Table} where
     brought w = record {
       met = met-stepped (w .stepped);
       names-are = w .names-are ∙ ap (λ (x : machine.Answer). sets no-names 0 (namesBeside x)) (sym (w .stepped .answer-is));
+      counted = w .counted;
     }

@@ -1,9 +1,11 @@
--- The contract leaves no choice: the answer and the model are the machine's, and a refusal hands back the very table.
-use Prim.Native.Nat.{_<_}
+-- The contract leaves no choice: the code's answer, the core and the cells are fixed as values, of the open writes the set, and a refusal hands
+-- back the very table.
+use Prim.Native.Nat.{ℕ, _<_}
 use mathlib.Core.Path.{_≡_, refl, sym, ap, _∙_}
 use mathlib.Core.List.{List, [], _∷_}
 use mathlib.Core.Logic.{inl, inr}
 use native.Mathlib.Omega.{arith}
+use lib.Seq.{sets}
 use Rattle.laws.specs.Loop.{cases}
 use Rattle.laws.specs.Says.{Says, apart}
 use Rattle.machine.specs.Table.{State}
@@ -11,13 +13,24 @@ use Rattle.machine.specs.Answer as machine
 use Rattle.machine.specs.Steps.{Step, Read, Write, Deliver, Trip, step, answers}
 use Rattle.machine.specs.Refusals.{Row, rowsOf, FirstFails}
 use Rattle.machine.specs.Proofs.Refusals.{refusal-exactly}
+use Rattle.answer.specs.declared.Answer.{Answer}
+use Rattle.answer.specs.declared.Answer.the-variants.{Refused}
+use Rattle.answer.specs.declared.Refusal.{Refusal}
+use Rattle.answer.specs.Meaning.{refusalOf, answerOf, Counted}
+use Rattle.answer.specs.Unique.{answer-is, Silent, silent-counted}
 use Rattle.table.specs.declared.Table.{Table}
-use Rattle.table.specs.Shape.{DesksShape}
+use Rattle.table.specs.Shape.{DesksShape, Shaped}
 use Rattle.table.specs.Model.{modelOf}
+use Rattle.table.specs.Same.{Same}
 use Rattle.table.specs.Sound.{SoundTable}
+use Rattle.table.specs.Unique.{Among, same-core, same-cells, same-opens}
 use Rattle.rules.specs.To.{Fit}
 use Rattle.rules.specs.Whole.{keeps-says}
-use Rattle.access.specs.Met.{Steps, Turned, Met}
+use Rattle.steps.specs.Stepped.{namesBeside}
+use Rattle.steps.specs.Unique.{refused-silent, read-silent, write-silent, trip-silent}
+use Rattle.access.specs.declared.Done.{Done}
+use Rattle.access.specs.declared.Delivered.{Delivered}
+use Rattle.access.specs.Met.{Steps, Turned, Met, Brought, no-names}
 
 -- two outcomes of one step on one table, whose lists are as its type says
 module _ {t : Table} (sh : DesksShape (t .core .desks)) (fit : Fit (t .core .desks))
@@ -32,13 +45,80 @@ module _ {t : Table} (sh : DesksShape (t .core .desks)) (fit : Fit (t .core .des
       either (λ s. p .steps s .answer-is ∙ sym (q .steps s .answer-is))
       (λ s. p .broken s .answer-is ∙ sym (q .broken s .answer-is))
 
-  pub one-model : modelOf r ≡ modelOf r′
+  pub one-model : Same r r′
   one-model =
       either (λ s. p .steps s .state-is ∙ sym (q .steps s .state-is))
       (λ s. ap modelOf (p .broken s .table-is ∙ sym (q .broken s .table-is)))
 
   pub one-table : (f : machine.Refusal) → x ≡ machine.refused f → r ≡ r′
   one-table f e = p .refuses f e ∙ sym (q .refuses f (sym one-answer ∙ e))
+
+  -- a step that lists no names is answered by a value that counts none
+  silent : ((s : State) → Silent (step s a .answer)) → Silent x
+  silent f = either (λ s. rw (p .steps s .answer-is) (f (modelOf t))) (λ s. rw (p .broken s .answer-is) (refused-silent machine.broken))
+
+  -- but for where open writes stand, and what lies in free entries, the values are one
+  module _ (hr : Shaped r) (hr′ : Shaped r′) where
+    by-value : (R : Table → Table → Type 0) → ((y : Table) → R y y) → (SoundTable r → SoundTable r′ → R r r′) → R r r′
+    by-value R same f =
+        either (λ s. f (p .steps s .sound) (q .steps s .sound))
+        (λ s. rw (p .broken s .table-is, q .broken s .table-is) (same t))
+
+    pub one-core : r .core ≡ r′ .core
+    one-core = by-value (λ y z. y .core ≡ z .core) (λ y. refl) (λ s s′. same-core r r′ hr hr′ s s′ one-model)
+
+    pub one-cells : r .cells ≡ r′ .cells
+    one-cells = by-value (λ y z. y .cells ≡ z .cells) (λ y. refl) (λ s s′. same-cells r r′ hr hr′ s s′ one-model)
+
+    pub one-opens : Among (r .opens) (r′ .opens)
+    one-opens = by-value (λ y z. Among (y .opens) (z .opens)) (λ y j h f. record { at = j; small = h; is = refl }) (λ s s′. same-opens r r′ hr hr′ s s′ one-model)
+
+-- what the code hands back
+pub record OneOutcome (r r′ : Table) (a a′ : Answer) : Type 0 where
+  pub answer : a ≡ a′
+  pub same : Same r r′
+  pub core : r .core ≡ r′ .core
+  pub cells : r .cells ≡ r′ .cells
+  pub opens : Among (r .opens) (r′ .opens)
+  pub refused : (f : Refusal) → a ≡ Refused f → r ≡ r′
+
+module _ {t : Table} (sh : DesksShape (t .core .desks)) (fit : Fit (t .core .desks)) where
+  outcome : {c : Step} {r r′ : Table} {a a′ : Answer} (names names′ : List ℕ) (p : Met t c r (answerOf a names)) (q : Met t c r′ (answerOf a′ names′))
+      → Counted a → Counted a′ → Shaped r → Shaped r′ → OneOutcome r r′ a a′
+  outcome {a = a} {a′ = a′} names names′ p q n n′ h h′ = record {
+    answer = answer-is a names n (one-answer sh fit p q) ∙ sym (answer-is a′ names′ n′ refl);
+    same = one-model sh fit p q;
+    core = one-core sh fit p q h h′;
+    cells = one-cells sh fit p q h h′;
+    opens = one-opens sh fit p q h h′;
+    refused = λ f e. one-table sh fit p q (refusalOf f) (ap (λ (y : Answer). answerOf y names) e);
+  }
+
+  quiet : {c : Step} {r r′ : Done} (p : Met t c (r .table) (answerOf (r .answer) [])) (q : Met t c (r′ .table) (answerOf (r′ .answer) []))
+      → ((s : State) → Silent (step s c .answer)) → Shaped (r .table) → Shaped (r′ .table) → OneOutcome (r .table) (r′ .table) (r .answer) (r′ .answer)
+  quiet {r = r} {r′ = r′} p q f h h′ =
+      outcome [] [] p q (silent-counted (r .answer) [] (silent sh fit p q f) refl) (silent-counted (r′ .answer) [] (silent sh fit q p f) refl) h h′
+
+  module _ {r r′ : Done} (h : Shaped (r .table)) (h′ : Shaped (r′ .table)) where
+    pub one-read : {i x : ℕ} → Met t (Read i x) (r .table) (answerOf (r .answer) []) → Met t (Read i x) (r′ .table) (answerOf (r′ .answer) [])
+        → OneOutcome (r .table) (r′ .table) (r .answer) (r′ .answer)
+    one-read {i} {x} p q = quiet p q (λ s. read-silent s i x) h h′
+
+    pub one-write : {i x v : ℕ} → Met t (Write i x v) (r .table) (answerOf (r .answer) []) → Met t (Write i x v) (r′ .table) (answerOf (r′ .answer) [])
+        → OneOutcome (r .table) (r′ .table) (r .answer) (r′ .answer)
+    one-write {i} {x} {v} p q = quiet p q (λ s. write-silent s i x v) h h′
+
+    pub one-trip : {i : ℕ} {xs : List ℕ} → Met t (Trip i xs) (r .table) (answerOf (r .answer) []) → Met t (Trip i xs) (r′ .table) (answerOf (r′ .answer) [])
+        → OneOutcome (r .table) (r′ .table) (r .answer) (r′ .answer)
+    one-trip {i} {xs} p q = quiet p q (λ s. trip-silent s i xs) h h′
+
+  module _ {i u k : ℕ} {r r′ : Delivered} (p : Brought t i u k (r .table) (r .answer) (r .names)) (q : Brought t i u k (r′ .table) (r′ .answer) (r′ .names)) where
+    pub one-deliver : Shaped (r .table) → Shaped (r′ .table) → OneOutcome (r .table) (r′ .table) (r .answer) (r′ .answer)
+    one-deliver = outcome (r .names) (r′ .names) (p .met) (q .met) (p .counted) (q .counted)
+
+    -- the array beside it, whole
+    pub one-array : r .names ≡ r′ .names
+    one-array = p .names-are ∙ ap (λ (x : machine.Answer). sets no-names 0 (namesBeside x)) (one-answer sh fit (p .met) (q .met)) ∙ sym (q .names-are)
 
 -- a schedule, each step on the table that the one before gave
 pub data Runs : Table → List Step → List machine.Answer → Type 0 where

@@ -3,13 +3,11 @@ ghost use mathlib.Core.Path.{_≡_};
 ghost use mathlib.Core.List.{[]};
 ghost use Prim.Native.Nat.{_-_, _<_, _≤_};
 ghost use lib.ListN.{getD, length};
-ghost use Rattle.laws.specs.Says.{Says};
 ghost use Rattle.clock.specs.Vectors.{places};
 ghost use Rattle.machine.specs.Rules.{In};
 ghost use Rattle.machine.specs.Steps.{Read, Write, Trip};
 ghost use Rattle.answer.specs.Meaning.{answerOf};
 ghost use Rattle.table.specs.Value.{desk0};
-ghost use Rattle.table.specs.Sound.{SoundTable};
 ghost use Rattle.access.specs.Met.{tableOf, brokenDone, Met, Brought};
 use answer::Answer;
 use answer::Refusal;
@@ -74,16 +72,6 @@ fn together(
     }
 }
 
-// Does the value keep the rules?
-fn kept(t: Table) -> bool
-    ensures { λ r. ⌜ Says r (SoundTable t) ⌝ }
-{
-    let core = t.core;
-    let cells = t.cells;
-    let opens = t.opens;
-    rules::keeps_rules(core, &cells, &opens)
-}
-
 fn broken(t: Table) -> Done
     ensures { λ r. ⌜ r ≡ brokenDone t ⌝ }
 {
@@ -97,7 +85,7 @@ pub fn read(t: Table, i: usize, x: usize) -> Done
     ensures { λ r. ⌜ Met t (Read i x) (r .table) (answerOf (r .answer) []) ⌝ }
 {
     table::table_shape(t);
-    if !kept(t) {
+    if !rules::table_keeps_rules(t) {
         return broken(t);
     }
     let core = t.core;
@@ -119,7 +107,7 @@ pub fn write(t: Table, i: usize, x: usize, v: usize) -> Done
     ensures { λ r. ⌜ Met t (Write i x v) (r .table) (answerOf (r .answer) []) ⌝ }
 {
     table::table_shape(t);
-    if !kept(t) {
+    if !rules::table_keeps_rules(t) {
         return broken(t);
     }
     let core = t.core;
@@ -142,7 +130,7 @@ pub fn deliver(t: Table, i: usize, u: usize, k: usize) -> Delivered
 {
     let mut names = [0u16; NAMES];
     table::table_shape(t);
-    if !kept(t) {
+    if !rules::table_keeps_rules(t) {
         return Delivered {
             table: t,
             answer: Answer::Refused(Refusal::Broken),
@@ -180,7 +168,7 @@ pub fn trip(t: Table, i: usize, list: &[u16]) -> Done
     ensures { λ r. ⌜ Met t (Trip i (now (list .entry))) (r .table) (answerOf (r .answer) []) ⌝ }
 {
     table::table_shape(t);
-    if !kept(t) {
+    if !rules::table_keeps_rules(t) {
         return broken(t);
     }
     let core = t.core;

@@ -4,3 +4,4 @@ pub mod Decimal
 pub mod Names
 pub mod Outcome
 pub mod Session
+pub mod Unique

@@ -1,5 +1,6 @@
 -- What the code's answers mean: the machine's answer for every case, and so document 01's numbers and values.
-use Prim.Native.Nat.{ℕ, _+_, _*_, min}
+use Prim.Native.Nat.{ℕ, _+_, _*_, _≤_, min}
+use mathlib.Core.Path.{_≡_}
 use mathlib.Core.List.{List}
 use lib.ListN.{getD}
 use Rattle.laws.specs.Tab.{tab}
@@ -46,3 +47,7 @@ answerOf Yes names = machine.judged machine.Yes
 answerOf No names = machine.judged machine.No
 answerOf Unknown names = machine.judged machine.Unknown
 answerOf (Refused r) names = machine.refused (refusalOf r)
+
+-- no more names are counted than the array holds, so none is cut off
+abbrev pub Counted : Answer → Type 0
+Counted a = (count : ℕ) → a ≡ Applied count → count ≤ most-open

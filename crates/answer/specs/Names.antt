@@ -5,7 +5,7 @@ use mathlib.Core.List.{List, [], _∷_, _++_, append-assoc}
 use native.Mathlib.Omega.{arith}
 use lib.ListN.{length, getD, set, length-append, length-set}
 use lib.Seq.{getD-set-same, getD-set-other}
-use Rattle.laws.specs.Tab.{tab, tabFrom, tab-start, tab-next, tab-end, tab-more, tab-ext}
+use Rattle.laws.specs.Tab.{tab, tabFrom, length-tab, tab-start, tab-next, tab-end, tab-more, tab-ext}
 use Rattle.laws.specs.Text.{text}
 use Rattle.machine.specs.Table.{name, most-open}
 use Rattle.machine.specs.Answer.{shows, shown}
@@ -45,6 +45,10 @@ names-longer n names j h = rw (names-next n names j h) (simp length-append (omeg
 pub names-end : (n : ℕ) (names : List ℕ) (j : ℕ) → n ≤ j → namesLeft n names j ≡ []
 unfolding namesLeft namesBytes
 names-end n names j h = rw (tab-end (nameAt names) n j h)
+
+pub length-names : (j : ℕ) (names : List ℕ) → j ≤ most-open → length (namesOf j names) ≡ j
+unfolding namesOf
+length-names j names h = let m : min j most-open ≡ j = omega arith in rw m (length-tab (nameAt names) j)
 
 -- for whoever fills the array: no name yet; one more, stored behind the others
 pub names-none : (names : List ℕ) → namesOf 0 names ≡ []

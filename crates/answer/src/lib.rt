@@ -8,7 +8,7 @@ ghost use Rattle.machine.specs.Table.{name, most-open};
 ghost use Rattle.machine.specs.Answer.{numberOf, shows, shown, wrote, applies};
 ghost use Rattle.answer.specs.Meaning.{refusalOf, answerOf, namesOf};
 ghost use Rattle.answer.specs.Bytes.{decimal, nameBytes, namesBytes, answerBytes, answerLine};
-ghost use Rattle.answer.specs.Outcome.{written, buffer};
+ghost use Rattle.answer.specs.Outcome.{writtenOf, written, buffer};
 
 // Why a line or a call is refused.
 pub enum Refusal {
@@ -49,7 +49,7 @@ pub enum Written {
 }
 
 // The number of a refusal.
-pub fn number(r: Refusal) -> u16
+fn number(r: Refusal) -> u16
     ensures { λ n. ⌜ n ≡ numberOf (refusalOf r) ⌝ }
 {
     match r {
@@ -254,7 +254,7 @@ fn put_answer(out: &mut [u8], at: usize, a: Answer, names: &[u16; 128]) -> usize
 
 // Writes the line of an answer, with its LF, from place at on. Where the buffer is too short for it, nothing is written.
 pub fn put(out: &mut [u8], at: usize, a: Answer, names: &[u16; 128]) -> Written
-    ensures { λ r. ⌜ r ≡ written (now (out .entry)) at (answerLine (answerOf a (now (names .entry)))) ⌝ }
+    ensures { λ r. ⌜ writtenOf r ≡ written (now (out .entry)) at (answerLine (answerOf a (now (names .entry)))) ⌝ }
     ensures { λ _. ⌜ now (out .exit) ≡ buffer (now (out .entry)) at (answerLine (answerOf a (now (names .entry)))) ⌝ }
     ensures { λ _. ⌜ length (answerLine (answerOf a (now (names .entry)))) ≤ 770 ⌝ }
 {

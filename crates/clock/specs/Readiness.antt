@@ -21,15 +21,12 @@ use Rattle.clock.specs.declared.Wait.{Wait}
 use Rattle.clock.specs.declared.Wait.the-variants.{Ready, Fails}
 
 -- the document's values for each case: none, or the smallest failing desk
-abbrev pub waitOf : Option ℕ → Wait
-waitOf none = Ready
-waitOf (some t) = Fails t
+abbrev pub waitOf : Wait → Option ℕ
+waitOf Ready = none
+waitOf (Fails t) = some t
 
 abbrev pub failsAt : List ℕ → List ℕ → ℕ → ℕ → Bool
 failsAt a v u t = fails (place a) u (place v) t
-
-abbrev pub waitFor : List ℕ → List ℕ → ℕ → Wait
-waitFor a v u = waitOf (failing places (place a) u (place v))
 
 abbrev pub readyAt : List ℕ → List ℕ → ℕ → Bool
 readyAt a v u = ready places (place a) u (place v)
@@ -40,11 +37,6 @@ covers n a v = all (λ t. not (ltb (getD a t 0) (getD v t 0))) n 0
 
 abbrev pub coversAll : List ℕ → List ℕ → Bool
 coversAll a v = covers places a v
-
--- the loop's form of the answer
-pub wait-scan : (a v : List ℕ) (u : ℕ) → waitFor a v u ≡ scan (failsAt a v u) Fails Ready places 1
-unfolding failing
-wait-scan a v u = scan-map waitOf (failsAt a v u) some none places 1
 
 -- the place of the writer, and the others --
 
@@ -163,10 +155,14 @@ next-of-readyAt a v u h e =
     ∙ next-of-ready places (place a) u (place v) h e
     ∙ place-at v u (h .0)
 
-pub wait-ready : (o : Option ℕ) → waitOf o ≡ Ready → o ≡ none
-wait-ready none e = refl
-wait-ready (some t) e = absurd (let z : _≡_ {A = ℕ} 0 1 = cc in omega arith)
+-- the contract leaves one answer
+abbrev pub waitFor : Option ℕ → Wait
+waitFor none = Ready
+waitFor (some t) = Fails t
 
-pub wait-fails : (o : Option ℕ) (t : ℕ) → waitOf o ≡ Fails t → o ≡ some t
-wait-fails none t e = absurd (let z : _≡_ {A = ℕ} 0 1 = cc in omega arith)
-wait-fails (some s) t e = cc
+wait-back : (w : Wait) → waitFor (waitOf w) ≡ w
+wait-back Ready = refl
+wait-back (Fails t) = refl
+
+pub wait-is : (w : Wait) {o : Option ℕ} → waitOf w ≡ o → w ≡ waitFor o
+wait-is w e = sym (wait-back w) ∙ ap waitFor e

@@ -1,12 +1,13 @@
 -- Vectors as lists of numbers: place t of a list, from 1; the larger place by place; one place raised. Of any number of places.
 use Prim.Native.Nat.{ℕ, zero, suc, _+_, _-_, _≤_, _<_, max}
-use mathlib.Core.Path.{_≡_, refl, _∙_, fun-ext}
+use mathlib.Core.Path.{_≡_, refl, ap, _∙_, fun-ext}
 use mathlib.Core.Bool.{Bool, false}
 use mathlib.Core.List.{List}
 use native.Mathlib.Omega.{arith}
 use native.Mathlib.Numerals.{add-one}
 use borrow.Author.Tests.{ltb-true, ltb-false, lt-ltb, le-ltb}
 use lib.ListN.{length, getD, set, List·getD-eq-default}
+use lib.Seq.{ext-getD}
 use lib.Dec.{ltb}
 use Rattle.laws.specs.Loop.{pick, cases}
 use Rattle.laws.specs.Tab.{tab, getD-tab, length-tab}
@@ -55,6 +56,10 @@ place-at l (suc t) h = let e : suc t - 1 ≡ t = omega arith in rw e
 pub place-out : (l : List ℕ) (t : ℕ) → length l < t → place l t ≡ 0
 place-out l zero h = refl
 place-out l (suc t) h = let o : length l ≤ t = omega arith in List·getD-eq-default l 0 o
+
+-- two lists of one length with the same places
+pub place-ext : (a b : List ℕ) → length a ≡ length b → place a ≡ place b → a ≡ b
+place-ext a b l e = ext-getD 0 a b l (λ t h. ap (λ (v : Vec). v (suc t)) e)
 
 -- a place set
 pub place-set : (l : List ℕ) (t a : ℕ) → t < length l → place (set l t a) ≡ upd (place l) (suc t) a

@@ -2,8 +2,9 @@
 ghost use mathlib.Core.Path.{_≡_};
 ghost use Prim.Native.Nat.{ℕ, _+_, _<_, _≤_, max};
 ghost use lib.ListN.{getD, length};
-ghost use Rattle.clock.specs.Vectors.{places, joinClock, raiseClock};
-ghost use Rattle.clock.specs.Readiness.{failsAt, waitFor, readyAt, coversAll};
+ghost use Rattle.machine.specs.Steps.{failing};
+ghost use Rattle.clock.specs.Vectors.{places, place, joinClock, raiseClock};
+ghost use Rattle.clock.specs.Readiness.{failsAt, waitOf, readyAt, coversAll};
 
 // The places of a vector: one for each desk.
 pub const PLACES: usize = 8;
@@ -76,7 +77,7 @@ fn fails(a: [u16; PLACES], v: [u16; PLACES], u: usize, t: usize) -> bool
 
 // Ready, or the smallest desk number whose place fails.
 pub fn readiness(a: [u16; PLACES], v: [u16; PLACES], u: usize) -> Wait
-    ensures { λ r. ⌜ r ≡ waitFor a v u ⌝ }
+    ensures { λ r. ⌜ waitOf r ≡ failing places (place a) u (place v) ⌝ }
 {
     let mut t = 1;
     while t <= PLACES {

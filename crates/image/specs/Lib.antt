@@ -16,5 +16,6 @@ pub mod Distinct
 pub mod Order
 pub mod Saved
 pub mod Saving
+pub mod Unique
 pub mod Examples
 pub mod Reload

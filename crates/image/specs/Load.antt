@@ -2,7 +2,7 @@
 use Prim.Native.Nat.{ℕ}
 use mathlib.Core.Path.{_≡_, refl, sym, ap, _∙_}
 use mathlib.Core.Logic.{_↔_}
-use mathlib.Core.Bool.{Bool}
+use mathlib.Core.Bool.{Bool, true}
 use mathlib.Core.List.{List}
 use Rattle.laws.specs.Loop.{pick, cases}
 use Rattle.laws.specs.Says.{Says, apart}
@@ -11,7 +11,7 @@ use Rattle.machine.specs.Table.{State}
 use Rattle.machine.specs.Answer.{Refusal, damaged, broken}
 use Rattle.machine.specs.Rules.{Rules}
 use Rattle.image.specs.Encode.{encode}
-use Rattle.image.specs.Decode.{decode, decode-encode, one-table}
+use Rattle.image.specs.Decode.{decode, decode-encode}
 use Rattle.image.specs.Sound.{Sound, Damaged, sound, says-sound, sound-encode}
 use Rattle.machine.specs.Keeps.{keeps}
 use Rattle.machine.specs.Tells.{says-rules}
@@ -38,18 +38,6 @@ pub data Loads (b : List ℕ) : Loaded → Type 0 where
 image-sound : (b : List ℕ) (s : State) → encode s ≡ b → Sound b
 image-sound b s e = rw e at (sound-encode s)
 
--- it comes to one thing only
-pub one-load : (b : List ℕ) (x y : Loaded) → Loads b x → Loads b y → x ≡ y
-one-load b x y (by-damage h) (by-damage g) = refl
-one-load b x y (by-damage h) (by-rule g _) = absurd (h g)
-one-load b x y (by-damage h) (as-saved s r e) = absurd (h (image-sound b s e))
-one-load b x y (by-rule h _) (by-damage g) = absurd (g h)
-one-load b x y (by-rule h f) (by-rule g _) = refl
-one-load b x y (by-rule h f) (as-saved s r e) = absurd (f s r e)
-one-load b x y (as-saved s r e) (by-damage h) = absurd (h (image-sound b s e))
-one-load b x y (as-saved s r e) (by-rule h f) = absurd (f s r e)
-one-load b x y (as-saved s r e) (as-saved t r′ e′) = ap loaded (one-table s t r r′ (e ∙ sym e′))
-
 -- Any reader loads right that reads images right: what it reads has its rules tested, is saved again and compared.
 module _ (b : List ℕ) (c : State) (reads : (s : State) → Rules s → encode s ≡ b → c ≡ s) where
   saved-again : (s : State) → Rules s → encode s ≡ b → Rules c × (encode c ≡ b)
@@ -71,6 +59,26 @@ module _ (b : List ℕ) (c : State) (reads : (s : State) → Rules s → encode 
 pub read-back : (b : List ℕ) (s : State) → Rules s → encode s ≡ b → decode b ≡ s
 read-back b s r e = ap decode (sym e) ∙ decode-encode s r
 
+-- it comes to what load gives, and so to one thing only
+pub loads-is : (b : List ℕ) (x : Loaded) → Loads b x → x ≡ load b
+unfolding load
+loads-is b x (by-damage h) = cases (sound b) (λ e. absurd (h (says-sound b .to e))) (λ e. rw e)
+loads-is b x (by-rule h f) =
+    rw (says-sound b .from h)
+    (cases (keeps (decode b))
+    (λ k. rw k (cases (same (encode (decode b)) b)
+    (λ q. absurd (f (decode b) (says-rules (decode b) (shaped b) .to k) (says-same (encode (decode b)) b .to q)))
+    (λ q. rw q)))
+    (λ k. rw k))
+loads-is b x (as-saved s r e) =
+    let d = read-back b s r e in
+    let k : keeps (decode b) ≡ true = says-rules (decode b) (shaped b) .from (rw d r) in
+    let q : same (encode (decode b)) b ≡ true = says-same (encode (decode b)) b .from (rw d e) in
+    rw (says-sound b .from (image-sound b s e), k, q) (ap loaded (sym d))
+
+pub one-load : (b : List ℕ) (x y : Loaded) → Loads b x → Loads b y → x ≡ y
+one-load b x y p q = loads-is b x p ∙ sym (loads-is b y q)
+
 pub load-loads : (b : List ℕ) → Loads b (load b)
 unfolding load
 load-loads b =
@@ -88,13 +96,13 @@ is-saved : (b : List ℕ) (s : State) → Loads b (loaded s) → Rules s × (enc
 is-saved b s (as-saved t r e) = (r, e)
 
 pub load-12 : (b : List ℕ) → (load b ≡ refused damaged) ↔ Damaged b
-load-12 b = (λ e. is-damaged b (rw e at (load-loads b)), λ h. one-load b (load b) (refused damaged) (load-loads b) (by-damage h))
+load-12 b = (λ e. is-damaged b (rw e at (load-loads b)), λ h. sym (loads-is b (refused damaged) (by-damage h)))
 
 pub load-13 : (b : List ℕ) → (load b ≡ refused broken) ↔ (Sound b × ((s : State) → Rules s → encode s ≡ b → ⊥))
-load-13 b = (λ e. is-broken b (rw e at (load-loads b)), λ h. one-load b (load b) (refused broken) (load-loads b) (by-rule (h .0) (h .1)))
+load-13 b = (λ e. is-broken b (rw e at (load-loads b)), λ h. sym (loads-is b (refused broken) (by-rule (h .0) (h .1))))
 
 pub load-is : (b : List ℕ) (s : State) → (load b ≡ loaded s) ↔ (Rules s × (encode s ≡ b))
-load-is b s = (λ e. is-saved b s (rw e at (load-loads b)), λ h. one-load b (load b) (loaded s) (load-loads b) (as-saved s (h .0) (h .1)))
+load-is b s = (λ e. is-saved b s (rw e at (load-loads b)), λ h. sym (loads-is b (loaded s) (as-saved s (h .0) (h .1))))
 
 -- a table saved and loaded is the same table
 pub load-encode : (s : State) → Rules s → load (encode s) ≡ loaded s

@@ -1,8 +1,7 @@
 -- The answer to a save: document 01's number and values for every case of it, and what it leaves in the buffer.
 use Prim.Native.Nat.{ℕ, _<_, _≤_}
-use mathlib.Core.Path.{_≡_, refl, sym, ap, _∙_}
+use mathlib.Core.Path.{_≡_}
 use mathlib.Core.List.{List}
-use native.Mathlib.Omega.{arith}
 use lib.ListN.{length}
 use lib.Seq.{sets}
 use Rattle.machine.specs.Answer.{Refusal, broken, short}
@@ -31,15 +30,3 @@ pub data Saves (t : Table) (before after : List ℕ) : SaveAnswer → Type 0 whe
   by-rule : (SoundTable t → ⊥) → after ≡ before → Saves t before after (refused broken)
   by-room : SoundTable t → length before < length (encode (modelOf t)) → after ≡ before → Saves t before after (refused short)
   as-image : (n : ℕ) → SoundTable t → length (encode (modelOf t)) ≤ length before → after ≡ sets before 0 (encode (modelOf t)) → n ≡ length (encode (modelOf t)) → Saves t before after (long n)
-
--- it comes to one answer and one buffer
-pub one-save : (t : Table) (b a c : List ℕ) (x y : SaveAnswer) → Saves t b a x → Saves t b c y → (x ≡ y) × (a ≡ c)
-one-save t b a c x y (by-rule h p) (by-rule g q) = (refl, p ∙ sym q)
-one-save t b a c x y (by-rule h p) (by-room s l q) = absurd (h s)
-one-save t b a c x y (by-rule h p) (as-image n s l q e) = absurd (h s)
-one-save t b a c x y (by-room s l p) (by-rule g q) = absurd (g s)
-one-save t b a c x y (by-room s l p) (by-room z k q) = (refl, p ∙ sym q)
-one-save t b a c x y (by-room s l p) (as-image n z k q e) = absurd (omega arith)
-one-save t b a c x y (as-image n s l p e) (by-rule g q) = absurd (g s)
-one-save t b a c x y (as-image n s l p e) (by-room z k q) = absurd (omega arith)
-one-save t b a c x y (as-image n s l p e) (as-image m z k q f) = (ap long (e ∙ sym f), p ∙ sym q)

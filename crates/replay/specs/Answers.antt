@@ -16,7 +16,7 @@ use Rattle.session.specs.Session.{Session}
 use Rattle.session.specs.Transcript.{transcriptFrom, most-text, transcript}
 use Rattle.session.specs.Laws.{from-end}
 use Rattle.session.specs.Holds.{zeroCells, zeroOpens, zeroCore, Holds}
-use Rattle.session.specs.Run.{most-answer, Ran, ran-rest}
+use Rattle.session.specs.Run.{most-answer, Ran, ran-rest, ran-progress}
 use Rattle.session.specs.AnswersBound.{each-byte, answers-bound, transcript-bound}
 
 -- r bytes of the buffer are all that `replay` prints, and the rest of it stays
@@ -73,7 +73,7 @@ module _ {text out : List ℕ} where
       part-long = simp (length-take, length-drop) (omega (arith, reading-long))
 
       pub reading-less : at < length text → at < at′
-      reading-less h = r .progress h (omega (arith, part-long, reading-room room))
+      reading-less h = ran-progress r h (omega (arith, part-long, reading-room room))
 
       pub reading-sum : len + more ≤ length out
       reading-sum = omega (arith, part-long, r .fits, r .len-is, reading-room room)

@@ -7,3 +7,4 @@ pub mod To
 pub mod From
 pub mod Whole
 pub mod Walk
+pub mod Unique

@@ -18,7 +18,7 @@ use Rattle.schedule.specs.Grammar.{Line as Said, lineOf}
 use Rattle.schedule.specs.Lines.{lineAt, endedAt, nextAt}
 use Rattle.schedule.specs.LineLaws.{ended-is, next-is, next-more, next-le}
 use Rattle.answer.specs.Bytes.{answerLine}
-use Rattle.answer.specs.Outcome.{written, buffer}
+use Rattle.answer.specs.Outcome.{upto, refused, writtenOf, written, buffer}
 use Rattle.answer.specs.declared.Written.{Written}
 use Rattle.answer.specs.declared.Written.the-variants.{Upto, Short}
 use Rattle.table.specs.declared.Desk.{Desk}
@@ -201,19 +201,21 @@ next-place text at {line} {end} {at′} h el ee ea =
 
 -- a line that has room
 module _ (out : List ℕ) (at : ℕ) (line out′ : List ℕ) (w : Written) (h : at + most-answer ≤ length out)
-    (e : (w ≡ written out at line) × ((out′ ≡ buffer out at line) × (length line ≤ most-answer))) where
+    (e : (writtenOf w ≡ written out at line) × ((out′ ≡ buffer out at line) × (length line ≤ most-answer))) where
   room : leb (at + length line) (length out) ≡ true
   room = le-leb (at + length line) (length out) (omega (arith, e .1 .1))
 
   pub print-upto : (p : ℕ) → w ≡ Upto p → Stored out at line out′ p × (p ≤ length out)
   print-upto p q =
-      let a : w ≡ Upto (at + length line) = rw room at (e .0) in
+      let a : writtenOf w ≡ upto (at + length line) = rw room at (e .0) in
+      let b : writtenOf w ≡ upto p = ap writtenOf q in
       let r : p ≡ at + length line = cc in
       (record { stored = rw room at (e .1 .0); behind = r }, omega (arith, e .1 .1))
 
   pub print-short : {R : Type 0} → w ≡ Short → R
   print-short q =
-      let a : w ≡ Upto (at + length line) = rw room at (e .0) in
+      let a : writtenOf w ≡ upto (at + length line) = rw room at (e .0) in
+      let b : writtenOf w ≡ writtenOf Short = ap writtenOf q in
       absurd (let z : _≡_ {A = ℕ} 0 1 = cc in omega arith)
 
 -- The whole text: a call of the run after another, each part of the buffer printed --

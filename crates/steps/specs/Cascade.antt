@@ -1,5 +1,5 @@
 -- The cascade on a desk's counts and the two lent arrays: one write applied, and what is due, are the machine's.
-use Prim.Native.Nat.{ℕ, zero, suc, _+_, _-_, _*_, _<_, _≤_, min}
+use Prim.Native.Nat.{ℕ, zero, suc, _+_, _-_, _*_, _<_, _≤_}
 use mathlib.Core.Path.{_≡_, refl, sym, ap, subst, _∙_}
 use mathlib.Core.List.{List, [], _∷_, _++_, append-assoc, append-nil}
 use mathlib.Core.Bool.{Bool, true, false, _&&_}
@@ -11,7 +11,6 @@ use lib.ListN.{length, getD, set, length-set}
 use lib.Dec.{ltb, eqb}
 use lib.Seq.{sets}
 use Rattle.laws.specs.Loop.{pick, cases, scan, scan-same}
-use Rattle.laws.specs.Tab.{length-tab}
 use Rattle.laws.specs.Stores.{sets-append}
 use Rattle.laws.specs.Update.{upd, upd2, upd-same, upd-other, upd2-is, same-or}
 use Rattle.clock.specs.Vectors.{places, place, place-at, raised, place-raised}
@@ -23,8 +22,8 @@ use Rattle.machine.specs.Steps.{ready, everywhere, stillOpen, mark, apply, dueO
 use Rattle.machine.specs.Rules.{In, Flat, Rules}
 use Rattle.machine.specs.Proofs.Apply.{to-be-open, apply-written}
 use Rattle.machine.specs.Proofs.Kept.{Midway, ReadyAt, ready-next, apply-midway, left, apply-left, left-few, settle-rules}
-use Rattle.answer.specs.Meaning.{namesOf, nameAt}
-use Rattle.answer.specs.Names.{names-none, names-more}
+use Rattle.answer.specs.Meaning.{namesOf}
+use Rattle.answer.specs.Names.{length-names, names-none, names-more}
 use Rattle.table.specs.declared.Cell.{Cell}
 use Rattle.table.specs.declared.Open.{Open}
 use Rattle.table.specs.declared.Found.{Found}
@@ -295,10 +294,6 @@ values-more (x ∷ l) u k = rw (values-more l u k)
 length-values : (l : List Name) → length (nameValues l) ≡ 2 * length l
 length-values [] = refl
 length-values (x ∷ l) = omega (arith, length-values l)
-
-length-names : (j : ℕ) (names : List ℕ) → j ≤ most-open → length (namesOf j names) ≡ j
-unfolding namesOf
-length-names j names h = let m : min j most-open ≡ j = omega arith in rw m (length-tab (nameAt names) j)
 
 -- the array holds the names so far and is else as it came
 abbrev pub Holds : List ℕ → ℕ → List ℕ → Type 0

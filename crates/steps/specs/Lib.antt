@@ -11,3 +11,4 @@ pub mod Cascade
 pub mod CascadeSearch
 pub mod DeliverReceive
 pub mod Deliver
+pub mod Unique

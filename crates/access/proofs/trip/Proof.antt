@@ -10,19 +10,19 @@ start c = c .before .before .before .before .before .before .before .before .bef
 
 here : (c : tie.After-acting) → PlacedIn (start c .args .t) (owns (start c .args .t .core .desks)) (start c .args .i) (c .acting .result)
 here c =
-    placed (c .before .before .before .before .before .before .kept .ensures) (c .before .before .before .before .before .if1 .left) (c .before .before .before .before .before .before .before .table-shape .ensures) refl (c .acting .ensures)
+    placed (c .before .before .before .before .before .before .table-keeps-rules .ensures) (c .before .before .before .before .before .if1 .left) (c .before .before .before .before .before .before .before .table-shape .ensures) refl (c .acting .ensures)
 
 table-shape-requires : tie.Need-table-shape-requires
 table-shape-requires c κs = search needs
 
-kept-requires : tie.Need-kept-requires
-kept-requires c κs = search needs
+table-keeps-rules-requires : tie.Need-table-keeps-rules-requires
+table-keeps-rules-requires c κs = search needs
 
 broken-requires : tie.Need-broken-requires
 broken-requires c κs = search needs
 
 returns : tie.Need-returns
-returns c = rw (c .broken .ensures) (met-broken (c .before .before .kept .ensures) _ (c .before .if1 .taken))
+returns c = rw (c .broken .ensures) (met-broken (c .before .before .table-keeps-rules .ensures) _ (c .before .if1 .taken))
 
 acting-requires : tie.Need-acting-requires
 acting-requires c κs = search needs
@@ -41,7 +41,7 @@ trip-spec =
     tie.close
     (tie.spec
     table-shape-requires
-    kept-requires
+    table-keeps-rules-requires
     broken-requires
     returns
     acting-requires

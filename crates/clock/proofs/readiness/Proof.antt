@@ -1,21 +1,23 @@
-use Rattle.clock.specs.Vectors.{places}
+use Rattle.clock.specs.Vectors.{places, place}
 use Prim.Native.Nat.{_≤_, _-_, _+_}
-use mathlib.Core.Path.{_≡_, sym, _∙_}
+use mathlib.Core.Path.{_≡_, refl, sym, _∙_}
+use mathlib.Core.Option.{none, some}
+use Rattle.machine.specs.Steps.{failing}
 use Rattle.laws.specs.Loop.{scan, scan-here, scan-next, scan-end}
-use Rattle.clock.specs.Readiness.{failsAt, waitFor, wait-scan}
-use Rattle.clock.specs.declared.Wait.the-variants.{Ready, Fails}
+use Rattle.clock.specs.Readiness.{failsAt}
 use borrow.Author.Needs.{needs}
 use Rattle.clock.proofs.readiness.Statement.{statement}
 use Rattle.clock.proofs.readiness.Tie as tie
 
 abbrev Inv-loop : tie.InvT-loop
-Inv-loop a v u t₀ t = (1 ≤ t) × ((t ≤ places + 1) × (scan (failsAt a v u) Fails Ready (places + 1 - t) t ≡ waitFor a v u))
+Inv-loop a v u t₀ t = (1 ≤ t) × ((t ≤ places + 1) × (scan (failsAt a v u) some none (places + 1 - t) t ≡ failing places (place a) u (place v)))
 
 abbrev μ-loop : tie.MeasureT-loop
 μ-loop a v u t₀ t = places + 1 - t
 
 loop-holds : tie.Need-loop-holds Inv-loop μ-loop
-loop-holds c = let g = c .args in (search needs, (search needs, sym (wait-scan (g .a) (g .v) (g .u))))
+unfolding failing
+loop-holds c = (search needs, (search needs, refl))
 
 fails-requires : tie.Need-fails-requires Inv-loop μ-loop
 fails-requires c κs = search needs

@@ -5,7 +5,7 @@ use Rattle.laws.specs.Says.{apart}
 use Rattle.machine.specs.Steps.{failing, isNone}
 use Rattle.machine.specs.Proofs.Ready.{failing-at}
 use Rattle.clock.specs.Vectors.{places, place}
-use Rattle.clock.specs.Readiness.{wait-ready, wait-fails}
+use Rattle.clock.specs.Readiness.{waitOf}
 use borrow.Author.Needs.{needs}
 use Rattle.steps.proofs.deliver.waits_for.Statement.{statement}
 use Rattle.steps.proofs.deliver.waits_for.Tie as tie
@@ -23,12 +23,12 @@ returns : tie.Need-returns
 returns c =
     let q = c .before .before in
     let g = q .before .args in
-    let z : failing places (place (g .a)) (g .u) (place (g .v)) ≡ none = wait-ready _ (sym (q .readiness .ensures) ∙ c .enum-told .given .1) in
+    let z : failing places (place (g .a)) (g .u) (place (g .v)) ≡ none = sym (q .readiness .ensures) ∙ ap waitOf (c .enum-told .given .1) in
     apart (isNone (failing places (place (g .a)) (g .u) (place (g .v)))) (rw z) (q .before .pre)
 
 fails : (c : tie.After-known-told)
     → (let g = c .before .before .before .before .args in failing places (place (g .a)) (g .u) (place (g .v)) ≡ some (c .before .t .given .0 .0))
-fails c = wait-fails _ _ (sym (c .before .before .before .readiness .ensures) ∙ c .before .t .given .1)
+fails c = sym (c .before .before .before .readiness .ensures) ∙ ap waitOf (c .before .t .given .1)
 
 small-requires : tie.Need-small-requires
 small-requires c κs = omega (arith, failing-at places _ _ _ _ (fails c) .0 .1)

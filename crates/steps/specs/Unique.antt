@@ -1,0 +1,185 @@
+-- The contracts of the four steps leave one outcome: the answer, the desk and the cells as values, and the names beside the answer. Of the open
+-- writes it is the set: document 01 leaves open which entry holds one.
+use Prim.Native.Nat.{ℕ, _-_, _*_, _<_}
+use mathlib.Core.Path.{_≡_, refl, sym, ap, _∙_}
+use mathlib.Core.Logic.{inl}
+use mathlib.Core.Bool.{true, false}
+use mathlib.Core.List.{List, []}
+use native.Mathlib.Omega.{arith}
+use lib.ListN.{length, getD, set, length-set}
+use lib.Seq.{sets, getD-set-same, getD-set-other}
+use Rattle.laws.specs.Loop.{cases}
+use Rattle.laws.specs.Says.{apart}
+use Rattle.laws.specs.Update.{same-or}
+use Rattle.clock.specs.Vectors.{places}
+use Rattle.machine.specs.Answer as machine
+use Rattle.machine.specs.Table.{State}
+use Rattle.machine.specs.Rules.{In}
+use Rattle.machine.specs.Steps.{Out, Step, Read, Write, Deliver, Trip, within, step}
+use Rattle.machine.specs.Paper.{actor}
+use Rattle.machine.specs.Proofs.Refusals.{says-within, refusal-exactly, step-cases}
+use Rattle.answer.specs.declared.Answer.{Answer}
+use Rattle.answer.specs.declared.Answer.the-variants.{Refused}
+use Rattle.answer.specs.declared.Refusal.{Refusal}
+use Rattle.answer.specs.Meaning.{answerOf, refusalOf, Counted}
+use Rattle.answer.specs.Unique.{answerFor, answer-is, Silent, silent-counted}
+use Rattle.table.specs.declared.Core.{Core}
+use Rattle.table.specs.declared.Desk.{Desk}
+use Rattle.table.specs.declared.Table.{Table}
+use Rattle.table.specs.Value.{desk0, all-cells, cell-width, entries, open-width}
+use Rattle.table.specs.Shape.{DeskShape, DesksShape, Shaped}
+use Rattle.table.specs.Model.{model}
+use Rattle.table.specs.Unique.{Among, same-core, same-cells, same-opens}
+use Rattle.steps.specs.declared.Turn.{Turn}
+use Rattle.steps.specs.Stepped.{Placed, Stepped, putDesk, namesBeside}
+use Rattle.steps.specs.LookStepped.{in-places}
+use Rattle.steps.specs.LookTurn.{SomeLook, Looks}
+use Rattle.steps.specs.WriteTurn.{SomeTable, Writes}
+use Rattle.steps.specs.Deliver.{Part, Delivers}
+
+outside : (s : State) (a : Step) → (In (s .desks) (actor a) → ⊥) → step s a .answer ≡ machine.refused machine.no-desk
+outside s (Read i x) f = refusal-exactly s (Read i x) machine.no-desk .1 (inl (f, refl))
+outside s (Write i x v) f = refusal-exactly s (Write i x v) machine.no-desk .1 (inl (f, refl))
+outside s (Deliver i u k) f = refusal-exactly s (Deliver i u k) machine.no-desk .1 (inl (λ h. f (h .0), refl))
+outside s (Trip i xs) f = refusal-exactly s (Trip i xs) machine.no-desk .1 (inl (f, refl))
+
+-- only a delivery lists names
+pub refused-silent : (r : machine.Refusal) → Silent (machine.refused r)
+refused-silent r l e = let z : _≡_ {A = ℕ} 0 1 = cc in omega arith
+
+pub read-silent : (s : State) (i x : ℕ) → Silent (step s (Read i x) .answer)
+read-silent s i x = step-cases s (Read i x) (λ o. Silent (o .answer)) refused-silent (λ h l e. let z : _≡_ {A = ℕ} 0 1 = cc in omega arith)
+
+pub write-silent : (s : State) (i x v : ℕ) → Silent (step s (Write i x v) .answer)
+write-silent s i x v = step-cases s (Write i x v) (λ o. Silent (o .answer)) refused-silent (λ h l e. let z : _≡_ {A = ℕ} 0 1 = cc in omega arith)
+
+pub trip-silent : (s : State) (i : ℕ) (xs : List ℕ) → Silent (step s (Trip i xs) .answer)
+trip-silent s i xs = step-cases s (Trip i xs) (λ o. Silent (o .answer)) refused-silent (λ h l e. let z : _≡_ {A = ℕ} 0 1 = cc in omega arith)
+
+-- what the types tell of the desk handed back and the lists left
+pub record LeftShape (d : Desk) (cs os : List ℕ) : Type 0 where
+  pub desk : DeskShape d
+  pub cells : length cs ≡ all-cells * cell-width
+  pub opens : length os ≡ entries * open-width
+
+lent-shape : {n m : ℕ} {ds : List Desk} {cs os own : List ℕ} {i : ℕ} {d e : Desk} → Placed n m ds cs os own i d → DeskShape e → LeftShape e cs os
+lent-shape p h = record { desk = h; cells = p .cells-size; opens = p .opens-size }
+
+desks-put : {ds : List Desk} {d : Desk} (n i : ℕ) → DesksShape ds → DeskShape d → DesksShape (putDesk n ds i d)
+desks-put {ds} {d} n i s h =
+    cases (within n i)
+    (λ t. rw t (record {
+      count = length-set ds (i - 1) d ∙ s .count;
+      each = λ j b. same-or j (i - 1)
+          (λ q. rw (q, getD-set-same ds (i - 1) d desk0 (omega (arith, s .count))) h)
+          (λ q. rw (getD-set-other ds (i - 1) j d desk0 q) (s .each j b));
+    }))
+    (λ t. rw t s)
+
+module _ {n m : ℕ} {ds : List Desk} {cs os own : List ℕ} {i : ℕ} {d : Desk} (p : Placed n m ds cs os own i d) {a : Step} (who : actor a ≡ i)
+    {d′ d″ : Desk} {cs′ cs″ os′ os″ : List ℕ} {x y : machine.Answer}
+    (f : Stepped n m ds cs os i d a d′ cs′ os′ x) (g : Stepped n m ds cs os i d a d″ cs″ os″ y) (hf : LeftShape d′ cs′ os′) (hg : LeftShape d″ cs″ os″) where
+  abbrev left : Desk → List ℕ → List ℕ → Table
+  left e l k = record { core = record { n = n; m = m; desks = putDesk n ds i e }; cells = l; opens = k }
+
+  shaped : {e : Desk} {l k : List ℕ} → LeftShape e l k → Shaped (left e l k)
+  shaped h = record { desks = desks-put n i (p .shape) (h .desk); cells = h .cells; opens = h .opens }
+
+  same : model n m (putDesk n ds i d′) cs′ os′ ≡ model n m (putDesk n ds i d″) cs″ os″
+  same = f .state-is ∙ sym (g .state-is)
+
+  pub one-cells : cs′ ≡ cs″
+  one-cells = same-cells (left d′ cs′ os′) (left d″ cs″ os″) (shaped hf) (shaped hg) (f .sound) (g .sound) same
+
+  pub one-opens : Among os′ os″
+  one-opens = same-opens (left d′ cs′ os′) (left d″ cs″ os″) (shaped hf) (shaped hg) (f .sound) (g .sound) same
+
+  pub one-desk : d′ ≡ d″
+  one-desk = cases (within n i) inside (λ t. off (λ h. apart (within n i) (says-within n i .from h) t))
+    where
+      back : within n i ≡ true → (e : Desk) → getD (putDesk n ds i e) (i - 1) desk0 ≡ e
+      back t e = let h = in-places p (says-within n i .to t) in rw t (getD-set-same ds (i - 1) e desk0 (omega (arith, h .0, h .1, p .shape .count)))
+
+      inside : within n i ≡ true → d′ ≡ d″
+      inside t =
+          sym (back t d′)
+          ∙ ap (λ (c : Core). getD (c .desks) (i - 1) desk0) (same-core (left d′ cs′ os′) (left d″ cs″ os″) (shaped hf) (shaped hg) (f .sound) (g .sound) same)
+          ∙ back t d″
+
+      off : (In n i → ⊥) → d′ ≡ d″
+      off q =
+          let e = outside (model n m ds cs os) a (rw who q) in
+          f .refused-desk machine.no-desk (f .answer-is ∙ e) ∙ sym (g .refused-desk machine.no-desk (g .answer-is ∙ e))
+
+  pub one-entries : (r : machine.Refusal) → x ≡ machine.refused r → os′ ≡ os″
+  one-entries r e = f .refused-opens r e ∙ sym (g .refused-opens r (g .answer-is ∙ sym (f .answer-is) ∙ e))
+
+-- the code's answer is the one that stands for the machine's
+turn-is : {r r′ : Turn} (names names′ : List ℕ) {x : machine.Answer} → r .desk ≡ r′ .desk → Counted (r .answer) → Counted (r′ .answer)
+    → answerOf (r .answer) names ≡ x → answerOf (r′ .answer) names′ ≡ x → r ≡ r′
+turn-is {r} {r′} names names′ e c c′ f g =
+    let a : r .answer ≡ r′ .answer = answer-is (r .answer) names c f ∙ sym (answer-is (r′ .answer) names′ c′ g) in
+    λ j. record { desk = e j; answer = a j }
+
+-- Read and trip: the whole turn --
+
+look-is : {n m : ℕ} {cs : List ℕ} {i : ℕ} {d : Desk} {a : Step} {r r′ : Turn} → SomeLook n m cs i d → actor a ≡ i → ((s : State) → Silent (step s a .answer))
+    → Looks n m cs i d a r → Looks n m cs i d a r′ → DeskShape (r .desk) → DeskShape (r′ .desk) → r ≡ r′
+look-is {n} {m} {cs} {a = a} {r = r} {r′ = r′} w who quiet f g hf hg =
+    let p = w .placed in
+    let x = f (w .desks) (w .opens) (w .own) p in
+    let y = g (w .desks) (w .opens) (w .own) p in
+    let q = quiet (model n m (w .desks) cs (w .opens)) in
+    turn-is [] [] (one-desk p who x y (lent-shape p hf) (lent-shape p hg)) (silent-counted (r .answer) [] q (x .answer-is)) (silent-counted (r′ .answer) [] q (y .answer-is)) (x .answer-is) (y .answer-is)
+
+module _ {n m : ℕ} {cs : List ℕ} {i : ℕ} {d : Desk} {r r′ : Turn} (w : SomeLook n m cs i d) (hf : DeskShape (r .desk)) (hg : DeskShape (r′ .desk)) where
+  pub one-read : {x : ℕ} → Looks n m cs i d (Read i x) r → Looks n m cs i d (Read i x) r′ → r ≡ r′
+  one-read {x} f g = look-is w refl (λ s. read-silent s i x) f g hf hg
+
+  pub one-trip : {xs : List ℕ} → Looks n m cs i d (Trip i xs) r → Looks n m cs i d (Trip i xs) r′ → r ≡ r′
+  one-trip {xs} f g = look-is w refl (λ s. trip-silent s i xs) f g hf hg
+
+-- Write and deliver: the turn, the cells, the open writes --
+
+pub record OneOutcome (r r′ : Turn) (cs cs′ os os′ : List ℕ) : Type 0 where
+  pub turn : r ≡ r′
+  pub cells : cs ≡ cs′
+  pub opens : Among os os′
+  pub refused : (x : Refusal) → r .answer ≡ Refused x → os ≡ os′
+
+pub one-write : {n m : ℕ} {cs os : List ℕ} {i : ℕ} {d : Desk} {x v : ℕ} {r r′ : Turn} {cs′ cs″ os′ os″ : List ℕ} → SomeTable n m cs os i d
+    → LeftShape (r .desk) cs′ os′ → LeftShape (r′ .desk) cs″ os″
+    → Writes n m cs os i d (Write i x v) r cs′ os′ → Writes n m cs os i d (Write i x v) r′ cs″ os″ → OneOutcome r r′ cs′ cs″ os′ os″
+one-write {n} {m} {cs} {os} {i} {d} {x} {v} {r} {r′} w hf hg f g =
+    let p = w .placed in
+    let a = f (w .desks) (w .own) p in
+    let b = g (w .desks) (w .own) p in
+    let q = write-silent (model n m (w .desks) cs os) i x v in
+    record {
+      turn = turn-is [] [] (one-desk p refl a b hf hg) (silent-counted (r .answer) [] q (a .answer-is)) (silent-counted (r′ .answer) [] q (b .answer-is)) (a .answer-is) (b .answer-is);
+      cells = one-cells p refl a b hf hg;
+      opens = one-opens p refl a b hf hg;
+      refused = λ z e. one-entries p refl a b hf hg (refusalOf z) (ap (λ (y : Answer). answerOf y []) e);
+    }
+
+-- and the names beside the answer
+pub record OneDelivery (r r′ : Turn) (cs cs′ os os′ names names′ : List ℕ) : Type 0 where
+  pub outcome : OneOutcome r r′ cs cs′ os os′
+  pub beside : names ≡ names′
+
+pub one-deliver : {n : ℕ} {d : Desk} {own cs os names : List ℕ} {i u k : ℕ} {r r′ : Turn} {cs′ cs″ os′ os″ names′ names″ : List ℕ} → Part n d own cs os i
+    → LeftShape (r .desk) cs′ os′ → LeftShape (r′ .desk) cs″ os″
+    → Delivers n d own cs os names i u k r cs′ os′ names′ → Delivers n d own cs os names i u k r′ cs″ os″ names″ → OneDelivery r r′ cs′ cs″ os′ os″ names′ names″
+one-deliver {names′ = names′} {names″ = names″} w hf hg f g =
+    let p = w .2 in
+    let a = f (w .0) (w .1) p in
+    let b = g (w .0) (w .1) p in
+    record {
+      outcome = record {
+        turn = turn-is names′ names″ (one-desk p refl (a .stepped) (b .stepped) hf hg) (a .counted) (b .counted) (a .stepped .answer-is) (b .stepped .answer-is);
+        cells = one-cells p refl (a .stepped) (b .stepped) hf hg;
+        opens = one-opens p refl (a .stepped) (b .stepped) hf hg;
+        refused = λ z e. one-entries p refl (a .stepped) (b .stepped) hf hg (refusalOf z) (ap (λ (y : Answer). answerOf y names′) e);
+      };
+      beside = a .names-are ∙ sym (b .names-are);
+    }
