@@ -55,7 +55,7 @@ pub record Reading (text out : List ℕ) (core : Core) (cells opens : List ℕ) 
 
 module _ {text out : List ℕ} where
   pub reading-start : Reading text out zeroCore zeroCells zeroOpens 0 0 out
-  reading-start = record { session = none; lines = []; holds = record { size = refl; desks = refl; cells = refl; opens = refl }; stored = refl; len-is = refl; rest = refl }
+  reading-start = record { session = none; lines = []; holds = record { size = refl; many = refl; desks = refl; cells = refl; opens = refl }; stored = refl; len-is = refl; rest = refl }
 
   module _ {core : Core} {cells opens : List ℕ} {at len : ℕ} {out′ : List ℕ} (g : Reading text out core cells opens at len out′) where
     pub reading-long : length out′ ≡ length out
