@@ -38,12 +38,15 @@ extern "C" {
  * never too short. */
 #define ACCESS_MAX_IMAGE 18944
 
-/* The answers to a schedule of S bytes are never longer than this: an empty
- * line is 1 byte and its answer 5, no line is answered with more for each of
- * its bytes, and at most 64 * 7 held writes that came with the image may be
- * listed besides, 8 bytes each. (Counted by hand, and not a part of what is
- * proved. An `answers` that is too short is refused, whatever its length.) */
-#define ACCESS_ANSWERS_BOUND(S) (5 * (S) + 3584)
+/* The answers to a schedule of S bytes are never longer than this: 5 bytes for
+ * each byte (an empty line is 1 byte, and its answer 5), and 9 for the name of
+ * each write that came held with the image, at most 64 at each of 7 desks.
+ * Proved: the law enough in crates/capi/specs/Enough.antt says that with such
+ * an `answers` and an image_out of ACCESS_MAX_IMAGE no schedule that is not too
+ * long is refused with 14, and rests on answers-fit in
+ * crates/session/specs/AnswersBound.antt. (The proof is of that formula; nothing
+ * holds this line against it.) */
+#define ACCESS_ANSWERS_BOUND(S) (5 * (S) + 9 * 64 * 7)
 
 /* The numbers that access_run returns. */
 #define ACCESS_DONE 0

@@ -6,6 +6,7 @@ pub mod RunLaws
 pub mod StartLaws
 pub mod CutLaws
 pub mod Wrote
+pub mod Enough
 pub mod Split
 pub mod Demand
 pub mod Calls

@@ -5,9 +5,9 @@ use mathlib.Core.Option.{none}
 use Prim.Native.Nat.{ℕ, _+_, _-_, _*_, _<_, _≤_}
 use native.Mathlib.Omega.{arith}
 use native.Mathlib.Nat.{zero-add}
-use lib.ListN.{length, take, drop, length-append, length-take, length-drop, drop-of-length-le}
-use lib.Seq.{sets, sets-eq, length-sets, take-all, take-at, drop-at, drop-drop}
-use Rattle.laws.specs.Stores.{Stored, sets-append}
+use lib.ListN.{length, take, drop, length-append, length-take, length-drop}
+use lib.Seq.{sets, sets-eq, length-sets, take-at, drop-at}
+use Rattle.laws.specs.Stores.{Stored, sets-append, sets-part}
 use Rattle.io.specs.Counts.{Counts}
 use Rattle.replay.specs.declared.Input.{Input}
 use Rattle.replay.specs.declared.Input.the-variants.{Read, Failed}
@@ -31,18 +31,6 @@ most-answers = each-byte * most-text + most-answer
 
 abbrev pub Room : List ℕ → List ℕ → Type 0
 Room text out = (length text ≤ most-text) × (most-answers ≤ length out)
-
--- stores at the front of a part that goes to the end are stores into the whole
-sets-part : {A : Type 0} (vs l : List A) (n k : ℕ) → k ≡ length l - n → n + length vs ≤ length l → take n l ++ (sets (take k (drop n l)) 0 vs ++ drop k (drop n l)) ≡ sets l n vs
-sets-part {A} vs l n k e h =
-    let part : List A = drop n l in
-    let z : length part ≤ k = omega (arith, length-drop n l) in
-    let front : sets part 0 vs ≡ vs ++ drop (n + length vs) l =
-    sets-eq vs part 0 (omega (arith, length-drop n l)) ∙ ap (λ (x : List A). vs ++ x) (rw (zero-add (length vs)) (drop-drop (length vs) n l)) in
-    ap (λ (x : List A). take n l ++ (sets x 0 vs ++ drop k part)) (take-all k part z)
-    ∙ ap (λ (x : List A). take n l ++ (sets part 0 vs ++ x)) (drop-of-length-le part z)
-    ∙ ap (λ (x : List A). take n l ++ x) (append-nil (sets part 0 vs) ∙ front)
-    ∙ sym (append-assoc (take n l) vs (drop (n + length vs) l)) ∙ sym (sets-eq vs l n h)
 
 -- the lines under way: those before the place are answered at the front of the buffer
 pub record Reading (text out : List ℕ) (core : Core) (cells opens : List ℕ) (at len : ℕ) (out′ : List ℕ) : Type 0 where

@@ -60,14 +60,13 @@ pub const MAX_IMAGE: usize = 37 * BLOCK;
 
 /// A length that the answers to a schedule of so many bytes never exceed.
 ///
-/// The reason: each line is answered by one line. An empty one is 1 byte and
-/// its answer, `E 10` and LF, is 5; no other line has as much answer for each
-/// of its bytes. To that come the names in the answers to deliveries, each at
-/// most 8 bytes. Such a name was received by a line of this schedule of 8
-/// bytes or more, which is then answered in at most 4 bytes and the name in 8;
-/// or it was held in the image, where at most 64 writes are held at 7 desks.
+/// Five bytes for each byte (an empty line is 1 byte, and its answer, `E 10`
+/// and LF, is 5), and 9 for the name of each write that came held with the
+/// image, at most 64 at each of 7 desks. The formula is proved: `enough` in
+/// `crates/capi/specs/Enough.antt`, from `answers-fit` in
+/// `crates/session/specs/AnswersBound.antt`.
 pub const fn answers_bound(schedule: usize) -> usize {
-    5 * schedule + 8 * 64 * 7
+    5 * schedule + 9 * 64 * 7
 }
 
 /// Why a whole call was refused, by document 01's numbers.

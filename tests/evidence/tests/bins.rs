@@ -19,8 +19,11 @@ fn run(program: &str, args: &[&str], input: &[u8]) -> Output {
     let input = input.to_vec();
     let writer = std::thread::spawn(move || stdin.write_all(&input));
     let output = child.wait_with_output().unwrap();
-    // Not even too long an input finds its pipe broken.
-    let _ = writer.join().unwrap();
+    let written = writer.join().unwrap();
+    assert!(
+        written.is_ok(),
+        "not all of the input was read: {written:?}"
+    );
     output
 }
 
@@ -49,6 +52,21 @@ fn replay_ref_and_long_input() {
     assert_eq!(replay_ref(&[b'\n'; 65_536]).len(), 5 * 65_536);
     assert_eq!(replay_ref(&[b'\n'; 65_537]), b"E 14\n");
     assert_eq!(replay_ref(&vec![b'\n'; 3_000_000]), b"E 14\n");
+}
+
+#[test]
+fn compare_and_streams_tell_a_replay_from_others() {
+    let replay_ref = env!("CARGO_BIN_EXE_replay_ref");
+    let programs = [
+        (env!("CARGO_BIN_EXE_compare"), &["--runs", "7"][..]),
+        (env!("CARGO_BIN_EXE_streams"), &[]),
+    ];
+    for (program, more) in programs {
+        let held = |replay: &str| run(program, &[&[replay], more].concat(), b"").status;
+        assert!(held(replay_ref).success(), "{program}");
+        assert!(!held("/bin/cat").success(), "{program}");
+        assert!(!held("/bin/true").success(), "{program}");
+    }
 }
 
 #[test]

@@ -55,7 +55,10 @@ fn options(args: &[String]) -> Option<(&str, usize, u64)> {
 
 /// What is wrong with the program's answers, if anything is.
 fn fault(program: &str, input: &[u8]) -> Option<String> {
-    let found = answers(program, input);
+    let found = match answers(program, input) {
+        Ok(found) => found,
+        Err(fault) => return Some(fault),
+    };
     if found != text::replay(input) {
         return Some("the answers differ".into());
     }
@@ -65,19 +68,28 @@ fn fault(program: &str, input: &[u8]) -> Option<String> {
     }
 }
 
-fn answers(program: &str, input: &[u8]) -> Vec<u8> {
+/// What the program prints, if it reads all of its input, ends well and
+/// complains of nothing.
+fn answers(program: &str, input: &[u8]) -> Result<Vec<u8>, String> {
     let mut child = Command::new(program)
         .stdin(Stdio::piped())
         .stdout(Stdio::piped())
+        .stderr(Stdio::piped())
         .spawn()
-        .expect("the program starts");
+        .map_err(|e| format!("it does not start: {e}"))?;
     let mut stdin = child.stdin.take().expect("a pipe");
     let input = input.to_vec();
-    // The program may answer before it has read all, or read less than all.
-    let writer = std::thread::spawn(move || drop(stdin.write_all(&input)));
+    let writer = std::thread::spawn(move || stdin.write_all(&input));
     let output = child.wait_with_output().expect("the program ends");
-    writer.join().expect("the writer ends");
-    output.stdout
+    let written = writer.join().expect("the writer ends");
+    if !output.status.success() || !output.stderr.is_empty() {
+        let said = String::from_utf8_lossy(&output.stderr);
+        return Err(format!("it ended with {}: {said}", output.status));
+    }
+    match written {
+        Ok(()) => Ok(output.stdout),
+        Err(e) => Err(format!("it did not read all of its input: {e}")),
+    }
 }
 
 /// Lines are left out as long as a difference stays.
@@ -101,4 +113,18 @@ fn shortest(program: &str, input: Vec<u8>) -> Vec<u8> {
         size /= 2;
     }
     lines.concat()
+}
+
+#[cfg(test)]
+mod tests {
+    use super::answers;
+
+    #[test]
+    fn more_than_the_answers_counts() {
+        assert_eq!(answers("/bin/true", b""), Ok(vec![]));
+        assert!(answers("/bin/false", b"").is_err(), "an exit status");
+        let long = vec![b'\n'; 1_000_000];
+        assert!(answers("/bin/true", &long).is_err(), "input left unread");
+        assert!(answers("/no/such/program", b"").is_err());
+    }
 }
