@@ -1,6 +1,6 @@
 -- How long the answers to a text are, all together: 5 bytes for each byte of text, and a name for each write that was held before.
--- An empty line is one byte and its answer, `E 10` and LF, is 5. A line that is held is short, and pays for its name, which is printed when the
--- write is applied.
+-- An empty line is one byte and its answer, `E 10` and LF, is 5. The answer to a delivery that is held is short: that line pays for the name
+-- that is printed when the write is applied.
 use Prim.Native.Nat.{ℕ, suc, _+_, _-_, _*_, _<_, _≤_}
 use mathlib.Core.Path.{_≡_, refl}
 use mathlib.Core.Bool.{Bool, true, false}
@@ -106,7 +106,7 @@ module _ {s : State} (f : Frame s) where
   names-bytes l no = omega arith
   names-bytes l (and {x = w} {l = m} h e) = simp length-append (omega (arith, name-bytes w h, names-bytes m e))
 
--- a step's line is 4 bytes with its LF
+-- a step's line is 4 bytes at least with its LF
 step-bound : {s s′ : State} → Rules s → Rules s′ → (a : Answer) → Counted s a s′
     → length (answerLine a) + each-name * heldCount s′ ≤ each-byte * 4 + each-name * heldCount s
 step-bound {s} {s′} r r′ began c = omega arith

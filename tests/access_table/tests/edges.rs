@@ -61,7 +61,7 @@ fn the_longest_schedule() {
         assert_eq!(all.image.as_deref(), image);
         assert_eq!(run(image, &lines), Err(Refusal::Short));
     }
-    assert_eq!(answers_bound(MAX_SCHEDULE), 5 * MAX_SCHEDULE + 3_584);
+    assert_eq!(answers_bound(MAX_SCHEDULE), 5 * MAX_SCHEDULE + 4_032);
 }
 
 /// All that came held with the image is listed at once, and fits the bound.
