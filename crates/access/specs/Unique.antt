@@ -7,7 +7,7 @@ use mathlib.Core.Logic.{inl, inr}
 use native.Mathlib.Omega.{arith}
 use lib.Seq.{sets}
 use Rattle.laws.specs.Loop.{cases}
-use Rattle.laws.specs.Says.{Says, apart}
+use Rattle.laws.specs.Says.{apart}
 use Rattle.machine.specs.Table.{State}
 use Rattle.machine.specs.Answer as machine
 use Rattle.machine.specs.Steps.{Step, Read, Write, Deliver, Trip, step, answers}
@@ -30,7 +30,7 @@ use Rattle.steps.specs.Stepped.{namesBeside}
 use Rattle.steps.specs.Unique.{refused-silent, read-silent, write-silent, trip-silent}
 use Rattle.access.specs.declared.Done.{Done}
 use Rattle.access.specs.declared.Delivered.{Delivered}
-use Rattle.access.specs.Met.{Steps, Turned, Met, Brought, no-names}
+use Rattle.access.specs.Met.{Met, Brought, no-names}
 
 -- two outcomes of one step on one table, whose lists are as its type says
 module _ {t : Table} (sh : DesksShape (t .core .desks)) (fit : Fit (t .core .desks))

@@ -10,7 +10,7 @@ use borrow.Author.Tests.{ltb-true, lt-ltb, le-ltb, eq-eqb, ne-eqb, eqb-true, not
 use lib.ListN.{length, getD, set}
 use lib.Seq.{getD-set-same, getD-set-other}
 use lib.Dec.{ltb, eqb}
-use Rattle.laws.specs.Loop.{pick, cases, scan, scan-map, scan-same, scan-short}
+use Rattle.laws.specs.Loop.{pick, cases, scan-map, scan-same, scan-short}
 use Rattle.laws.specs.All.{all, all-at, all-next, all-fails, all-end, all-fails-at, all-same, all-shift}
 use Rattle.laws.specs.Update.{same-or}
 use Rattle.machine.specs.Rules.{In, Flat}

@@ -1,12 +1,11 @@
 -- "A table saved and loaded is the same table", and an image loaded and saved again gives its bytes: of what `save` and `load` promise.
 use Prim.Native.Nat.{ℕ, _≤_}
-use mathlib.Core.Path.{_≡_, refl, sym, ap, _∙_}
+use mathlib.Core.Path.{_≡_, refl, ap, _∙_}
 use mathlib.Core.Bool.{true}
 use mathlib.Core.List.{List}
 use borrow.Author.Tests.{le-leb}
 use lib.ListN.{length, take}
 use lib.Seq.{sets}
-use Rattle.machine.specs.Answer as machine
 use Rattle.table.specs.declared.Table.{Table}
 use Rattle.table.specs.Model.{modelOf}
 use Rattle.table.specs.Same.{Same}
@@ -14,7 +13,7 @@ use Rattle.table.specs.Sound.{SoundTable}
 use Rattle.image.specs.declared.Saving.{Saving}
 use Rattle.image.specs.declared.Saving.the-variants.{Length}
 use Rattle.image.specs.Encode.{encode}
-use Rattle.image.specs.Load.{Loaded, loaded, load, load-encode}
+use Rattle.image.specs.Load.{loaded, load, load-encode}
 use Rattle.image.specs.Saving.{SaveAnswer, long, savingOf, Saves, as-image}
 use Rattle.image.specs.Unique.{saves-is, saving-is}
 use Rattle.load.specs.declared.Outcome.{Outcome}

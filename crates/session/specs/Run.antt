@@ -18,7 +18,7 @@ use Rattle.schedule.specs.Grammar.{Line as Said, lineOf}
 use Rattle.schedule.specs.Lines.{lineAt, endedAt, nextAt}
 use Rattle.schedule.specs.LineLaws.{ended-is, next-is, next-more, next-le}
 use Rattle.answer.specs.Bytes.{answerLine}
-use Rattle.answer.specs.Outcome.{upto, refused, writtenOf, written, buffer}
+use Rattle.answer.specs.Outcome.{upto, writtenOf, written, buffer}
 use Rattle.answer.specs.declared.Written.{Written}
 use Rattle.answer.specs.declared.Written.the-variants.{Upto, Short}
 use Rattle.table.specs.declared.Desk.{Desk}

@@ -1,28 +1,27 @@
 -- The contracts of the four steps leave one outcome: the answer, the desk and the cells as values, and the names beside the answer. Of the open
 -- writes it is the set: document 01 leaves open which entry holds one.
-use Prim.Native.Nat.{ℕ, _-_, _*_, _<_}
+use Prim.Native.Nat.{ℕ, _-_, _*_}
 use mathlib.Core.Path.{_≡_, refl, sym, ap, _∙_}
 use mathlib.Core.Logic.{inl}
-use mathlib.Core.Bool.{true, false}
+use mathlib.Core.Bool.{true}
 use mathlib.Core.List.{List, []}
 use native.Mathlib.Omega.{arith}
-use lib.ListN.{length, getD, set, length-set}
-use lib.Seq.{sets, getD-set-same, getD-set-other}
+use lib.ListN.{length, getD, length-set}
+use lib.Seq.{getD-set-same, getD-set-other}
 use Rattle.laws.specs.Loop.{cases}
 use Rattle.laws.specs.Says.{apart}
 use Rattle.laws.specs.Update.{same-or}
-use Rattle.clock.specs.Vectors.{places}
 use Rattle.machine.specs.Answer as machine
 use Rattle.machine.specs.Table.{State}
 use Rattle.machine.specs.Rules.{In}
-use Rattle.machine.specs.Steps.{Out, Step, Read, Write, Deliver, Trip, within, step}
+use Rattle.machine.specs.Steps.{Step, Read, Write, Deliver, Trip, within, step}
 use Rattle.machine.specs.Paper.{actor}
 use Rattle.machine.specs.Proofs.Refusals.{says-within, refusal-exactly, step-cases}
 use Rattle.answer.specs.declared.Answer.{Answer}
 use Rattle.answer.specs.declared.Answer.the-variants.{Refused}
 use Rattle.answer.specs.declared.Refusal.{Refusal}
 use Rattle.answer.specs.Meaning.{answerOf, refusalOf, Counted}
-use Rattle.answer.specs.Unique.{answerFor, answer-is, Silent, silent-counted}
+use Rattle.answer.specs.Unique.{answer-is, Silent, silent-counted}
 use Rattle.table.specs.declared.Core.{Core}
 use Rattle.table.specs.declared.Desk.{Desk}
 use Rattle.table.specs.declared.Table.{Table}
@@ -31,7 +30,7 @@ use Rattle.table.specs.Shape.{DeskShape, DesksShape, Shaped}
 use Rattle.table.specs.Model.{model}
 use Rattle.table.specs.Unique.{Among, same-core, same-cells, same-opens}
 use Rattle.steps.specs.declared.Turn.{Turn}
-use Rattle.steps.specs.Stepped.{Placed, Stepped, putDesk, namesBeside}
+use Rattle.steps.specs.Stepped.{Placed, Stepped, putDesk}
 use Rattle.steps.specs.LookStepped.{in-places}
 use Rattle.steps.specs.LookTurn.{SomeLook, Looks}
 use Rattle.steps.specs.WriteTurn.{SomeTable, Writes}

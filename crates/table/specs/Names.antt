@@ -59,7 +59,7 @@ same-writer o u k h e =
     let f : o .writer ≡ 0 → ⊥ = (λ q. (omega arith)) in
     rw (ne-eqb (o .writer) 0 f, e, eq-eqb u u refl, place-at (o .vector) u h)
 
--- what a search over the entries finds: one that passes, or that none does
+-- what each answer of a search over the entries means (it has no number in the document): this one passes, or none does
 abbrev pub FoundIn : (ℕ → Bool) → Found → Type 0
 FoundIn p (At e) = (e < entries) × (p e ≡ true)
 FoundIn p Nothing = (e : ℕ) → e < entries → p e ≡ false

@@ -13,15 +13,14 @@ use Rattle.laws.specs.Rows.{row, part-at, length-part}
 use Rattle.clock.specs.Vectors.{places, place, place-ext}
 use Rattle.machine.specs.Table as machine
 use Rattle.table.specs.declared.Cell.{Cell}
-use Rattle.table.specs.declared.Core.{Core}
 use Rattle.table.specs.declared.Desk.{Desk}
 use Rattle.table.specs.declared.Open.{Open}
 use Rattle.table.specs.declared.Table.{Table}
 use Rattle.table.specs.Value.{desk0, desk-cells, all-cells, cell-width, entries, cellOf, cellRow, cellAt, FullCell, full-cellAt, openAt, FullOpen, full-openAt, isFree}
 use Rattle.table.specs.Shape.{DeskShape, Shaped}
-use Rattle.table.specs.Names.{number, namedAt, own-named, named-is}
-use Rattle.table.specs.Model.{appliedM, clockM, cellM, cellsM, openM, opensM, slot, cell-in}
-use Rattle.table.specs.Opens.{opens-at, opens-some, Entry}
+use Rattle.table.specs.Names.{number, own-named, named-is}
+use Rattle.table.specs.Model.{appliedM, clockM, cellM, openM, slot, cell-in}
+use Rattle.table.specs.Opens.{opens-at, opens-some}
 use Rattle.table.specs.Sound.{AllZero, SoundTable}
 use Rattle.table.specs.Same.{Same}
 
