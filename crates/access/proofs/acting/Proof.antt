@@ -11,9 +11,6 @@ use Rattle.access.proofs.acting.Tie as tie
 within-places : (c : tie.Then1) → In places (c .before .before .args .i)
 within-places c = says-within _ _ .to (sym (c .before .inside .ensures) ∙ c .if1 .taken)
 
-inside-requires : tie.Need-inside-requires
-inside-requires c κs = search needs
-
 sub-result : tie.Need-sub-result
 sub-result c = omega (arith, within-places c)
 
@@ -23,12 +20,6 @@ mul-result c = omega (arith, within-places c)
 array-copy-out-result : tie.Need-array-copy-out-result
 array-copy-out-result c = omega (arith, within-places c)
 
-returns : tie.Need-returns
-returns c = search needs
-
-array-copy-out-result-2 : tie.Need-array-copy-out-result-2
-array-copy-out-result-2 c = search needs
-
 returns-2 : tie.Need-returns-2
 returns-2 c = λ h. apart _ (says-within _ _ .from h) (sym (c .before .before .inside .ensures) ∙ c .before .if1 .left)
 
@@ -36,10 +27,10 @@ pub acting-spec : {M : Type 1} → statement M
 acting-spec =
     tie.close
     (tie.spec
-    inside-requires
+    (λ c κs. search needs)
     sub-result
     mul-result
     array-copy-out-result
-    returns
-    array-copy-out-result-2
+    (λ c. search needs)
+    (λ c. search needs)
     returns-2)

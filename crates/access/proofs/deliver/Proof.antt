@@ -13,20 +13,8 @@ here : (c : tie.After-acting) → PlacedIn (start c .args .t) (c .before .own-co
 here c =
     placed (c .before .before .before .before .before .before .before .table-keeps-rules .ensures) (c .before .before .before .before .before .before .if1 .left) (c .before .before .before .before .before .before .before .before .table-shape .ensures) (c .before .own-counts .ensures) (c .acting .ensures)
 
-table-shape-requires : tie.Need-table-shape-requires
-table-shape-requires c κs = search needs
-
-table-keeps-rules-requires : tie.Need-table-keeps-rules-requires
-table-keeps-rules-requires c κs = search needs
-
 returns : tie.Need-returns
 returns c = record { met = met-broken (c .before .table-keeps-rules .ensures) _ (c .if1 .taken); names-are = refl; counted = λ n q. let z : _≡_ {A = ℕ} 0 1 = cc in absurd (omega arith) }
-
-own-counts-requires : tie.Need-own-counts-requires
-own-counts-requires c κs = search needs
-
-acting-requires : tie.Need-acting-requires
-acting-requires c κs = search needs
 
 deliver-at-requires : tie.Need-deliver-at-requires
 deliver-at-requires c κs = (_, _, here (c .before .before .before))
@@ -41,11 +29,11 @@ pub deliver-spec : {M : Type 1} → statement M
 deliver-spec =
     tie.close
     (tie.spec
-    table-shape-requires
-    table-keeps-rules-requires
+    (λ c κs. search needs)
+    (λ c κs. search needs)
     returns
-    own-counts-requires
-    acting-requires
+    (λ c κs. search needs)
+    (λ c κs. search needs)
     deliver-at-requires
     together-requires
     returns-2)

@@ -12,20 +12,8 @@ here : (c : tie.After-acting) → PlacedIn (start c .args .t) (owns (start c .ar
 here c =
     placed (c .before .before .before .before .before .before .table-keeps-rules .ensures) (c .before .before .before .before .before .if1 .left) (c .before .before .before .before .before .before .before .table-shape .ensures) refl (c .acting .ensures)
 
-table-shape-requires : tie.Need-table-shape-requires
-table-shape-requires c κs = search needs
-
-table-keeps-rules-requires : tie.Need-table-keeps-rules-requires
-table-keeps-rules-requires c κs = search needs
-
-broken-requires : tie.Need-broken-requires
-broken-requires c κs = search needs
-
 returns : tie.Need-returns
 returns c = rw (c .broken .ensures) (met-broken (c .before .before .table-keeps-rules .ensures) _ (c .before .if1 .taken))
-
-acting-requires : tie.Need-acting-requires
-acting-requires c κs = search needs
 
 write-at-requires : tie.Need-write-at-requires
 write-at-requires c κs = record { desks = _; own = _; placed = here (c .before .before) }
@@ -40,11 +28,11 @@ pub write-spec : {M : Type 1} → statement M
 write-spec =
     tie.close
     (tie.spec
-    table-shape-requires
-    table-keeps-rules-requires
-    broken-requires
+    (λ c κs. search needs)
+    (λ c κs. search needs)
+    (λ c κs. search needs)
     returns
-    acting-requires
+    (λ c κs. search needs)
     write-at-requires
     together-requires
     returns-2)

@@ -14,47 +14,8 @@ Inv-loop names count n sum₀ j₀ sum j = (j ≤ n) × ((sum ≤ 12 * j) × (su
 abbrev μ-loop : tie.MeasureT-loop
 μ-loop names count n sum₀ j₀ sum j = n - j
 
-name-count-requires : tie.Need-name-count-requires Inv-loop μ-loop
-name-count-requires c κs = search needs
-
 loop-holds : tie.Need-loop-holds Inv-loop μ-loop
 loop-holds c = (search needs, (search needs, search needs))
-
-add-sum : tie.Need-add-sum Inv-loop μ-loop
-add-sum c = search needs
-
-mul-name-length : tie.Need-mul-name-length Inv-loop μ-loop
-mul-name-length c = search needs
-
-mul-name-length-2 : tie.Need-mul-name-length-2 Inv-loop μ-loop
-mul-name-length-2 c = search needs
-
-element-copy-out-name-length : tie.Need-element-copy-out-name-length Inv-loop μ-loop
-element-copy-out-name-length c = search needs
-
-mul-name-length-3 : tie.Need-mul-name-length-3 Inv-loop μ-loop
-mul-name-length-3 c = search needs
-
-add-name-length : tie.Need-add-name-length Inv-loop μ-loop
-add-name-length c = search needs
-
-mul-name-length-4 : tie.Need-mul-name-length-4 Inv-loop μ-loop
-mul-name-length-4 c = search needs
-
-element-copy-out-name-length-2 : tie.Need-element-copy-out-name-length-2 Inv-loop μ-loop
-element-copy-out-name-length-2 c = search needs
-
-name-length-requires : tie.Need-name-length-requires Inv-loop μ-loop
-name-length-requires c κs = search needs
-
-add-sum-2 : tie.Need-add-sum-2 Inv-loop μ-loop
-add-sum-2 c = search needs
-
-add-j : tie.Need-add-j Inv-loop μ-loop
-add-j c = search needs
-
-loop-less : tie.Need-loop-less Inv-loop μ-loop
-loop-less c = search needs
 
 loop-again : tie.Need-loop-again Inv-loop μ-loop
 loop-again c = let L = c .before .before .before .before .loop in
@@ -80,19 +41,19 @@ names-length-spec =
     (tie.spec
     Inv-loop
     μ-loop
-    name-count-requires
+    (λ c κs. search needs)
     loop-holds
-    add-sum
-    mul-name-length
-    mul-name-length-2
-    element-copy-out-name-length
-    mul-name-length-3
-    add-name-length
-    mul-name-length-4
-    element-copy-out-name-length-2
-    name-length-requires
-    add-sum-2
-    add-j
-    loop-less
+    (λ c. search needs)
+    (λ c. search needs)
+    (λ c. search needs)
+    (λ c. search needs)
+    (λ c. search needs)
+    (λ c. search needs)
+    (λ c. search needs)
+    (λ c. search needs)
+    (λ c κs. search needs)
+    (λ c. search needs)
+    (λ c. search needs)
+    (λ c. search needs)
     loop-again
     returns)

@@ -19,35 +19,17 @@ bytes a names = answerBytes (answerOf a names)
 short : (b : List ℕ) (n : ℕ) → (n ≡ length b) × (n ≤ 769) → length (b ++ text "\n") ≤ 770
 short b n h = omega (arith, h .0, h .1, length-append b (text "\n"))
 
-answer-length-requires : tie.Need-answer-length-requires
-answer-length-requires c κs = search needs
-
 returns : tie.Need-returns
 returns c =
     let a = c .before .before .before .args in
     let k = kept (a .out .now) (a .at) (bytes (a .a) (a .names .now)) (search needs) in
     (k .0, (k .1, short (bytes (a .a) (a .names .now)) _ (c .before .answer-length .ensures)))
 
-sub-if2 : tie.Need-sub-if2
-sub-if2 c = search needs
-
 returns-2 : tie.Need-returns-2
 returns-2 c =
     let a = c .before .before .before .before .args in
     let k = kept (a .out .now) (a .at) (bytes (a .a) (a .names .now)) (search needs) in
     (k .0, (k .1, short (bytes (a .a) (a .names .now)) _ (c .before .before .answer-length .ensures)))
-
-put-answer-requires : tie.Need-put-answer-requires
-put-answer-requires c κs = search needs
-
-slice-write-out : tie.Need-slice-write-out
-slice-write-out c = search needs
-
-add-t7 : tie.Need-add-t7
-add-t7 c = search needs
-
-same-length : tie.Need-same-length
-same-length c = search needs
 
 returns-3 : tie.Need-returns-3
 returns-3 c =
@@ -59,12 +41,12 @@ pub put-spec : {M : Type 1} → statement M
 put-spec =
     tie.close
     (tie.spec
-    answer-length-requires
+    (λ c κs. search needs)
     returns
-    sub-if2
+    (λ c. search needs)
     returns-2
-    put-answer-requires
-    slice-write-out
-    add-t7
-    same-length
+    (λ c κs. search needs)
+    (λ c. search needs)
+    (λ c. search needs)
+    (λ c. search needs)
     returns-3)

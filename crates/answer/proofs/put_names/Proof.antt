@@ -15,9 +15,6 @@ Inv-loop out₀ at names count n p₀ j₀ out p j = (j ≤ n) × ((at + length 
 abbrev μ-loop : tie.MeasureT-loop
 μ-loop out₀ at names count n p₀ j₀ out p j = n - j
 
-name-count-requires : tie.Need-name-count-requires Inv-loop μ-loop
-name-count-requires c κs = search needs
-
 loop-holds : tie.Need-loop-holds Inv-loop μ-loop
 loop-holds c = let a = c .before .before .args in
     let e = ap length (names-start (c .name-count .result) (a .count) (a .names .now) (c .name-count .ensures .0)) in
@@ -33,37 +30,10 @@ add-put-name c = let n = c .before .before .before .name-count .result in
     let names = c .before .before .before .before .before .args .names .now in
     omega (arith, names-longer n names (c .before .before .loop .j) (search needs))
 
-mul-put-name : tie.Need-mul-put-name Inv-loop μ-loop
-mul-put-name c = search needs
-
-mul-put-name-2 : tie.Need-mul-put-name-2 Inv-loop μ-loop
-mul-put-name-2 c = search needs
-
-element-copy-out-put-name : tie.Need-element-copy-out-put-name Inv-loop μ-loop
-element-copy-out-put-name c = search needs
-
-mul-put-name-3 : tie.Need-mul-put-name-3 Inv-loop μ-loop
-mul-put-name-3 c = search needs
-
-add-put-name-2 : tie.Need-add-put-name-2 Inv-loop μ-loop
-add-put-name-2 c = search needs
-
-mul-put-name-4 : tie.Need-mul-put-name-4 Inv-loop μ-loop
-mul-put-name-4 c = search needs
-
-element-copy-out-put-name-2 : tie.Need-element-copy-out-put-name-2 Inv-loop μ-loop
-element-copy-out-put-name-2 c = search needs
-
 put-name-requires : tie.Need-put-name-requires Inv-loop μ-loop
 put-name-requires c κs = let n = c .before .before .before .before .before .name-count .result in
     let names = c .before .before .before .before .before .before .before .args .names .now in
     simp length-set (omega (arith, names-longer n names (c .before .before .before .before .loop .j) (search needs)))
-
-add-j : tie.Need-add-j Inv-loop μ-loop
-add-j c = search needs
-
-loop-less : tie.Need-loop-less Inv-loop μ-loop
-loop-less c = search needs
 
 loop-again : tie.Need-loop-again Inv-loop μ-loop
 loop-again c = let n = c .before .before .before .before .before .before .before .before .name-count .result in
@@ -92,20 +62,20 @@ put-names-spec =
     (tie.spec
     Inv-loop
     μ-loop
-    name-count-requires
+    (λ c κs. search needs)
     loop-holds
     slice-write-out
     add-put-name
-    mul-put-name
-    mul-put-name-2
-    element-copy-out-put-name
-    mul-put-name-3
-    add-put-name-2
-    mul-put-name-4
-    element-copy-out-put-name-2
+    (λ c. search needs)
+    (λ c. search needs)
+    (λ c. search needs)
+    (λ c. search needs)
+    (λ c. search needs)
+    (λ c. search needs)
+    (λ c. search needs)
     put-name-requires
-    add-j
-    loop-less
+    (λ c. search needs)
+    (λ c. search needs)
     loop-again
     same-length
     returns)

@@ -31,29 +31,14 @@ Inv-loop out₀ at k end p₀ v₀ out p v = (p + 1 ≡ at + length (decimal v))
 abbrev μ-loop : tie.MeasureT-loop
 μ-loop out₀ at k end p₀ v₀ out p v = v
 
-digit-count-requires : tie.Need-digit-count-requires Inv-loop μ-loop
-digit-count-requires c κs = search needs
-
-add-end : tie.Need-add-end Inv-loop μ-loop
-add-end c = search needs
-
 sub-p : tie.Need-sub-p Inv-loop μ-loop
 sub-p c = omega (arith, decimal-some (c .before .before .args .k))
 
 loop-holds : tie.Need-loop-holds Inv-loop μ-loop
 loop-holds c = let o = decimal-some (c .before .before .args .k) in (omega arith, (omega arith, (refl, refl)))
 
-digit-requires : tie.Need-digit-requires Inv-loop μ-loop
-digit-requires c κs = search needs
-
-slice-write-out : tie.Need-slice-write-out Inv-loop μ-loop
-slice-write-out c = search needs
-
 sub-p-2 : tie.Need-sub-p-2 Inv-loop μ-loop
 sub-p-2 c = let L = c .before .before .loop in omega (arith, decimal-longer (L .v) (search needs), decimal-some (L .v / 10))
-
-loop-less : tie.Need-loop-less Inv-loop μ-loop
-loop-less c = search needs
 
 loop-again : tie.Need-loop-again Inv-loop μ-loop
 loop-again c = let L = c .before .before .loop in
@@ -70,15 +55,6 @@ loop-again c = let L = c .before .before .loop in
       ),
     )
 
-digit-requires-2 : tie.Need-digit-requires-2 Inv-loop μ-loop
-digit-requires-2 c κs = search needs
-
-slice-write-out-2 : tie.Need-slice-write-out-2 Inv-loop μ-loop
-slice-write-out-2 c = search needs
-
-same-length : tie.Need-same-length Inv-loop μ-loop
-same-length c = search needs
-
 returns : tie.Need-returns Inv-loop μ-loop
 returns c = let L = c .before .before .loop in
     record {
@@ -93,16 +69,16 @@ put-number-spec =
     (tie.spec
     Inv-loop
     μ-loop
-    digit-count-requires
-    add-end
+    (λ c κs. search needs)
+    (λ c. search needs)
     sub-p
     loop-holds
-    digit-requires
-    slice-write-out
+    (λ c κs. search needs)
+    (λ c. search needs)
     sub-p-2
-    loop-less
+    (λ c. search needs)
     loop-again
-    digit-requires-2
-    slice-write-out-2
-    same-length
+    (λ c κs. search needs)
+    (λ c. search needs)
+    (λ c. search needs)
     returns)

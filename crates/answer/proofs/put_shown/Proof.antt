@@ -8,9 +8,6 @@ use Rattle.answer.specs.Names.{shown-parts, shown-length}
 use Rattle.answer.proofs.put_shown.Statement.{statement}
 use Rattle.answer.proofs.put_shown.Tie as tie
 
-slice-aggregate-put-field : tie.Need-slice-aggregate-put-field
-slice-aggregate-put-field c = search needs
-
 put-field-requires : tie.Need-put-field-requires
 put-field-requires c κs = let a = c .before .before .before .args in omega (arith, shown-length (a .v) (a .u) (a .k))
 
@@ -34,7 +31,7 @@ pub put-shown-spec : {M : Type 1} → statement M
 put-shown-spec =
     tie.close
     (tie.spec
-    slice-aggregate-put-field
+    (λ c. search needs)
     put-field-requires
     slice-write-out
     add-put-name

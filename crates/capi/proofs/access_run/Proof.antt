@@ -4,18 +4,6 @@ use borrow.Author.Needs.{needs}
 use Rattle.capi.proofs.access_run.Statement.{statement}
 use Rattle.capi.proofs.access_run.Tie as tie
 
-start-requires : tie.Need-start-requires
-start-requires c κs = search needs
-
-enum-told : tie.Need-enum-told
-enum-told c = search needs
-
-enum-told-2 : tie.Need-enum-told-2
-enum-told-2 c = search needs
-
-enum-told-3 : tie.Need-enum-told-3
-enum-told-3 c = search needs
-
 run-from-requires : tie.Need-run-from-requires
 run-from-requires c κs =
     let l = c .before .before .before .before .before .before .before .before .before .start in
@@ -34,15 +22,6 @@ returns-2 c =
     let l = c .before .before .before .start in
     call-broken (a .image .now) (a .schedule .now) (a .answers .now) (a .image-out .now) (a .lengths .now) (l .result .answer) (l .result .table) (l .ensures) (c .enum-told2 .given .1)
 
-same-length : tie.Need-same-length
-same-length c = search needs
-
-same-length-2 : tie.Need-same-length-2
-same-length-2 c = search needs
-
-same-length-3 : tie.Need-same-length-3
-same-length-3 c = search needs
-
 returns-3 : tie.Need-returns-3
 returns-3 c =
     let a = c .before .before .before .before .before .before .before .before .before .before .before .before .before .before .before .before .before .before .before .before .before .before .args in
@@ -54,14 +33,14 @@ pub access-run-spec : {M : Type 1} → statement M
 access-run-spec =
     tie.close
     (tie.spec
-    start-requires
-    enum-told
-    enum-told-2
-    enum-told-3
+    (λ c κs. search needs)
+    (λ c. search needs)
+    (λ c. search needs)
+    (λ c. search needs)
     run-from-requires
     returns
     returns-2
-    same-length
-    same-length-2
-    same-length-3
+    (λ c. search needs)
+    (λ c. search needs)
+    (λ c. search needs)
     returns-3)

@@ -18,9 +18,6 @@ add-all c =
     let l = q .lines .ensures (p .0 .session) (p .0 .holds) in
     record { fits = lined-sum l (p .1 .1 .0) (q .before .before .before .before .before .before .before .before .before .good .0 .1) }
 
-same-length : tie.Need-same-length
-same-length c = search needs
-
 returns : tie.Need-returns
 returns c z w h b =
     let q = c .before .before .before .before .before in
@@ -37,9 +34,6 @@ image-size-requires c κs =
     let l = q .lines .ensures (p .0 .session) (p .0 .holds) in
     let a = q .before .before .before .before .before .before .before .before .before .args in
     record { session = sessionFrom (p .0 .session) (a .text .now) (a .at); cells = q .lines .last .1 .0; opens = q .lines .last .1 .1 .0; holds = l .holds }
-
-same-length-2 : tie.Need-same-length-2
-same-length-2 c = search needs
 
 returns-2 : tie.Need-returns-2
 returns-2 c z w h b =
@@ -68,15 +62,6 @@ slice-write-lengths c = omega (arith, c .before .before .before .before .before 
 slice-write-lengths-2 : tie.Need-slice-write-lengths-2
 slice-write-lengths-2 c = simp length-set (omega (arith, c .before .before .before .before .before .before .before .before .before .before .before .before .before .before .before .before .before .before .before .before .before .before .before .before .before .before .pre .1 .1 .1))
 
-same-length-3 : tie.Need-same-length-3
-same-length-3 c = search needs
-
-same-length-4 : tie.Need-same-length-4
-same-length-4 c = search needs
-
-same-length-5 : tie.Need-same-length-5
-same-length-5 c = search needs
-
 returns-3 : tie.Need-returns-3
 returns-3 c z w h b =
     let q = c .before .before .before .before .before .before .before .before .before .before .before .before .before .before .before .before .before in
@@ -97,16 +82,16 @@ finish-spec =
     (tie.spec
     lines-requires
     add-all
-    same-length
+    (λ c. search needs)
     returns
     image-size-requires
-    same-length-2
+    (λ c. search needs)
     returns-2
     put-answers-requires
     save-image-requires
     slice-write-lengths
     slice-write-lengths-2
-    same-length-3
-    same-length-4
-    same-length-5
+    (λ c. search needs)
+    (λ c. search needs)
+    (λ c. search needs)
     returns-3)

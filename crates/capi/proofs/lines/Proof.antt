@@ -29,9 +29,6 @@ put-out c =
     (λ w. rw (w .0 .left) (w .1))
     (c .if1 .came)
 
-part-room-requires : tie.Need-part-room-requires Inv-loop μ-loop
-part-room-requires c κs = search needs
-
 loop-holds : tie.Need-loop-holds Inv-loop μ-loop
 loop-holds c = (c .part-room .ensures, λ z h. lining-start h)
 
@@ -99,7 +96,7 @@ lines-spec =
     (tie.spec
     Inv-loop
     μ-loop
-    part-room-requires
+    (λ c κs. search needs)
     loop-holds
     slice-aggregate-run
     run-requires

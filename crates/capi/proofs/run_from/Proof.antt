@@ -14,33 +14,12 @@ returns-2 c z h =
     let a = c .before .before .before .before .before .before .args in
     run-refused z (a .text .now) (a .answers .now) (a .image-out .now) (a .lengths .now) (λ m. omega (arith, m .lengths-room, c .if2 .taken))
 
-kept-room-requires : tie.Need-kept-room-requires
-kept-room-requires c κs = search needs
-
-slice-aggregate-run : tie.Need-slice-aggregate-run
-slice-aggregate-run c = search needs
-
-run-requires : tie.Need-run-requires
-run-requires c κs = search needs
-
-slice-aggregate-finish : tie.Need-slice-aggregate-finish
-slice-aggregate-finish c = search needs
-
 finish-requires : tie.Need-finish-requires
 finish-requires c κs =
     let p = c .before .before .before .before .before .before .before .before .before .before .before .before .before .before .before .before .before .pre in
     let u = c .before .before .before .before .before .before .run in
     let r = u .ensures (p .session) (p .holds) in
     (record { session = r .session; holds = r .holds }, (omega (arith, c .before .before .before .before .before .before .before .before .before .before .before .before .if1 .left), (omega (arith, r .len-is, r .fits, u .kept), c .before .before .before .before .before .before .before .before .before .before .before .if2 .left)))
-
-same-length : tie.Need-same-length
-same-length c = search needs
-
-same-length-2 : tie.Need-same-length-2
-same-length-2 c = search needs
-
-same-length-3 : tie.Need-same-length-3
-same-length-3 c = search needs
 
 returns-3 : tie.Need-returns-3
 returns-3 c z h =
@@ -53,12 +32,12 @@ run-from-spec =
     (tie.spec
     returns
     returns-2
-    kept-room-requires
-    slice-aggregate-run
-    run-requires
-    slice-aggregate-finish
+    (λ c κs. search needs)
+    (λ c. search needs)
+    (λ c κs. search needs)
+    (λ c. search needs)
     finish-requires
-    same-length
-    same-length-2
-    same-length-3
+    (λ c. search needs)
+    (λ c. search needs)
+    (λ c. search needs)
     returns-3)

@@ -20,55 +20,15 @@ Inv-loop at cells i q b₀ j₀ b j = (j ≤ 25) × (b ≡ sets b₀ 4 (cat (cel
 abbrev μ-loop : tie.MeasureT-loop
 μ-loop at cells i q b₀ j₀ b j = 25 - j
 
--- src/lib.rt:197:5
-put-head-requires : tie.Need-put-head-requires Inv-loop μ-loop
-put-head-requires c κs = search needs
-
 -- src/lib.rt:199:5
 loop-holds : tie.Need-loop-holds Inv-loop μ-loop
 unfolding cat
 loop-holds c = search needs
 
--- src/lib.rt:200:35
-mul-cell-or : tie.Need-mul-cell-or Inv-loop μ-loop
-mul-cell-or c = search needs
-
--- src/lib.rt:200:35
-add-cell-or : tie.Need-add-cell-or Inv-loop μ-loop
-add-cell-or c = search needs
-
--- src/lib.rt:200:13
-cell-or-requires : tie.Need-cell-or-requires Inv-loop μ-loop
-cell-or-requires c κs = search needs
-
--- src/lib.rt:201:30
-mul-put-cell : tie.Need-mul-put-cell Inv-loop μ-loop
-mul-put-cell c = search needs
-
--- src/lib.rt:201:26
-add-put-cell : tie.Need-add-put-cell Inv-loop μ-loop
-add-put-cell c = search needs
-
--- src/lib.rt:201:9
-put-cell-requires : tie.Need-put-cell-requires Inv-loop μ-loop
-put-cell-requires c κs = search needs
-
--- src/lib.rt:202:9
-add-j : tie.Need-add-j Inv-loop μ-loop
-add-j c = search needs
-
--- src/lib.rt:199:5
-loop-less : tie.Need-loop-less Inv-loop μ-loop
-loop-less c = search needs
-
 -- src/lib.rt:199:5
 loop-again : tie.Need-loop-again Inv-loop μ-loop
 loop-again c = let L = c .before .before .before .before .loop in let A = c .before .before .before .before .before .before .before .args in
     (search needs, one-more (cellPiece (A .cells .now) (A .i) (A .q)) 20 (length-cellPiece (A .cells .now) (A .i) (A .q)) (c .before .before .before .before .before .put-head .last .0) (L .b) (c .put-cell .last .0) _ 4 (L .j) (4 + 20 * L .j) (L .inv .1) refl (c .before .before .cell-or .ensures .bytes) (c .put-cell .ensures))
-
--- src/lib.rt:204:5
-seal-requires : tie.Need-seal-requires Inv-loop μ-loop
-seal-requires c κs = search needs
 
 -- src/lib.rt:192:1
 returns : tie.Need-returns Inv-loop μ-loop
@@ -82,16 +42,16 @@ cell-block-spec =
     (tie.spec
     Inv-loop
     μ-loop
-    put-head-requires
+    (λ c κs. search needs)
     loop-holds
-    mul-cell-or
-    add-cell-or
-    cell-or-requires
-    mul-put-cell
-    add-put-cell
-    put-cell-requires
-    add-j
-    loop-less
+    (λ c. search needs)
+    (λ c. search needs)
+    (λ c κs. search needs)
+    (λ c. search needs)
+    (λ c. search needs)
+    (λ c κs. search needs)
+    (λ c. search needs)
+    (λ c. search needs)
     loop-again
-    seal-requires
+    (λ c κs. search needs)
     returns)

@@ -18,30 +18,6 @@ use Rattle.image.proofs.put_head.Reads as put-head-reads
 use Rattle.image.proofs.put_words.Reads as put-words-reads
 use Rattle.image.proofs.seal.Reads as seal-reads
 
--- src/lib.rt:144:5
-put-head-requires : tie.Need-put-head-requires
-put-head-requires c κs = search needs
-
--- src/lib.rt:145:12
-byte-requires : tie.Need-byte-requires
-byte-requires c κs = search needs
-
--- src/lib.rt:145:5
-array-write-b : tie.Need-array-write-b
-array-write-b c = search needs
-
--- src/lib.rt:147:5
-put-words-requires : tie.Need-put-words-requires
-put-words-requires c κs = search needs
-
--- src/lib.rt:150:5
-put-words-requires-2 : tie.Need-put-words-requires-2
-put-words-requires-2 c κs = search needs
-
--- src/lib.rt:151:5
-seal-requires : tie.Need-seal-requires
-seal-requires c κs = search needs
-
 -- src/lib.rt:139:1
 returns : tie.Need-returns
 returns c = let A = c .before .before .before .before .before .before .before .before .before .before .before .before .args in
@@ -52,10 +28,10 @@ pub desk-block-spec : {M : Type 1} → statement M
 desk-block-spec =
     tie.close
     (tie.spec
-    put-head-requires
-    byte-requires
-    array-write-b
-    put-words-requires
-    put-words-requires-2
-    seal-requires
+    (λ c κs. search needs)
+    (λ c κs. search needs)
+    (λ c. search needs)
+    (λ c κs. search needs)
+    (λ c κs. search needs)
+    (λ c κs. search needs)
     returns)

@@ -18,41 +18,9 @@ Inv-loop n u desks r₀ i₀ r i = (i ≤ n) × (r ≡ least (appliedM desks (su
 abbrev μ-loop : tie.MeasureT-loop
 μ-loop n u desks r₀ i₀ r i = n - i
 
--- src/lib.rt:348:9
-own-count-requires : tie.Need-own-count-requires Inv-loop μ-loop
-own-count-requires c κs = search needs
-
 -- src/lib.rt:350:5
 loop-holds : tie.Need-loop-holds Inv-loop μ-loop
 loop-holds c = (search needs, low-start _ _ _ (c .own-count .ensures ∙ count-at _ _ _))
-
--- src/lib.rt:351:17
-mul-d : tie.Need-mul-d Inv-loop μ-loop
-mul-d c = search needs
-
--- src/lib.rt:351:17
-array-copy-out-d : tie.Need-array-copy-out-d Inv-loop μ-loop
-array-copy-out-d c = search needs
-
--- src/lib.rt:353:21
-mul-smaller : tie.Need-mul-smaller Inv-loop μ-loop
-mul-smaller c = search needs
-
--- src/lib.rt:353:21
-array-read-smaller : tie.Need-array-read-smaller Inv-loop μ-loop
-array-read-smaller c = search needs
-
--- src/lib.rt:353:9
-smaller-requires : tie.Need-smaller-requires Inv-loop μ-loop
-smaller-requires c κs = search needs
-
--- src/lib.rt:354:9
-add-i : tie.Need-add-i Inv-loop μ-loop
-add-i c = search needs
-
--- src/lib.rt:350:5
-loop-less : tie.Need-loop-less Inv-loop μ-loop
-loop-less c = search needs
 
 -- src/lib.rt:350:5
 loop-again : tie.Need-loop-again Inv-loop μ-loop
@@ -70,14 +38,14 @@ lowest-spec =
     (tie.spec
     Inv-loop
     μ-loop
-    own-count-requires
+    (λ c κs. search needs)
     loop-holds
-    mul-d
-    array-copy-out-d
-    mul-smaller
-    array-read-smaller
-    smaller-requires
-    add-i
-    loop-less
+    (λ c. search needs)
+    (λ c. search needs)
+    (λ c. search needs)
+    (λ c. search needs)
+    (λ c κs. search needs)
+    (λ c. search needs)
+    (λ c. search needs)
     loop-again
     returns)

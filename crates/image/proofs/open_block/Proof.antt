@@ -21,55 +21,15 @@ Inv-loop at opens order count q b₀ j₀ b j = (j ≤ 18) × (b ≡ sets b₀ 4
 abbrev μ-loop : tie.MeasureT-loop
 μ-loop at opens order count q b₀ j₀ b j = 18 - j
 
--- src/lib.rt:233:5
-put-head-requires : tie.Need-put-head-requires Inv-loop μ-loop
-put-head-requires c κs = search needs
-
 -- src/lib.rt:235:5
 loop-holds : tie.Need-loop-holds Inv-loop μ-loop
 unfolding cat
 loop-holds c = search needs
 
--- src/lib.rt:236:46
-mul-open-or : tie.Need-mul-open-or Inv-loop μ-loop
-mul-open-or c = search needs
-
--- src/lib.rt:236:46
-add-open-or : tie.Need-add-open-or Inv-loop μ-loop
-add-open-or c = search needs
-
--- src/lib.rt:236:13
-open-or-requires : tie.Need-open-or-requires Inv-loop μ-loop
-open-or-requires c κs = search needs
-
--- src/lib.rt:237:30
-mul-put-open : tie.Need-mul-put-open Inv-loop μ-loop
-mul-put-open c = search needs
-
--- src/lib.rt:237:26
-add-put-open : tie.Need-add-put-open Inv-loop μ-loop
-add-put-open c = search needs
-
--- src/lib.rt:237:9
-put-open-requires : tie.Need-put-open-requires Inv-loop μ-loop
-put-open-requires c κs = search needs
-
--- src/lib.rt:238:9
-add-j : tie.Need-add-j Inv-loop μ-loop
-add-j c = search needs
-
--- src/lib.rt:235:5
-loop-less : tie.Need-loop-less Inv-loop μ-loop
-loop-less c = search needs
-
 -- src/lib.rt:235:5
 loop-again : tie.Need-loop-again Inv-loop μ-loop
 loop-again c = let L = c .before .before .before .before .loop in let A = c .before .before .before .before .before .before .before .args in
     (search needs, one-more (openPiece (A .opens .now) (A .order .now) (A .count) (A .q)) 28 (length-openPiece (A .opens .now) (A .order .now) (A .count) (A .q)) (c .before .before .before .before .before .put-head .last .0) (L .b) (c .put-open .last .0) _ 4 (L .j) (4 + 28 * L .j) (L .inv .1) refl (ap openRaw (c .before .before .open-or .ensures .is)) (c .put-open .ensures))
-
--- src/lib.rt:240:5
-seal-requires : tie.Need-seal-requires Inv-loop μ-loop
-seal-requires c κs = search needs
 
 -- src/lib.rt:228:1
 returns : tie.Need-returns Inv-loop μ-loop
@@ -83,16 +43,16 @@ open-block-spec =
     (tie.spec
     Inv-loop
     μ-loop
-    put-head-requires
+    (λ c κs. search needs)
     loop-holds
-    mul-open-or
-    add-open-or
-    open-or-requires
-    mul-put-open
-    add-put-open
-    put-open-requires
-    add-j
-    loop-less
+    (λ c. search needs)
+    (λ c. search needs)
+    (λ c κs. search needs)
+    (λ c. search needs)
+    (λ c. search needs)
+    (λ c κs. search needs)
+    (λ c. search needs)
+    (λ c. search needs)
     loop-again
-    seal-requires
+    (λ c κs. search needs)
     returns)

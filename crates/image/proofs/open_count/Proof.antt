@@ -26,37 +26,9 @@ loop-holds : tie.Need-loop-holds Inv-loop μ-loop
 unfolding cat
 loop-holds c = search needs
 
--- src/lib.rt:367:26
-own-count-requires : tie.Need-own-count-requires Inv-loop μ-loop
-own-count-requires c κs = search needs
-
--- src/lib.rt:367:13
-number-requires : tie.Need-number-requires Inv-loop μ-loop
-number-requires c κs = search needs
-
--- src/lib.rt:368:25
-lowest-requires : tie.Need-lowest-requires Inv-loop μ-loop
-lowest-requires c κs = search needs
-
--- src/lib.rt:368:13
-number-requires-2 : tie.Need-number-requires-2 Inv-loop μ-loop
-number-requires-2 c κs = search needs
-
 -- src/lib.rt:369:18
 sub-r : tie.Need-sub-r Inv-loop μ-loop
 sub-r c = let A = (c .before .before .before .before .before .before .args) in let L = (c .before .before .before .before .before .loop) in omega (arith, c .before .before .before .own-count .ensures, c .before .lowest .ensures, c .before .before .number .ensures .0, c .number2 .ensures .0, low-own (A .n) (appliedM (A .desks)) (suc (L .u)))
-
--- src/lib.rt:369:13
-add-r : tie.Need-add-r Inv-loop μ-loop
-add-r c = search needs
-
--- src/lib.rt:370:9
-add-u : tie.Need-add-u Inv-loop μ-loop
-add-u c = search needs
-
--- src/lib.rt:366:5
-loop-less : tie.Need-loop-less Inv-loop μ-loop
-loop-less c = search needs
 
 -- src/lib.rt:366:5
 loop-again : tie.Need-loop-again Inv-loop μ-loop
@@ -77,13 +49,13 @@ open-count-spec =
     Inv-loop
     μ-loop
     loop-holds
-    own-count-requires
-    number-requires
-    lowest-requires
-    number-requires-2
+    (λ c κs. search needs)
+    (λ c κs. search needs)
+    (λ c κs. search needs)
+    (λ c κs. search needs)
     sub-r
-    add-r
-    add-u
-    loop-less
+    (λ c. search needs)
+    (λ c. search needs)
+    (λ c. search needs)
     loop-again
     returns)

@@ -55,10 +55,6 @@ add-u : tie.Need-add-u Inv-loop μ-loop
 add-u c = let d = c .before .before .before .before .before .before .before .before .before .pre .1 .desks in omega arith
 
 -- src/lib.rt:402:5
-loop-less : tie.Need-loop-less Inv-loop μ-loop
-loop-less c = search needs
-
--- src/lib.rt:402:5
 loop-again : tie.Need-loop-again Inv-loop μ-loop
 loop-again c = let L = (c .before .before .before .before .before .before .before .loop) in let A = (c .before .before .before .before .before .before .before .before .before .args) in (
   search needs,
@@ -67,10 +63,6 @@ loop-again c = let L = (c .before .before .before .before .before .before .befor
     c .before .before .order-of .ensures .long ∙ L .inv .1 .1,
   ),
 )
-
--- src/lib.rt:396:1
-same-length : tie.Need-same-length Inv-loop μ-loop
-same-length c = search needs
 
 -- src/lib.rt:396:1
 returns : tie.Need-returns Inv-loop μ-loop
@@ -89,7 +81,7 @@ order-all-spec =
     add-order-of
     order-of-requires
     add-u
-    loop-less
+    (λ c. search needs)
     loop-again
-    same-length
+    (λ c. search needs)
     returns)

@@ -22,49 +22,9 @@ abbrev μ-loop : tie.MeasureT-loop
 loop-holds : tie.Need-loop-holds Inv-loop μ-loop
 loop-holds c = (search needs, (search needs, listed-none _ _ _ _ _))
 
--- src/lib.rt:384:43
-add-find : tie.Need-add-find Inv-loop μ-loop
-add-find c = search needs
-
--- src/lib.rt:384:13
-find-requires : tie.Need-find-requires Inv-loop μ-loop
-find-requires c κs = search needs
-
--- src/lib.rt:385:23
-enum-known-found : tie.Need-enum-known-found Inv-loop μ-loop
-enum-known-found c = search needs
-
--- src/lib.rt:386:13
-enum-told : tie.Need-enum-told Inv-loop μ-loop
-enum-told c = search needs
-
--- src/lib.rt:386:13
-same-length : tie.Need-same-length Inv-loop μ-loop
-same-length c = search needs
-
 -- src/lib.rt:386:13
 returns : tie.Need-returns Inv-loop μ-loop
 returns c = let L = (c .before .before .before .before .loop) in let A = (c .before .before .before .before .before .before .args) in absurd (c .before .before .before .before .before .before .pre .1 (L .k + 1) (omega arith) (omega arith) (found-none (A .opens .now) (A .u) (L .k + 1) (c .before .before .find .result) (c .before .before .find .ensures) (c .enum-told .given .1)))
-
--- src/lib.rt:388:9
-mul-order : tie.Need-mul-order Inv-loop μ-loop
-mul-order c = search needs
-
--- src/lib.rt:388:9
-slice-write-order : tie.Need-slice-write-order Inv-loop μ-loop
-slice-write-order c = search needs
-
--- src/lib.rt:389:9
-add-at : tie.Need-add-at Inv-loop μ-loop
-add-at c = search needs
-
--- src/lib.rt:390:9
-add-k : tie.Need-add-k Inv-loop μ-loop
-add-k c = search needs
-
--- src/lib.rt:383:5
-loop-less : tie.Need-loop-less Inv-loop μ-loop
-loop-less c = search needs
 
 -- src/lib.rt:383:5
 loop-again : tie.Need-loop-again Inv-loop μ-loop
@@ -73,10 +33,6 @@ loop-again c = let L = (c .before .before .before .before .before .loop) in let 
     let b = L .inv .1 .1 .behind in
     let l = L .inv .1 .1 .long in
     (omega arith, (omega arith, listed-more (A .opens .now) (A .u) (A .lo) (L .k) (A .p) (A .order .now) (L .order) (L .at) e (L .inv .1 .1) (L .inv .0) (omega arith) f))
-
--- src/lib.rt:376:1
-same-length-2 : tie.Need-same-length-2 Inv-loop μ-loop
-same-length-2 c = search needs
 
 -- src/lib.rt:376:1
 returns-2 : tie.Need-returns-2 Inv-loop μ-loop
@@ -89,17 +45,17 @@ order-of-spec =
     Inv-loop
     μ-loop
     loop-holds
-    add-find
-    find-requires
-    enum-known-found
-    enum-told
-    same-length
+    (λ c. search needs)
+    (λ c κs. search needs)
+    (λ c. search needs)
+    (λ c. search needs)
+    (λ c. search needs)
     returns
-    mul-order
-    slice-write-order
-    add-at
-    add-k
-    loop-less
+    (λ c. search needs)
+    (λ c. search needs)
+    (λ c. search needs)
+    (λ c. search needs)
+    (λ c. search needs)
     loop-again
-    same-length-2
+    (λ c. search needs)
     returns-2)

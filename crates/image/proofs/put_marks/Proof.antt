@@ -24,33 +24,9 @@ loop-holds : tie.Need-loop-holds Inv-loop μ-loop
 unfolding tab tabFrom
 loop-holds c = search needs
 
--- src/lib.rt:98:26
-mul-byte : tie.Need-mul-byte Inv-loop μ-loop
-mul-byte c = search needs
-
--- src/lib.rt:98:26
-array-read-byte : tie.Need-array-read-byte Inv-loop μ-loop
-array-read-byte c = search needs
-
 -- src/lib.rt:98:21
 byte-requires : tie.Need-byte-requires Inv-loop μ-loop
 byte-requires c κs = c .before .before .pre .1 (c .before .loop .t)
-
--- src/lib.rt:98:11
-add-b : tie.Need-add-b Inv-loop μ-loop
-add-b c = search needs
-
--- src/lib.rt:98:9
-element-write-b : tie.Need-element-write-b Inv-loop μ-loop
-element-write-b c = search needs
-
--- src/lib.rt:99:9
-add-t : tie.Need-add-t Inv-loop μ-loop
-add-t c = search needs
-
--- src/lib.rt:97:5
-loop-less : tie.Need-loop-less Inv-loop μ-loop
-loop-less c = search needs
 
 -- src/lib.rt:97:5
 loop-again : tie.Need-loop-again Inv-loop μ-loop
@@ -69,12 +45,12 @@ put-marks-spec =
     Inv-loop
     μ-loop
     loop-holds
-    mul-byte
-    array-read-byte
+    (λ c. search needs)
+    (λ c. search needs)
     byte-requires
-    add-b
-    element-write-b
-    add-t
-    loop-less
+    (λ c. search needs)
+    (λ c. search needs)
+    (λ c. search needs)
+    (λ c. search needs)
     loop-again
     returns)

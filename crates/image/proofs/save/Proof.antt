@@ -13,10 +13,6 @@ use Rattle.image.proofs.image_length.Reads as image-length-reads
 use Rattle.image.proofs.save_parts.Reads as save-parts-reads
 use Rattle.rules.proofs.keeps_rules.Reads as keeps-rules-reads
 
--- src/lib.rt:535:9
-keeps-rules-requires : tie.Need-keeps-rules-requires
-keeps-rules-requires c κs = search needs
-
 -- src/lib.rt:536:9
 returns : tie.Need-returns
 returns c = by-rule (λ s. apart (c .before .keeps-rules .result) (c .before .keeps-rules .ensures .from s) (not-true _ (c .if1 .taken))) refl
@@ -34,10 +30,6 @@ save-parts-requires : tie.Need-save-parts-requires
 save-parts-requires c κs = let A = (c .before .before .before .before .before .before .before .before .before .before .before .before .before .args) in let t = A .t in let S = c .before .before .before .before .before .before .keeps-rules .ensures .to (not-false _ (c .before .before .before .before .before .if1 .left)) in (S, omega (arith, length-is (t .core .n) (t .core .m) (t .core .desks) (t .cells) (t .opens) S, c .before .before .before .before .image-length .ensures, c .before .before .before .if2 .left))
 
 -- src/lib.rt:529:1
-same-length : tie.Need-same-length
-same-length c = search needs
-
--- src/lib.rt:529:1
 returns-3 : tie.Need-returns-3
 returns-3 c = let A = (c .before .before .before .before .before .before .before .before .before .before .before .before .before .before .before .before .args) in let t = A .t in let S = c .before .before .before .before .before .before .before .before .before .keeps-rules .ensures .to (not-false _ (c .before .before .before .before .before .before .before .before .if1 .left)) in as-image (c .before .before .save-parts .result) S (omega (arith, length-is (t .core .n) (t .core .m) (t .core .desks) (t .cells) (t .opens) S, c .before .before .before .before .before .before .before .image-length .ensures, c .before .before .before .before .before .before .if2 .left)) (c .before .before .save-parts .ensures .stored) (c .before .before .save-parts .ensures .size)
 
@@ -45,10 +37,10 @@ pub save-spec : {M : Type 1} → statement M
 save-spec =
     tie.close
     (tie.spec
-    keeps-rules-requires
+    (λ c κs. search needs)
     returns
     image-length-requires
     returns-2
     save-parts-requires
-    same-length
+    (λ c. search needs)
     returns-3)

@@ -24,10 +24,6 @@ loop-holds : tie.Need-loop-holds Inv-loop μ-loop
 unfolding cat
 loop-holds c = search needs
 
--- src/lib.rt:294:23
-add-save-row : tie.Need-add-save-row Inv-loop μ-loop
-add-save-row c = search needs
-
 -- src/lib.rt:294:31
 mul-save-row : tie.Need-mul-save-row Inv-loop μ-loop
 mul-save-row c = let A = (c .before .before .before .before .args) in let L = (c .before .before .loop) in let r = row-room (A .n) (A .c) (L .i) (c .before .before .before .before .pre .1 .0) (c .before .before .before .before .pre .1 .1 .0) (c .before .loop-test .taken) in omega arith
@@ -41,24 +37,12 @@ save-row-requires : tie.Need-save-row-requires Inv-loop μ-loop
 save-row-requires c κs = let A = (c .before .before .before .before .args) in let L = (c .before .before .loop) in let r = row-room (A .n) (A .c) (L .i) (c .before .before .before .before .pre .1 .0) (c .before .before .before .before .pre .1 .1 .0) (c .before .loop-test .taken) in
     ((omega arith, c .before .before .before .before .pre .0), (c .before .before .before .before .pre .1 .1 .0, (omega arith, omega arith)))
 
--- src/lib.rt:295:9
-add-i : tie.Need-add-i Inv-loop μ-loop
-add-i c = search needs
-
--- src/lib.rt:293:5
-loop-less : tie.Need-loop-less Inv-loop μ-loop
-loop-less c = search needs
-
 -- src/lib.rt:293:5
 loop-again : tie.Need-loop-again Inv-loop μ-loop
 loop-again c = let L = (c .before .before .before .before .before .loop) in let A = (c .before .before .before .before .before .before .before .args) in
     let f = cellRow (A .cells .now) (A .n) (A .c) in
     let e = one-more f (512 * A .c) (length-cellRow (A .cells .now) (A .n) (A .c)) (A .out .now) (L .out) (c .before .before .save-row .last .0) (f (L .i)) (512 * (1 + A .n)) (L .i) (512 * (1 + A .n + A .c * L .i)) (L .inv .1 .0) (omega arith) refl (c .before .before .save-row .ensures) in
     (search needs, (e, ap length e ∙ length-sets (A .out .now) (512 * (1 + A .n)) (cat f (L .i + 1))))
-
--- src/lib.rt:288:1
-same-length : tie.Need-same-length Inv-loop μ-loop
-same-length c = search needs
 
 -- src/lib.rt:288:1
 returns : tie.Need-returns Inv-loop μ-loop
@@ -71,12 +55,12 @@ save-cells-spec =
     Inv-loop
     μ-loop
     loop-holds
-    add-save-row
+    (λ c. search needs)
     mul-save-row
     add-save-row-2
     save-row-requires
-    add-i
-    loop-less
+    (λ c. search needs)
+    (λ c. search needs)
     loop-again
-    same-length
+    (λ c. search needs)
     returns)

@@ -24,52 +24,12 @@ loop-holds : tie.Need-loop-holds Inv-loop μ-loop
 unfolding cat
 loop-holds c = search needs
 
--- src/lib.rt:266:17
-mul-d : tie.Need-mul-d Inv-loop μ-loop
-mul-d c = search needs
-
--- src/lib.rt:266:17
-array-copy-out-d : tie.Need-array-copy-out-d Inv-loop μ-loop
-array-copy-out-d c = search needs
-
--- src/lib.rt:267:18
-add-k : tie.Need-add-k Inv-loop μ-loop
-add-k c = search needs
-
--- src/lib.rt:267:17
-cast-k : tie.Need-cast-k Inv-loop μ-loop
-cast-k c = search needs
-
--- src/lib.rt:268:13
-desk-block-requires : tie.Need-desk-block-requires Inv-loop μ-loop
-desk-block-requires c κs = search needs
-
--- src/lib.rt:269:20
-add-store : tie.Need-add-store Inv-loop μ-loop
-add-store c = search needs
-
--- src/lib.rt:269:9
-store-requires : tie.Need-store-requires Inv-loop μ-loop
-store-requires c κs = search needs
-
--- src/lib.rt:270:9
-add-i : tie.Need-add-i Inv-loop μ-loop
-add-i c = search needs
-
--- src/lib.rt:265:5
-loop-less : tie.Need-loop-less Inv-loop μ-loop
-loop-less c = search needs
-
 -- src/lib.rt:265:5
 loop-again : tie.Need-loop-again Inv-loop μ-loop
 loop-again c = let L = (c .before .before .before .before .before .before .before .loop) in let A = (c .before .before .before .before .before .before .before .before .before .args) in
     let f = desk-block-is (A .t2) (L .i) (1 + L .i) (c .before .before .before .before .desk-block .result) refl (c .before .before .before .before .desk-block .ensures) in
     let e = one-more (deskBlock (A .t2)) 512 (length-deskBlock (A .t2)) (A .out .now) (L .out) (c .before .before .store .last .0) (c .before .before .before .before .desk-block .result) 512 (L .i) (512 * (1 + L .i)) (L .inv .1 .0) (omega arith) f (c .before .before .store .ensures) in
     (search needs, (e, ap length e ∙ length-sets (A .out .now) 512 (cat (deskBlock (A .t2)) (L .i + 1))))
-
--- src/lib.rt:260:1
-same-length : tie.Need-same-length Inv-loop μ-loop
-same-length c = search needs
 
 -- src/lib.rt:260:1
 returns : tie.Need-returns Inv-loop μ-loop
@@ -82,15 +42,15 @@ save-desks-spec =
     Inv-loop
     μ-loop
     loop-holds
-    mul-d
-    array-copy-out-d
-    add-k
-    cast-k
-    desk-block-requires
-    add-store
-    store-requires
-    add-i
-    loop-less
+    (λ c. search needs)
+    (λ c. search needs)
+    (λ c. search needs)
+    (λ c. search needs)
+    (λ c κs. search needs)
+    (λ c. search needs)
+    (λ c κs. search needs)
+    (λ c. search needs)
+    (λ c. search needs)
     loop-again
-    same-length
+    (λ c. search needs)
     returns)

@@ -24,44 +24,12 @@ loop-holds : tie.Need-loop-holds Inv-loop μ-loop
 unfolding cat
 loop-holds c = search needs
 
--- src/lib.rt:306:29
-add-open-block : tie.Need-add-open-block Inv-loop μ-loop
-add-open-block c = search needs
-
--- src/lib.rt:306:28
-cast-open-block : tie.Need-cast-open-block Inv-loop μ-loop
-cast-open-block c = search needs
-
--- src/lib.rt:306:13
-open-block-requires : tie.Need-open-block-requires Inv-loop μ-loop
-open-block-requires c κs = search needs
-
--- src/lib.rt:307:20
-add-store : tie.Need-add-store Inv-loop μ-loop
-add-store c = search needs
-
--- src/lib.rt:307:9
-store-requires : tie.Need-store-requires Inv-loop μ-loop
-store-requires c κs = search needs
-
--- src/lib.rt:308:9
-add-q : tie.Need-add-q Inv-loop μ-loop
-add-q c = search needs
-
--- src/lib.rt:305:5
-loop-less : tie.Need-loop-less Inv-loop μ-loop
-loop-less c = search needs
-
 -- src/lib.rt:305:5
 loop-again : tie.Need-loop-again Inv-loop μ-loop
 loop-again c = let L = (c .before .before .before .before .before .before .loop) in let A = (c .before .before .before .before .before .before .before .before .args) in
     let f = openBlock (A .opens .now) (A .order .now) (A .count) (A .k) in
     let e = one-more f 512 (length-openBlock (A .opens .now) (A .order .now) (A .count) (A .k)) (A .out .now) (L .out) (c .before .before .store .last .0) (c .before .before .before .before .open-block .result) (512 * A .k) (L .q) (512 * (A .k + L .q)) (L .inv .1 .0) (omega arith) (c .before .before .before .before .open-block .ensures) (c .before .before .store .ensures) in
     (search needs, (e, ap length e ∙ length-sets (A .out .now) (512 * A .k) (cat f (L .q + 1))))
-
--- src/lib.rt:300:1
-same-length : tie.Need-same-length Inv-loop μ-loop
-same-length c = search needs
 
 -- src/lib.rt:300:1
 returns : tie.Need-returns Inv-loop μ-loop
@@ -74,13 +42,13 @@ save-opens-spec =
     Inv-loop
     μ-loop
     loop-holds
-    add-open-block
-    cast-open-block
-    open-block-requires
-    add-store
-    store-requires
-    add-q
-    loop-less
+    (λ c. search needs)
+    (λ c. search needs)
+    (λ c κs. search needs)
+    (λ c. search needs)
+    (λ c κs. search needs)
+    (λ c. search needs)
+    (λ c. search needs)
     loop-again
-    same-length
+    (λ c. search needs)
     returns)

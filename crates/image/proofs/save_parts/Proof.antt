@@ -19,10 +19,6 @@ use Rattle.image.proofs.save_opens.Reads as save-opens-reads
 use Rattle.image.proofs.size_block.Reads as size-block-reads
 use Rattle.image.proofs.store.Reads as store-reads
 
--- src/lib.rt:471:44
-slice-aggregate-order-all : tie.Need-slice-aggregate-order-all
-slice-aggregate-order-all c = search needs
-
 -- src/lib.rt:471:9
 order-all-requires : tie.Need-order-all-requires
 order-all-requires c κs = let A = (c .before .before .before .args) in (search needs, known (A .core .n) (A .core .m) (A .core .desks) (A .cells .now) (A .opens .now) (c .before .before .before .pre .0))
@@ -82,10 +78,6 @@ mul-result : tie.Need-mul-result
 mul-result c = let A = (c .before .before .before .before .before .before .before .before .before .before .before .before .before .before .before .before .before .before .before .before .before .before .before .before .before .before .args) in let R = room (A .core .n) (A .core .m) (A .core .desks) (A .cells .now) (A .opens .now) (c .before .before .before .before .before .before .before .before .before .before .before .before .before .before .before .before .before .before .before .before .before .before .before .before .before .before .pre .0) (c .before .before .before .before .before .before .before .before .before .before .before .before .before .before .before .before .before .before .before .before .before .before .order-all .last .1 .1 .1 .0) (c .before .before .before .before .before .before .before .before .before .before .before .before .before .before .before .before .before .before .before .before .before .before .order-all .result) (c .before .before .before .before .before .before .before .before .before .before .before .before .before .before .before .before .before .before .before .before .before .before .order-all .ensures) (length (A .out .now)) (c .before .before .before .before .before .before .before .before .before .before .before .before .before .before .before .before .before .before .before .before .per-desk .result) (c .before .before .before .before .before .before .before .before .before .before .before .before .before .before .before .before .before .before .before .cells-end .result) (c .before .before .before .before .before .before .before .before .before .before .before .before .before .before .before .before .before .before .open-blocks .result) (c .before .before .before .before .before .before .before .before .before .before .before .before .before .before .before .before .before .before .before .before .per-desk .ensures .0) (c .before .before .before .before .before .before .before .before .before .before .before .before .before .before .before .before .before .before .before .cells-end .ensures .0) (c .before .before .before .before .before .before .before .before .before .before .before .before .before .before .before .before .before .before .open-blocks .ensures) (c .before .before .before .before .before .before .before .before .before .before .before .before .before .before .before .before .before .before .before .before .before .before .before .before .before .before .pre .1) in omega arith
 
 -- src/lib.rt:462:1
-same-length : tie.Need-same-length
-same-length c = search needs
-
--- src/lib.rt:462:1
 returns : tie.Need-returns
 returns c = let A = (c .before .before .before .before .before .before .before .before .before .before .before .before .before .before .before .before .before .before .before .before .before .before .before .before .before .before .args) in
     saved-all (A .core .n) (A .core .m) (A .core .desks) (A .cells .now) (A .opens .now) (c .before .before .before .before .before .before .before .before .before .before .before .before .before .before .before .before .before .before .before .before .before .before .before .before .before .before .pre .0) (c .before .before .before .before .before .before .before .before .before .before .before .before .before .before .before .before .before .before .before .before .before .before .order-all .last .1 .1 .1 .0) (c .before .before .before .before .before .before .before .before .before .before .before .before .before .before .before .before .before .before .before .before .before .before .order-all .result) (c .before .before .before .before .before .before .before .before .before .before .before .before .before .before .before .before .before .before .before .before .before .before .order-all .ensures) (A .out .now) (c .before .before .before .before .before .before .before .before .before .before .before .before .before .before .before .store .last .0) (c .before .before .before .before .before .before .before .before .before .before .before .save-desks .last .0) (c .before .before .before .before .before .before .before .save-cells .last .0) (c .before .before .save-opens .last .0) (c .before .before .before .before .before .before .before .before .before .before .before .before .before .before .before .before .before .size-block .result)
@@ -96,7 +88,7 @@ pub save-parts-spec : {M : Type 1} → statement M
 save-parts-spec =
     tie.close
     (tie.spec
-    slice-aggregate-order-all
+    (λ c. search needs)
     order-all-requires
     per-desk-requires
     cells-end-requires
@@ -111,5 +103,5 @@ save-parts-spec =
     save-opens-requires
     add-result
     mul-result
-    same-length
+    (λ c. search needs)
     returns)

@@ -32,26 +32,6 @@ returns-2 c = sym (sound-odd (c .before .before .before .args .b .now) (c .if2 .
 loop-holds : tie.Need-loop-holds Inv-loop μ-loop
 loop-holds c = (search needs, rw sub-zero (sound-start (c .before .before .before .args .b .now) (c .before .if1 .left) (c .if2 .left)))
 
--- src/lib.rt:104:18
-mul-at : tie.Need-mul-at Inv-loop μ-loop
-mul-at c = search needs
-
--- src/lib.rt:105:17
-add-e : tie.Need-add-e Inv-loop μ-loop
-add-e c = search needs
-
--- src/lib.rt:106:19
-sub-right : tie.Need-sub-right Inv-loop μ-loop
-sub-right c = search needs
-
--- src/lib.rt:106:19
-part-right-start : tie.Need-part-right-start Inv-loop μ-loop
-part-right-start c = search needs
-
--- src/lib.rt:106:19
-part-right-end : tie.Need-part-right-end Inv-loop μ-loop
-part-right-end c = search needs
-
 -- src/lib.rt:106:13
 right-requires : tie.Need-right-requires Inv-loop μ-loop
 right-requires c κs = simp (length-take, length-drop) (omega arith)
@@ -62,14 +42,6 @@ unfolding part
 returns-3 c = let L = (c .before .before .before .before .loop) in let b = c .before .before .before .before .before .before .before .before .args .b .now in let q : 512 * L .k + 512 - 512 * L .k ≡ 512 = omega arith in
     let t : c .before .right .result ≡ rightCheck (take (512 * L .k + 512 - 512 * L .k) (drop (512 * L .k) b)) = c .before .right .ensures in
     let e : rightCheck (blockIn b (L .k)) ≡ c .before .right .result = sym (t ∙ rw q) in sym (all-fails (λ k. rightCheck (blockIn b k)) (length b / 512) (L .k) (search needs) (e ∙ not-true _ (c .if3 .taken))) ∙ L .inv .1
-
--- src/lib.rt:109:9
-add-k : tie.Need-add-k Inv-loop μ-loop
-add-k c = search needs
-
--- src/lib.rt:103:5
-loop-less : tie.Need-loop-less Inv-loop μ-loop
-loop-less c = search needs
 
 -- src/lib.rt:103:5
 loop-again : tie.Need-loop-again Inv-loop μ-loop
@@ -91,14 +63,14 @@ sound-image-spec =
     returns
     returns-2
     loop-holds
-    mul-at
-    add-e
-    sub-right
-    part-right-start
-    part-right-end
+    (λ c. search needs)
+    (λ c. search needs)
+    (λ c. search needs)
+    (λ c. search needs)
+    (λ c. search needs)
     right-requires
     returns-3
-    add-k
-    loop-less
+    (λ c. search needs)
+    (λ c. search needs)
     loop-again
     returns-4)

@@ -16,43 +16,11 @@ Inv-loop out₀ k b at j₀ out j = (j ≤ 512) × ((out ≡ sets out₀ at (tak
 abbrev μ-loop : tie.MeasureT-loop
 μ-loop out₀ k b at j₀ out j = 512 - j
 
--- src/lib.rt:251:14
-mul-at : tie.Need-mul-at Inv-loop μ-loop
-mul-at c = search needs
-
--- src/lib.rt:253:5
-loop-holds : tie.Need-loop-holds Inv-loop μ-loop
-loop-holds c = search needs
-
--- src/lib.rt:254:23
-array-read-out : tie.Need-array-read-out Inv-loop μ-loop
-array-read-out c = search needs
-
--- src/lib.rt:254:13
-add-out : tie.Need-add-out Inv-loop μ-loop
-add-out c = search needs
-
--- src/lib.rt:254:9
-slice-write-out : tie.Need-slice-write-out Inv-loop μ-loop
-slice-write-out c = search needs
-
--- src/lib.rt:255:9
-add-j : tie.Need-add-j Inv-loop μ-loop
-add-j c = search needs
-
--- src/lib.rt:253:5
-loop-less : tie.Need-loop-less Inv-loop μ-loop
-loop-less c = search needs
-
 -- src/lib.rt:253:5
 loop-again : tie.Need-loop-again Inv-loop μ-loop
 loop-again c = let L = c .before .loop in let a = c .before .before .args in
     let l : length (a .t3) ≡ 512 = search needs in
     (search needs, (rw (L .inv .1 .0) (set-more (a .t3) (a .out .now) 0 (512 * a .k) (L .j) (omega arith)), search needs))
-
--- src/lib.rt:247:1
-same-length : tie.Need-same-length Inv-loop μ-loop
-same-length c = search needs
 
 -- src/lib.rt:247:1
 returns : tie.Need-returns Inv-loop μ-loop
@@ -66,13 +34,13 @@ store-spec =
     (tie.spec
     Inv-loop
     μ-loop
-    mul-at
-    loop-holds
-    array-read-out
-    add-out
-    slice-write-out
-    add-j
-    loop-less
+    (λ c. search needs)
+    (λ c. search needs)
+    (λ c. search needs)
+    (λ c. search needs)
+    (λ c. search needs)
+    (λ c. search needs)
+    (λ c. search needs)
     loop-again
-    same-length
+    (λ c. search needs)
     returns)

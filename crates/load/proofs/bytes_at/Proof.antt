@@ -23,34 +23,6 @@ abbrev μ-loop : tie.MeasureT-loop
 loop-holds : tie.Need-loop-holds Inv-loop μ-loop
 loop-holds c = (search needs, (fill-start _ _, search needs))
 
--- src/lib.rt:68:23
-add-wide : tie.Need-add-wide Inv-loop μ-loop
-add-wide c = search needs
-
--- src/lib.rt:68:21
-shared-slice-read-wide : tie.Need-shared-slice-read-wide Inv-loop μ-loop
-shared-slice-read-wide c = search needs
-
--- src/lib.rt:68:16
-wide-requires : tie.Need-wide-requires Inv-loop μ-loop
-wide-requires c κs = search needs
-
--- src/lib.rt:68:9
-mul-v : tie.Need-mul-v Inv-loop μ-loop
-mul-v c = search needs
-
--- src/lib.rt:68:9
-array-write-v : tie.Need-array-write-v Inv-loop μ-loop
-array-write-v c = search needs
-
--- src/lib.rt:69:9
-add-t : tie.Need-add-t Inv-loop μ-loop
-add-t c = search needs
-
--- src/lib.rt:67:5
-loop-less : tie.Need-loop-less Inv-loop μ-loop
-loop-less c = search needs
-
 -- src/lib.rt:67:5
 loop-again : tie.Need-loop-again Inv-loop μ-loop
 loop-again c = let L = (c .before .before .before .loop) in let g = (c .before .before .before .before .before .args) in
@@ -68,12 +40,12 @@ bytes-at-spec =
     Inv-loop
     μ-loop
     loop-holds
-    add-wide
-    shared-slice-read-wide
-    wide-requires
-    mul-v
-    array-write-v
-    add-t
-    loop-less
+    (λ c. search needs)
+    (λ c. search needs)
+    (λ c κs. search needs)
+    (λ c. search needs)
+    (λ c. search needs)
+    (λ c. search needs)
+    (λ c. search needs)
     loop-again
     returns)

@@ -14,10 +14,6 @@ use Rattle.load.proofs.read_cell.Reads as read-cell-reads
 mul-field-place : tie.Need-mul-field-place
 mul-field-place c = let A = (c .before .before .before .args) in let P = (c .before .before .before .pre) in let w = cell-where (A .b .now) (P .0) (A .n) (A .m) (A .s / 64) (A .s % 64) (A .c) (P .1 .0) (P .1 .1 .0) (P .1 .1 .1 .0) (c .before .if1 .taken) (c .if2 .taken) in omega (arith, w .before)
 
--- src/lib.rt:201:52
-mul-field-place-2 : tie.Need-mul-field-place-2
-mul-field-place-2 c = search needs
-
 -- src/lib.rt:201:17
 field-place-requires : tie.Need-field-place-requires
 field-place-requires c κs = let A = (c .before .before .before .args) in let P = (c .before .before .before .pre) in let w = cell-where (A .b .now) (P .0) (A .n) (A .m) (A .s / 64) (A .s % 64) (A .c) (P .1 .0) (P .1 .1 .0) (P .1 .1 .1 .0) (c .before .if1 .taken) (c .if2 .taken) in (w .desks, (w .before, (w .block, w .payload)))
@@ -43,7 +39,7 @@ cell-or-spec =
     tie.close
     (tie.spec
     mul-field-place
-    mul-field-place-2
+    (λ c. search needs)
     field-place-requires
     read-cell-requires
     returns

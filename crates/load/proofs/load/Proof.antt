@@ -13,29 +13,9 @@ use Rattle.load.proofs.refused.Reads as refused-reads
 use Rattle.load.proofs.saves_to.Reads as saves-to-reads
 use Rattle.rules.proofs.keeps_rules.Reads as keeps-rules-reads
 
--- src/lib.rt:359:9
-sound-image-requires : tie.Need-sound-image-requires
-sound-image-requires c κs = search needs
-
--- src/lib.rt:360:9
-refused-requires : tie.Need-refused-requires
-refused-requires c κs = search needs
-
 -- src/lib.rt:360:9
 returns : tie.Need-returns
 returns c = damaged-so (c .before .before .before .before .args .b .now) _ _ (c .refused .ensures .0) (c .refused .ensures .1) (sym (c .before .before .sound-image .ensures) ∙ not-true _ (c .before .if1 .taken))
-
--- src/lib.rt:362:9
-candidate-requires : tie.Need-candidate-requires
-candidate-requires c κs = search needs
-
--- src/lib.rt:366:9
-keeps-rules-requires : tie.Need-keeps-rules-requires
-keeps-rules-requires c κs = search needs
-
--- src/lib.rt:367:9
-refused-requires-2 : tie.Need-refused-requires-2
-refused-requires-2 c κs = search needs
 
 -- src/lib.rt:367:9
 returns-2 : tie.Need-returns-2
@@ -44,10 +24,6 @@ returns-2 c = broken-so (c .before .before .before .before .before .before .befo
 -- src/lib.rt:369:9
 saves-to-requires : tie.Need-saves-to-requires
 saves-to-requires c κs = c .before .before .before .keeps-rules .ensures .to (not-false _ (c .before .before .if2 .left))
-
--- src/lib.rt:370:9
-refused-requires-3 : tie.Need-refused-requires-3
-refused-requires-3 c κs = search needs
 
 -- src/lib.rt:370:9
 returns-3 : tie.Need-returns-3
@@ -61,14 +37,14 @@ pub load-spec : {M : Type 1} → statement M
 load-spec =
     tie.close
     (tie.spec
-    sound-image-requires
-    refused-requires
+    (λ c κs. search needs)
+    (λ c κs. search needs)
     returns
-    candidate-requires
-    keeps-rules-requires
-    refused-requires-2
+    (λ c κs. search needs)
+    (λ c κs. search needs)
+    (λ c κs. search needs)
     returns-2
     saves-to-requires
-    refused-requires-3
+    (λ c κs. search needs)
     returns-3
     returns-4)

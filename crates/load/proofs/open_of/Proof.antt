@@ -17,9 +17,6 @@ stands c =
 mul-field-place : tie.Need-mul-field-place
 mul-field-place c = omega (arith, stands (c .before) .before)
 
-mul-field-place-2 : tie.Need-mul-field-place-2
-mul-field-place-2 c = search needs
-
 field-place-requires : tie.Need-field-place-requires
 field-place-requires c κs = let w = stands (c .before) in (w .desks, (w .before, (w .block, w .payload)))
 
@@ -36,7 +33,7 @@ open-of-spec =
     tie.close
     (tie.spec
     mul-field-place
-    mul-field-place-2
+    (λ c. search needs)
     field-place-requires
     read-open-requires
     returns)

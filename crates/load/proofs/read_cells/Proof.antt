@@ -25,25 +25,9 @@ abbrev μ-loop : tie.MeasureT-loop
 loop-holds : tie.Need-loop-holds Inv-loop μ-loop
 loop-holds c = (search needs, λ t h. absurd (omega arith))
 
--- src/lib.rt:211:15
-mul-loop : tie.Need-mul-loop Inv-loop μ-loop
-mul-loop c = search needs
-
 -- src/lib.rt:212:13
 cell-or-requires : tie.Need-cell-or-requires Inv-loop μ-loop
 cell-or-requires c κs = let P = (c .before .before .before .pre) in let L = (c .before .loop) in (P .0, (P .1 .0, (P .1 .1 .0, (P .1 .1 .1, omega arith))))
-
--- src/lib.rt:213:9
-put-cell-requires : tie.Need-put-cell-requires Inv-loop μ-loop
-put-cell-requires c κs = search needs
-
--- src/lib.rt:214:9
-add-s : tie.Need-add-s Inv-loop μ-loop
-add-s c = search needs
-
--- src/lib.rt:211:5
-loop-less : tie.Need-loop-less Inv-loop μ-loop
-loop-less c = search needs
 
 -- src/lib.rt:211:5
 loop-again : tie.Need-loop-again Inv-loop μ-loop
@@ -61,10 +45,10 @@ read-cells-spec =
     Inv-loop
     μ-loop
     loop-holds
-    mul-loop
+    (λ c. search needs)
     cell-or-requires
-    put-cell-requires
-    add-s
-    loop-less
+    (λ c κs. search needs)
+    (λ c. search needs)
+    (λ c. search needs)
     loop-again
     returns)

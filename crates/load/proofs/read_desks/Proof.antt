@@ -20,33 +20,9 @@ Inv-loop b n desks₀ i₀ desks i = (i ≤ places) × ((desks ≡ tab i (deskFo
 abbrev μ-loop : tie.MeasureT-loop
 μ-loop b n desks₀ i₀ desks i = places - i
 
--- src/lib.rt:173:9
-desk-or-requires : tie.Need-desk-or-requires Inv-loop μ-loop
-desk-or-requires c κs = search needs
-
 -- src/lib.rt:176:5
 loop-holds : tie.Need-loop-holds Inv-loop μ-loop
 loop-holds c = (search needs, (fill-start _ _, search needs))
-
--- src/lib.rt:177:13
-desk-or-requires-2 : tie.Need-desk-or-requires-2 Inv-loop μ-loop
-desk-or-requires-2 c κs = search needs
-
--- src/lib.rt:178:9
-mul-desks : tie.Need-mul-desks Inv-loop μ-loop
-mul-desks c = search needs
-
--- src/lib.rt:178:9
-array-set-from-desks : tie.Need-array-set-from-desks Inv-loop μ-loop
-array-set-from-desks c = search needs
-
--- src/lib.rt:179:9
-add-i : tie.Need-add-i Inv-loop μ-loop
-add-i c = search needs
-
--- src/lib.rt:176:5
-loop-less : tie.Need-loop-less Inv-loop μ-loop
-loop-less c = search needs
 
 -- src/lib.rt:176:5
 loop-again : tie.Need-loop-again Inv-loop μ-loop
@@ -64,12 +40,12 @@ read-desks-spec =
     (tie.spec
     Inv-loop
     μ-loop
-    desk-or-requires
+    (λ c κs. search needs)
     loop-holds
-    desk-or-requires-2
-    mul-desks
-    array-set-from-desks
-    add-i
-    loop-less
+    (λ c κs. search needs)
+    (λ c. search needs)
+    (λ c. search needs)
+    (λ c. search needs)
+    (λ c. search needs)
     loop-again
     returns)

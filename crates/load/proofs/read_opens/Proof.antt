@@ -22,21 +22,6 @@ open-of-requires c κs =
     let P = c .before .before .before .pre .0 in
     (P .0, (P .1 .0, (P .1 .1 .0, (P .1 .1 .1 .0, (P .1 .1 .1 .1, search needs)))))
 
-wide-requires : tie.Need-wide-requires Inv-loop μ-loop
-wide-requires c κs = search needs
-
-number-of-requires : tie.Need-number-of-requires Inv-loop μ-loop
-number-of-requires c κs = search needs
-
-find-free-requires : tie.Need-find-free-requires Inv-loop μ-loop
-find-free-requires c κs = search needs
-
-enum-known-found : tie.Need-enum-known-found Inv-loop μ-loop
-enum-known-found c = search needs
-
-enum-told : tie.Need-enum-told Inv-loop μ-loop
-enum-told c = search needs
-
 returns : tie.Need-returns Inv-loop μ-loop
 returns c =
     let L = c .before .before .before .before .before .before .before .before .loop in
@@ -48,12 +33,6 @@ returns c =
 put-open-requires : tie.Need-put-open-requires Inv-loop μ-loop
 put-open-requires c κs =
     found-at (freeAt (c .before .before .before .before .before .before .before .before .before .before .loop .opens)) (c .before .before .before .before .find-free .result) (c .before .before .found .given .0 .0) (c .before .before .before .before .find-free .ensures) (c .before .before .found .given .1) .0
-
-add-p : tie.Need-add-p Inv-loop μ-loop
-add-p c = search needs
-
-loop-less : tie.Need-loop-less Inv-loop μ-loop
-loop-less c = search needs
 
 loop-again : tie.Need-loop-again Inv-loop μ-loop
 loop-again c =
@@ -81,14 +60,14 @@ read-opens-spec =
     μ-loop
     loop-holds
     open-of-requires
-    wide-requires
-    number-of-requires
-    find-free-requires
-    enum-known-found
-    enum-told
+    (λ c κs. search needs)
+    (λ c κs. search needs)
+    (λ c κs. search needs)
+    (λ c. search needs)
+    (λ c. search needs)
     returns
     put-open-requires
-    add-p
-    loop-less
+    (λ c. search needs)
+    (λ c. search needs)
     loop-again
     returns-2)

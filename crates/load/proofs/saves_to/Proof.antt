@@ -13,10 +13,6 @@ use Rattle.load.proofs.saves_to.Lts as lts
 use Rattle.image.proofs.save_parts.Reads as save-parts-reads
 use Rattle.load.proofs.starts.Reads as starts-reads
 
--- src/lib.rt:326:51
-slice-aggregate-save-parts : tie.Need-slice-aggregate-save-parts
-slice-aggregate-save-parts c = search needs
-
 -- src/lib.rt:326:9
 save-parts-requires : tie.Need-save-parts-requires
 save-parts-requires c κs = let A = (c .before .before .args) in let m = image-most (model (A .core .n) (A .core .m) (A .core .desks) (A .cells .now) (A .opens .now)) (c .before .before .pre .rules) in ((c .before .before .pre), search needs)
@@ -24,10 +20,6 @@ save-parts-requires c κs = let A = (c .before .before .args) in let m = image-m
 -- src/lib.rt:328:9
 returns : tie.Need-returns
 returns c = says-no (λ e. c .if1 .taken (sym (ap length e) ∙ sym (c .before .before .save-parts .ensures .size)))
-
--- src/lib.rt:330:12
-slice-aggregate-starts : tie.Need-slice-aggregate-starts
-slice-aggregate-starts c = search needs
 
 -- src/lib.rt:330:5
 starts-requires : tie.Need-starts-requires
@@ -49,9 +41,9 @@ pub saves-to-spec : {M : Type 1} → statement M
 saves-to-spec =
     tie.close
     (tie.spec
-    slice-aggregate-save-parts
+    (λ c. search needs)
     save-parts-requires
     returns
-    slice-aggregate-starts
+    (λ c. search needs)
     starts-requires
     returns-2)

@@ -17,30 +17,6 @@ use Rattle.load.proofs.size.Reads as size-reads
 returns : tie.Need-returns
 returns c = says-no (λ (h : Fits (c .before .before .args .b .now)). (omega (arith, h .size)))
 
--- src/lib.rt:130:18
-shared-slice-read-size : tie.Need-shared-slice-read-size
-shared-slice-read-size c = search needs
-
--- src/lib.rt:130:9
-size-requires : tie.Need-size-requires
-size-requires c κs = search needs
-
--- src/lib.rt:131:18
-shared-slice-read-size-2 : tie.Need-shared-slice-read-size-2
-shared-slice-read-size-2 c = search needs
-
--- src/lib.rt:131:9
-size-requires-2 : tie.Need-size-requires-2
-size-requires-2 c κs = search needs
-
--- src/lib.rt:132:22
-shared-slice-read-size-3 : tie.Need-shared-slice-read-size-3
-shared-slice-read-size-3 c = search needs
-
--- src/lib.rt:132:9
-size-requires-3 : tie.Need-size-requires-3
-size-requires-3 c κs = search needs
-
 -- src/lib.rt:134:9
 returns-2 : tie.Need-returns-2
 returns-2 c = says-no (λ (h : Fits (c .before .before .before .before .before .before .before .before .before .args .b .now)). (omega (arith, h .desks .0, c .before .before .before .before .before .size .ensures .0, c .before .before .before .size2 .ensures .0, c .before .size3 .ensures .0)))
@@ -61,10 +37,6 @@ returns-5 c = says-no (λ (h : Fits (c .before .before .before .before .before .
 returns-6 : tie.Need-returns-6
 returns-6 c = says-no (λ (h : Fits (c .before .before .before .before .before .before .before .before .before .before .before .before .before .args .b .now)). (omega (arith, h .few, c .before .before .before .before .before .before .before .before .before .size .ensures .0, c .before .before .before .before .before .before .before .size2 .ensures .0, c .before .before .before .before .before .size3 .ensures .0)))
 
--- src/lib.rt:148:19
-length-of-requires : tie.Need-length-of-requires
-length-of-requires c κs = search needs
-
 -- src/lib.rt:149:9
 returns-7 : tie.Need-returns-7
 returns-7 c = says-no (λ (h : Fits (c .before .before .before .before .before .before .before .before .before .before .before .before .before .before .before .args .b .now)). c .if7 .taken (h .size ∙ sym (rw (c .before .before .before .before .before .before .before .before .before .before .before .size .ensures .0, c .before .before .before .before .before .before .before .before .before .size2 .ensures .0, c .before .before .before .before .before .before .before .size3 .ensures .0) at (c .before .length-of .ensures))))
@@ -78,17 +50,17 @@ sizes-fit-spec =
     tie.close
     (tie.spec
     returns
-    shared-slice-read-size
-    size-requires
-    shared-slice-read-size-2
-    size-requires-2
-    shared-slice-read-size-3
-    size-requires-3
+    (λ c. search needs)
+    (λ c κs. search needs)
+    (λ c. search needs)
+    (λ c κs. search needs)
+    (λ c. search needs)
+    (λ c κs. search needs)
     returns-2
     returns-3
     returns-4
     returns-5
     returns-6
-    length-of-requires
+    (λ c κs. search needs)
     returns-7
     returns-8)

@@ -13,9 +13,6 @@ Inv-loop text out₀ core₀ cells₀ opens₀ at₀ len₀ out core cells opens
 abbrev μ-loop : tie.MeasureT-loop
 μ-loop text out₀ core₀ cells₀ opens₀ at₀ len₀ out core cells opens at len = length text - at
 
-start-requires : tie.Need-start-requires Inv-loop μ-loop
-start-requires c κs = search needs
-
 loop-holds : tie.Need-loop-holds Inv-loop μ-loop
 loop-holds c = rw (c .start .ensures) reading-start
 
@@ -62,7 +59,7 @@ lines-spec =
     (tie.spec
     Inv-loop
     μ-loop
-    start-requires
+    (λ c κs. search needs)
     loop-holds
     sub-run
     part-run-start

@@ -18,27 +18,9 @@ loop-holds : tie.Need-loop-holds Inv-loop μ-loop
 unfolding cellsTest
 loop-holds c = search needs
 
-mul-cell-at : tie.Need-mul-cell-at Inv-loop μ-loop
-mul-cell-at c = search needs
-
-add-cell-at : tie.Need-add-cell-at Inv-loop μ-loop
-add-cell-at c = search needs
-
-cell-at-requires : tie.Need-cell-at-requires Inv-loop μ-loop
-cell-at-requires c κs = search needs
-
-cell-ok-requires : tie.Need-cell-ok-requires Inv-loop μ-loop
-cell-ok-requires c κs = search needs
-
 returns : tie.Need-returns Inv-loop μ-loop
 returns c = let L = c .before .before .before .before .loop in
     sym (all-fails _ desk-cells (L .x) (search needs) (rw (← c .before .before .cell-at .ensures) (sym (c .before .cell-ok .ensures) ∙ not-true _ (c .if1 .taken)))) ∙ L .inv .1
-
-add-x : tie.Need-add-x Inv-loop μ-loop
-add-x c = search needs
-
-loop-less : tie.Need-loop-less Inv-loop μ-loop
-loop-less c = search needs
 
 loop-again : tie.Need-loop-again Inv-loop μ-loop
 loop-again c = let L = c .before .before .before .before .loop in
@@ -55,12 +37,12 @@ cells-ok-spec =
     Inv-loop
     μ-loop
     loop-holds
-    mul-cell-at
-    add-cell-at
-    cell-at-requires
-    cell-ok-requires
+    (λ c. search needs)
+    (λ c. search needs)
+    (λ c κs. search needs)
+    (λ c κs. search needs)
     returns
-    add-x
-    loop-less
+    (λ c. search needs)
+    (λ c. search needs)
     loop-again
     returns-2)

@@ -12,47 +12,23 @@ past : (c : tie.Else2) → let g = c .before .before .before .before .before .be
 past c =
     (sym (c .before .before .before .covers .ensures) ∙ not-false _ (c .before .before .if1 .left), sym (c .before .covers2 .ensures) ∙ not-false _ (c .if2 .left))
 
-covers-requires : tie.Need-covers-requires
-covers-requires c κs = search needs
-
 returns : tie.Need-returns
 unfolding countsTest
 returns c = rw (sym (c .before .covers .ensures) ∙ not-true _ (c .if1 .taken))
 
-covers-requires-2 : tie.Need-covers-requires-2
-covers-requires-2 c κs = search needs
-
 returns-2 : tie.Need-returns-2
 unfolding countsTest
 returns-2 c = rw (sym (c .before .before .before .covers .ensures) ∙ not-false _ (c .before .before .if1 .left), sym (c .before .covers2 .ensures) ∙ not-true _ (c .if2 .taken))
-
-mul-if3 : tie.Need-mul-if3
-mul-if3 c = search needs
-
-array-read-if3 : tie.Need-array-read-if3
-array-read-if3 c = search needs
-
-mul-if3-2 : tie.Need-mul-if3-2
-mul-if3-2 c = search needs
-
-array-read-if3-2 : tie.Need-array-read-if3-2
-array-read-if3-2 c = search needs
 
 returns-3 : tie.Need-returns-3
 unfolding countsTest
 returns-3 c = let e = past (c .before) in
     rw (e .0, e .1, ne-eqb _ _ (c .if3 .taken))
 
-covers-requires-3 : tie.Need-covers-requires-3
-covers-requires-3 c κs = search needs
-
 returns-4 : tie.Need-returns-4
 unfolding countsTest
 returns-4 c = let e = past (c .before .before .before) in
     rw (e .0, e .1, eq-eqb _ _ (c .before .before .if3 .left), lt-ltb _ _ (c .before .if4 .taken)) (c .covers3 .ensures)
-
-zero-requires : tie.Need-zero-requires
-zero-requires c κs = search needs
 
 returns-5 : tie.Need-returns-5
 unfolding countsTest
@@ -63,16 +39,16 @@ pub counts-ok-spec : {M : Type 1} → statement M
 counts-ok-spec =
     tie.close
     (tie.spec
-    covers-requires
+    (λ c κs. search needs)
     returns
-    covers-requires-2
+    (λ c κs. search needs)
     returns-2
-    mul-if3
-    array-read-if3
-    mul-if3-2
-    array-read-if3-2
+    (λ c. search needs)
+    (λ c. search needs)
+    (λ c. search needs)
+    (λ c. search needs)
     returns-3
-    covers-requires-3
+    (λ c κs. search needs)
     returns-4
-    zero-requires
+    (λ c κs. search needs)
     returns-5)

@@ -20,24 +20,9 @@ loop-holds : tie.Need-loop-holds Inv-loop μ-loop
 unfolding desksTest
 loop-holds c = search needs
 
-mul-d : tie.Need-mul-d Inv-loop μ-loop
-mul-d c = search needs
-
-array-copy-out-d : tie.Need-array-copy-out-d Inv-loop μ-loop
-array-copy-out-d c = search needs
-
-desk-ok-requires : tie.Need-desk-ok-requires Inv-loop μ-loop
-desk-ok-requires c κs = search needs
-
 returns : tie.Need-returns Inv-loop μ-loop
 returns c = let L = c .before .before .before .before .loop in
     sym (all-fails _ places (L .i) (search needs) ((sym (c .before .desk-ok .ensures) ∙ not-true _ (c .if1 .taken)))) ∙ L .inv .1
-
-add-i : tie.Need-add-i Inv-loop μ-loop
-add-i c = search needs
-
-loop-less : tie.Need-loop-less Inv-loop μ-loop
-loop-less c = search needs
 
 loop-again : tie.Need-loop-again Inv-loop μ-loop
 loop-again c = let L = c .before .before .before .before .loop in
@@ -54,11 +39,11 @@ desks-ok-spec =
     Inv-loop
     μ-loop
     loop-holds
-    mul-d
-    array-copy-out-d
-    desk-ok-requires
+    (λ c. search needs)
+    (λ c. search needs)
+    (λ c κs. search needs)
     returns
-    add-i
-    loop-less
+    (λ c. search needs)
+    (λ c. search needs)
     loop-again
     returns-2)

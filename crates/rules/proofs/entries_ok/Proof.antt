@@ -18,18 +18,9 @@ loop-holds : tie.Need-loop-holds Inv-loop μ-loop
 unfolding entriesTest
 loop-holds c = search needs
 
-entry-ok-requires : tie.Need-entry-ok-requires Inv-loop μ-loop
-entry-ok-requires c κs = search needs
-
 returns : tie.Need-returns Inv-loop μ-loop
 returns c = let L = c .before .before .before .loop in
     sym (all-fails _ entries (L .e) (search needs) ((sym (c .before .entry-ok .ensures) ∙ not-true _ (c .if1 .taken)))) ∙ L .inv .1
-
-add-e : tie.Need-add-e Inv-loop μ-loop
-add-e c = search needs
-
-loop-less : tie.Need-loop-less Inv-loop μ-loop
-loop-less c = search needs
 
 loop-again : tie.Need-loop-again Inv-loop μ-loop
 loop-again c = let L = c .before .before .before .loop in
@@ -46,9 +37,9 @@ entries-ok-spec =
     Inv-loop
     μ-loop
     loop-holds
-    entry-ok-requires
+    (λ c κs. search needs)
     returns
-    add-e
-    loop-less
+    (λ c. search needs)
+    (λ c. search needs)
     loop-again
     returns-2)

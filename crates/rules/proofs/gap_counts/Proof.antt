@@ -20,30 +20,6 @@ abbrev μ-loop : tie.MeasureT-loop
 loop-holds : tie.Need-loop-holds Inv-loop μ-loop
 loop-holds c = (search needs, (fill-start _ _, search needs))
 
-add-gap : tie.Need-add-gap Inv-loop μ-loop
-add-gap c = search needs
-
-mul-gap : tie.Need-mul-gap Inv-loop μ-loop
-mul-gap c = search needs
-
-array-read-gap : tie.Need-array-read-gap Inv-loop μ-loop
-array-read-gap c = search needs
-
-gap-requires : tie.Need-gap-requires Inv-loop μ-loop
-gap-requires c κs = search needs
-
-mul-v : tie.Need-mul-v Inv-loop μ-loop
-mul-v c = search needs
-
-array-write-v : tie.Need-array-write-v Inv-loop μ-loop
-array-write-v c = search needs
-
-add-t : tie.Need-add-t Inv-loop μ-loop
-add-t c = search needs
-
-loop-less : tie.Need-loop-less Inv-loop μ-loop
-loop-less c = search needs
-
 loop-again : tie.Need-loop-again Inv-loop μ-loop
 loop-again c = let L = c .before .before .loop in
     let g = c .before .before .before .args in
@@ -62,13 +38,13 @@ gap-counts-spec =
     Inv-loop
     μ-loop
     loop-holds
-    add-gap
-    mul-gap
-    array-read-gap
-    gap-requires
-    mul-v
-    array-write-v
-    add-t
-    loop-less
+    (λ c. search needs)
+    (λ c. search needs)
+    (λ c. search needs)
+    (λ c κs. search needs)
+    (λ c. search needs)
+    (λ c. search needs)
+    (λ c. search needs)
+    (λ c. search needs)
     loop-again
     returns)

@@ -15,25 +15,13 @@ Inv-loop opens u k e j₀ j = (j ≤ entries) × (all (λ f. not (namedAt opens 
 abbrev μ-loop : tie.MeasureT-loop
 μ-loop opens u k e j₀ j = entries - j
 
-add-j : tie.Need-add-j Inv-loop μ-loop
-add-j c = search needs
-
 loop-holds : tie.Need-loop-holds Inv-loop μ-loop
 unfolding lastOf
 loop-holds c = (search needs, refl)
 
-holds-requires : tie.Need-holds-requires Inv-loop μ-loop
-holds-requires c κs = search needs
-
 returns : tie.Need-returns Inv-loop μ-loop
 returns c = let L = c .before .before .before .loop in
     sym (all-fails _ entries (L .j) (search needs) (ap not (sym (c .before .holds .ensures) ∙ c .if1 .taken))) ∙ L .inv .1
-
-add-j-2 : tie.Need-add-j-2 Inv-loop μ-loop
-add-j-2 c = search needs
-
-loop-less : tie.Need-loop-less Inv-loop μ-loop
-loop-less c = search needs
 
 loop-again : tie.Need-loop-again Inv-loop μ-loop
 loop-again c = let L = c .before .before .before .loop in
@@ -49,11 +37,11 @@ last-of-spec =
     (tie.spec
     Inv-loop
     μ-loop
-    add-j
+    (λ c. search needs)
     loop-holds
-    holds-requires
+    (λ c κs. search needs)
     returns
-    add-j-2
-    loop-less
+    (λ c. search needs)
+    (λ c. search needs)
     loop-again
     returns-2)

@@ -18,21 +18,9 @@ loop-holds : tie.Need-loop-holds Inv-loop μ-loop
 unfolding marksTest
 loop-holds c = search needs
 
-open-at-requires : tie.Need-open-at-requires Inv-loop μ-loop
-open-at-requires c κs = search needs
-
-mark-ok-requires : tie.Need-mark-ok-requires Inv-loop μ-loop
-mark-ok-requires c κs = search needs
-
 returns : tie.Need-returns Inv-loop μ-loop
 returns c = let L = c .before .before .before .before .loop in
     sym (all-fails _ entries (L .e) (search needs) (rw (← c .before .before .open-at .ensures) (sym (c .before .mark-ok .ensures) ∙ not-true _ (c .if1 .taken)))) ∙ L .inv .1
-
-add-e : tie.Need-add-e Inv-loop μ-loop
-add-e c = search needs
-
-loop-less : tie.Need-loop-less Inv-loop μ-loop
-loop-less c = search needs
 
 loop-again : tie.Need-loop-again Inv-loop μ-loop
 loop-again c = let L = c .before .before .before .before .loop in
@@ -49,10 +37,10 @@ marks-ok-spec =
     Inv-loop
     μ-loop
     loop-holds
-    open-at-requires
-    mark-ok-requires
+    (λ c κs. search needs)
+    (λ c κs. search needs)
     returns
-    add-e
-    loop-less
+    (λ c. search needs)
+    (λ c. search needs)
     loop-again
     returns-2)

@@ -6,9 +6,6 @@ use borrow.Author.Needs.{needs}
 use Rattle.rules.proofs.passes.Statement.{statement}
 use Rattle.rules.proofs.passes.Tie as tie
 
-begins-requires : tie.Need-begins-requires
-begins-requires c κs = search needs
-
 returns : tie.Need-returns
 unfolding ownTest
 returns c = rw (sym (c .before .begins .ensures) ∙ not-true _ (c .if1 .taken))
@@ -19,12 +16,6 @@ entries-ok-requires c κs = desks-within (c .before .before .args .n) (c .before
 returns-2 : tie.Need-returns-2
 unfolding ownTest
 returns-2 c = rw (sym (c .before .before .before .begins .ensures) ∙ not-false _ (c .before .before .if1 .left), sym (c .before .entries-ok .ensures) ∙ not-true _ (c .if2 .taken))
-
-gap-counts-requires : tie.Need-gap-counts-requires
-gap-counts-requires c κs = search needs
-
-desks-ok-requires : tie.Need-desks-ok-requires
-desks-ok-requires c κs = search needs
 
 returns-3 : tie.Need-returns-3
 unfolding ownTest
@@ -39,10 +30,10 @@ pub passes-spec : {M : Type 1} → statement M
 passes-spec =
     tie.close
     (tie.spec
-    begins-requires
+    (λ c κs. search needs)
     returns
     entries-ok-requires
     returns-2
-    gap-counts-requires
-    desks-ok-requires
+    (λ c κs. search needs)
+    (λ c κs. search needs)
     returns-3)

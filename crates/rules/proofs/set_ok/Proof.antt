@@ -18,12 +18,6 @@ past c = let s = c .before .before .before .before in (
   rw (← s .before .wide .ensures) (le-leb _ _ (c .if3 .left)),
 )
 
-wide-requires : tie.Need-wide-requires
-wide-requires c κs = search needs
-
-wide-requires-2 : tie.Need-wide-requires-2
-wide-requires-2 c κs = search needs
-
 returns : tie.Need-returns
 unfolding setTest
 returns c = rw (le-ltb _ _ (c .if1 .taken))
@@ -37,18 +31,12 @@ unfolding setTest
 returns-3 c = let w = c .before .before .before .before in
     rw (lt-ltb _ _ (c .before .before .if1 .left), ← w .wide2 .ensures, le-leb _ _ (c .before .if2 .left), ← w .before .wide .ensures, lt-leb _ _ (c .if3 .taken))
 
-at-place-requires : tie.Need-at-place-requires
-at-place-requires c κs = search needs
-
 returns-4 : tie.Need-returns-4
 unfolding setTest
 returns-4 c = let e = past (c .before .before) in
     let w = c .before .before .before .before .before .before .wide2 .ensures in
     let z : c .before .at-place .result < 1 = omega (arith, c .if4 .taken) in
     rw (e .0, e .1, e .2, ← w, ← c .before .at-place .ensures, lt-leb _ _ z)
-
-covers-requires : tie.Need-covers-requires
-covers-requires c κs = search needs
 
 returns-5 : tie.Need-returns-5
 unfolding setTest
@@ -61,12 +49,12 @@ pub set-ok-spec : {M : Type 1} → statement M
 set-ok-spec =
     tie.close
     (tie.spec
-    wide-requires
-    wide-requires-2
+    (λ c κs. search needs)
+    (λ c κs. search needs)
     returns
     returns-2
     returns-3
-    at-place-requires
+    (λ c κs. search needs)
     returns-4
-    covers-requires
+    (λ c κs. search needs)
     returns-5)

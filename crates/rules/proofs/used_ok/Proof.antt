@@ -31,15 +31,6 @@ same : (c : tie.After-all-applied) → let g = c .before .before .before .before
 same c = let s = c .before .before .before .before .before .before .before .before .before in
     ap (λ (x : Open). everywhere (s .args .n) (openM x)) (s .pre .1 .0) ∙ sym (c .all-applied .ensures)
 
-wide-requires : tie.Need-wide-requires
-wide-requires c κs = search needs
-
-at-place-requires : tie.Need-at-place-requires
-at-place-requires c κs = search needs
-
-ranges-ok-requires : tie.Need-ranges-ok-requires
-ranges-ok-requires c κs = search needs
-
 returns : tie.Need-returns
 unfolding usedTest
 returns c = rw (sym (c .before .ranges-ok .ensures) ∙ not-true _ (c .if1 .taken))
@@ -51,16 +42,10 @@ returns-2 c = let p = c .before .before .before in
     rw (← p .before .before .wide .ensures, ← p .at-place .ensures) (lt-leb 1 (p .at-place .result) (omega (arith, c .if2 .taken))) in
     rw (past-1 (c .before), z)
 
-covers-requires : tie.Need-covers-requires
-covers-requires c κs = search needs
-
 returns-3 : tie.Need-returns-3
 unfolding usedTest
 returns-3 c = let d = c .before .before in
     rw (past-1 (d .before), past-2 d, sym (c .before .covers .ensures) ∙ not-true _ (c .if3 .taken))
-
-all-applied-requires : tie.Need-all-applied-requires
-all-applied-requires c κs = search needs
 
 returns-4 : tie.Need-returns-4
 unfolding usedTest
@@ -91,14 +76,14 @@ pub used-ok-spec : {M : Type 1} → statement M
 used-ok-spec =
     tie.close
     (tie.spec
-    wide-requires
-    at-place-requires
-    ranges-ok-requires
+    (λ c κs. search needs)
+    (λ c κs. search needs)
+    (λ c κs. search needs)
     returns
     returns-2
-    covers-requires
+    (λ c κs. search needs)
     returns-3
-    all-applied-requires
+    (λ c κs. search needs)
     returns-4
     last-of-requires
     returns-5)

@@ -18,17 +18,8 @@ returns c = passed-end _ _ _ (c .if1 .taken) (passed-none _ _)
 loop-holds : tie.Need-loop-holds Inv-loop μ-loop
 loop-holds c = (search needs, passed-none _ _)
 
-shared-slice-read-if2 : tie.Need-shared-slice-read-if2 Inv-loop μ-loop
-shared-slice-read-if2 c = search needs
-
 returns-2 : tie.Need-returns-2 Inv-loop μ-loop
 returns-2 c = let L = c .before .before .before .loop in passed-here _ _ (L .e) (omega arith) (omega (arith, c .if2 .taken)) (L .inv .1)
-
-add-e : tie.Need-add-e Inv-loop μ-loop
-add-e c = search needs
-
-loop-less : tie.Need-loop-less Inv-loop μ-loop
-loop-less c = search needs
 
 loop-again : tie.Need-loop-again Inv-loop μ-loop
 loop-again c = let L = c .before .before .before .loop in (search needs, passed-more _ _ (L .e) (omega arith) (c .if2 .left) (L .inv .1))
@@ -44,9 +35,9 @@ end-of-spec =
     μ-loop
     returns
     loop-holds
-    shared-slice-read-if2
+    (λ c. search needs)
     returns-2
-    add-e
-    loop-less
+    (λ c. search needs)
+    (λ c. search needs)
     loop-again
     returns-3)

@@ -6,26 +6,17 @@ use borrow.Author.Needs.{needs}
 use Rattle.schedule.proofs.line_at.Statement.{statement}
 use Rattle.schedule.proofs.line_at.Tie as tie
 
-end-of-requires : tie.Need-end-of-requires
-end-of-requires c κs = search needs
-
 sub-result : tie.Need-sub-result
 sub-result c = let a = c .before .before .before .args in omega (arith, end-le (a .s .now) (a .at))
 
 part-result-start : tie.Need-part-result-start
 part-result-start c = let a = c .before .before .before .args in omega (arith, end-le (a .s .now) (a .at))
 
-part-result-end : tie.Need-part-result-end
-part-result-end c = search needs
-
 returns : tie.Need-returns
 returns c =
     let a = c .before .before .before .before .args in
     let h = rw (c .before .before .end-of .ensures) at (c .before .if1 .taken) in
     rw (c .before .before .end-of .ensures) (line-past _ _ h, ap (λ (n : ℕ). (a .s .ptr .0, n + a .s .ptr .1)) (start-past _ _ h))
-
-part-result-start-2 : tie.Need-part-result-start-2
-part-result-start-2 c = search needs
 
 part-result-end-2 : tie.Need-part-result-end-2
 part-result-end-2 c = let a = c .before .before .before .args in omega (arith, end-le (a .s .now) (a .at))
@@ -42,11 +33,11 @@ pub line-at-spec : {M : Type 1} → statement M
 line-at-spec =
     tie.close
     (tie.spec
-    end-of-requires
+    (λ c κs. search needs)
     sub-result
     part-result-start
-    part-result-end
+    (λ c. search needs)
     returns
-    part-result-start-2
+    (λ c. search needs)
     part-result-end-2
     returns-2)

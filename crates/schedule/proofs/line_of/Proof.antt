@@ -13,15 +13,6 @@ returns-2 c = told-none _ _ (too-long _ (omega (arith, c .if2 .taken)))
 shared-slice-read-letter : tie.Need-shared-slice-read-letter
 shared-slice-read-letter c = omega (arith, c .before .before .if1 .left)
 
-two-requires : tie.Need-two-requires
-two-requires c κs = search needs
-
-three-requires : tie.Need-three-requires
-three-requires c κs = search needs
-
-trip-requires : tie.Need-trip-requires
-trip-requires c κs = search needs
-
 returns-3 : tie.Need-returns-3
 returns-3 c =
     let k = c .before .before .before in
@@ -50,9 +41,9 @@ line-of-spec =
     returns
     returns-2
     shared-slice-read-letter
-    two-requires
-    three-requires
-    trip-requires
+    (λ c κs. search needs)
+    (λ c κs. search needs)
+    (λ c κs. search needs)
     returns-3
     returns-4
     returns-5

@@ -20,23 +20,11 @@ first c =
 returns : tie.Need-returns
 returns c = λ h. absurd (omega (arith, c .if1 .taken))
 
-shared-slice-read-if2 : tie.Need-shared-slice-read-if2
-shared-slice-read-if2 c = search needs
-
 returns-2 : tie.Need-returns-2
 returns-2 c = λ h. field-unspaced _ _ h (c .if2 .taken)
 
-add-start : tie.Need-add-start
-add-start c = search needs
-
 returns-3 : tie.Need-returns-3
 returns-3 c = λ h. field-empty _ _ h (c .before .if2 .left) (c .if3 .taken)
-
-shared-slice-read-b : tie.Need-shared-slice-read-b
-shared-slice-read-b c = search needs
-
-add-t10 : tie.Need-add-t10
-add-t10 c = search needs
 
 returns-4 : tie.Need-returns-4
 returns-4 c =
@@ -55,15 +43,6 @@ returns-5 c = let b = c .before .before in λ h. field-none _ _ h (b .before .be
 returns-6 : tie.Need-returns-6
 returns-6 c = let b = c .before .before .before in λ h. field-none _ _ h (b .before .before .if2 .left) (omega arith) (inr (c .if6 .taken))
 
-add-digits : tie.Need-add-digits
-add-digits c = search needs
-
-wide-requires : tie.Need-wide-requires
-wide-requires c κs = search needs
-
-digits-requires : tie.Need-digits-requires
-digits-requires c κs = search needs
-
 returns-7 : tie.Need-returns-7
 returns-7 c = tells-digits _ _ _ (first (c .before)) (c .digits .result) (c .digits .ensures)
 
@@ -72,16 +51,16 @@ next-field-spec =
     tie.close
     (tie.spec
     returns
-    shared-slice-read-if2
+    (λ c. search needs)
     returns-2
-    add-start
+    (λ c. search needs)
     returns-3
-    shared-slice-read-b
-    add-t10
+    (λ c. search needs)
+    (λ c. search needs)
     returns-4
     returns-5
     returns-6
-    add-digits
-    wide-requires
-    digits-requires
+    (λ c. search needs)
+    (λ c κs. search needs)
+    (λ c κs. search needs)
     returns-7)

@@ -33,40 +33,13 @@ all c =
     let b = c .before .before .before .before in
     one-field _ 1 _ _ _ (first (b .before .before .before .before)) ∙ (one-field _ _ _ _ _ (second b) ∙ one-field _ _ _ _ _ (third c))
 
-next-field-requires : tie.Need-next-field-requires
-next-field-requires c κs = search needs
-
-enum-known-a : tie.Need-enum-known-a
-enum-known-a c = search needs
-
-enum-told : tie.Need-enum-told
-enum-told c = search needs
-
 returns : tie.Need-returns
 returns c = sym (ap lineValue (no-field _ 1 _ (rw (c .enum-told .given .1) at (c .before .before .next-field .ensures)) refl))
-
-next-field-requires-2 : tie.Need-next-field-requires-2
-next-field-requires-2 c κs = search needs
-
-enum-known-b : tie.Need-enum-known-b
-enum-known-b c = search needs
-
-enum-told-2 : tie.Need-enum-told-2
-enum-told-2 c = search needs
 
 returns-2 : tie.Need-returns-2
 returns-2 c =
     let b = c .before .before .before in
     sym (ap lineValue (one-field _ 1 _ _ _ (first (b .before)) ∙ no-field _ _ _ (rw (c .enum-told2 .given .1) at (c .before .before .next-field2 .ensures)) refl))
-
-next-field-requires-3 : tie.Need-next-field-requires-3
-next-field-requires-3 c κs = search needs
-
-enum-known-d : tie.Need-enum-known-d
-enum-known-d c = search needs
-
-enum-told-3 : tie.Need-enum-told-3
-enum-told-3 c = search needs
 
 returns-3 : tie.Need-returns-3
 returns-3 c =
@@ -89,17 +62,17 @@ pub three-spec : {M : Type 1} → statement M
 three-spec =
     tie.close
     (tie.spec
-    next-field-requires
-    enum-known-a
-    enum-told
+    (λ c κs. search needs)
+    (λ c. search needs)
+    (λ c. search needs)
     returns
-    next-field-requires-2
-    enum-known-b
-    enum-told-2
+    (λ c κs. search needs)
+    (λ c. search needs)
+    (λ c. search needs)
     returns-2
-    next-field-requires-3
-    enum-known-d
-    enum-told-3
+    (λ c κs. search needs)
+    (λ c. search needs)
+    (λ c. search needs)
     returns-3
     returns-4
     returns-5

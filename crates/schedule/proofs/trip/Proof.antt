@@ -9,26 +9,8 @@ use Rattle.schedule.proofs.trip.Tie as tie
 desk : (c : tie.After-i) → FieldIs (c .before .before .before .before .args .s .now) 1 (c .i .given .0 .0) (c .i .given .0 .1 .0)
 desk c = rw (c .i .given .1) at (c .before .before .next-field .ensures)
 
-next-field-requires : tie.Need-next-field-requires
-next-field-requires c κs = search needs
-
-enum-known-i : tie.Need-enum-known-i
-enum-known-i c = search needs
-
-enum-told : tie.Need-enum-told
-enum-told c = search needs
-
 returns : tie.Need-returns
 returns c = told-none _ _ (no-field _ 1 _ (rw (c .enum-told .given .1) at (c .before .before .next-field .ensures)) refl)
-
-trip-cells-requires : tie.Need-trip-cells-requires
-trip-cells-requires c κs = search needs
-
-enum-known-n : tie.Need-enum-known-n
-enum-known-n c = search needs
-
-enum-told-2 : tie.Need-enum-told-2
-enum-told-2 c = search needs
 
 returns-2 : tie.Need-returns-2
 returns-2 c =
@@ -44,12 +26,12 @@ pub trip-spec : {M : Type 1} → statement M
 trip-spec =
     tie.close
     (tie.spec
-    next-field-requires
-    enum-known-i
-    enum-told
+    (λ c κs. search needs)
+    (λ c. search needs)
+    (λ c. search needs)
     returns
-    trip-cells-requires
-    enum-known-n
-    enum-told-2
+    (λ c κs. search needs)
+    (λ c. search needs)
+    (λ c. search needs)
     returns-2
     returns-3)

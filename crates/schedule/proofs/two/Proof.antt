@@ -24,26 +24,8 @@ both : (c : tie.After-b) →
     sayAt (k .s .now) 1 (two (pairs (k .begins))) ≡ sayAt (k .s .now) (c .b .given .0 .1 .0) (λ l. two (pairs (k .begins)) (a .a .given .0 .0 ∷ c .b .given .0 .0 ∷ l))
 both c = one-field _ 1 _ _ _ (first (c .before .before .before .before)) ∙ one-field _ _ _ _ _ (second c)
 
-next-field-requires : tie.Need-next-field-requires
-next-field-requires c κs = search needs
-
-enum-known-a : tie.Need-enum-known-a
-enum-known-a c = search needs
-
-enum-told : tie.Need-enum-told
-enum-told c = search needs
-
 returns : tie.Need-returns
 returns c = sym (ap lineValue (no-field _ 1 _ (rw (c .enum-told .given .1) at (c .before .before .next-field .ensures)) refl))
-
-next-field-requires-2 : tie.Need-next-field-requires-2
-next-field-requires-2 c κs = search needs
-
-enum-known-b : tie.Need-enum-known-b
-enum-known-b c = search needs
-
-enum-told-2 : tie.Need-enum-told-2
-enum-told-2 c = search needs
 
 returns-2 : tie.Need-returns-2
 returns-2 c =
@@ -66,13 +48,13 @@ pub two-spec : {M : Type 1} → statement M
 two-spec =
     tie.close
     (tie.spec
-    next-field-requires
-    enum-known-a
-    enum-told
+    (λ c κs. search needs)
+    (λ c. search needs)
+    (λ c. search needs)
     returns
-    next-field-requires-2
-    enum-known-b
-    enum-told-2
+    (λ c κs. search needs)
+    (λ c. search needs)
+    (λ c. search needs)
     returns-2
     returns-3
     returns-4

@@ -6,17 +6,11 @@ use borrow.Author.Needs.{needs}
 use Rattle.session.proofs.act.Statement.{statement}
 use Rattle.session.proofs.act.Tie as tie
 
-enum-known-s : tie.Need-enum-known-s
-enum-known-s c = search needs
-
 deliver-at-requires : tie.Need-deliver-at-requires
 deliver-at-requires c κs =
     let z = c .before .before .before .before in
     let a = rw (z .s .given .1) at (z .before .before .pre .1) in
     (_, a .desks, a .placed)
-
-enum-known-s-2 : tie.Need-enum-known-s-2
-enum-known-s-2 c = search needs
 
 read-at-requires : tie.Need-read-at-requires
 read-at-requires c κs =
@@ -24,17 +18,11 @@ read-at-requires c κs =
     let a = rw (z .s2 .given .1) at (z .before .before .pre .1) in
     record { desks = a .desks; opens = _; own = _; placed = a .placed }
 
-enum-known-s-3 : tie.Need-enum-known-s-3
-enum-known-s-3 c = search needs
-
 write-at-requires : tie.Need-write-at-requires
 write-at-requires c κs =
     let z = c .before .before .before in
     let a = rw (z .s3 .given .1) at (z .before .before .pre .1) in
     record { desks = a .desks; own = _; placed = a .placed }
-
-enum-known-s-4 : tie.Need-enum-known-s-4
-enum-known-s-4 c = search needs
 
 trip-requires : tie.Need-trip-requires
 trip-requires c κs =
@@ -42,18 +30,6 @@ trip-requires c κs =
     let a = rw (z .s4 .given .1) at (z .before .before .pre) in
     let k = a .0 in
     (omega (arith, k), record { desks = a .1 .desks; opens = _; own = _; placed = a .1 .placed })
-
-enum-told : tie.Need-enum-told
-enum-told c = search needs
-
-no-step-requires : tie.Need-no-step-requires
-no-step-requires c κs = search needs
-
-enum-told-2 : tie.Need-enum-told-2
-enum-told-2 c = search needs
-
-no-step-requires-2 : tie.Need-no-step-requires-2
-no-step-requires-2 c κs = search needs
 
 returns : tie.Need-returns
 returns c ds p =
@@ -92,18 +68,18 @@ pub act-spec : {M : Type 1} → statement M
 act-spec =
     tie.close
     (tie.spec
-    enum-known-s
+    (λ c. search needs)
     deliver-at-requires
-    enum-known-s-2
+    (λ c. search needs)
     read-at-requires
-    enum-known-s-3
+    (λ c. search needs)
     write-at-requires
-    enum-known-s-4
+    (λ c. search needs)
     trip-requires
-    enum-told
-    no-step-requires
-    enum-told-2
-    no-step-requires-2
+    (λ c. search needs)
+    (λ c κs. search needs)
+    (λ c. search needs)
+    (λ c κs. search needs)
     returns
     returns-2
     returns-3

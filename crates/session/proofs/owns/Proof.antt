@@ -19,30 +19,6 @@ abbrev μ-loop : tie.MeasureT-loop
 loop-holds : tie.Need-loop-holds Inv-loop μ-loop
 loop-holds c = (search needs, (fill-start _ _, search needs))
 
-mul-d : tie.Need-mul-d Inv-loop μ-loop
-mul-d c = search needs
-
-array-copy-out-d : tie.Need-array-copy-out-d Inv-loop μ-loop
-array-copy-out-d c = search needs
-
-mul-own : tie.Need-mul-own Inv-loop μ-loop
-mul-own c = search needs
-
-array-read-own : tie.Need-array-read-own Inv-loop μ-loop
-array-read-own c = search needs
-
-mul-own-2 : tie.Need-mul-own-2 Inv-loop μ-loop
-mul-own-2 c = search needs
-
-array-write-own : tie.Need-array-write-own Inv-loop μ-loop
-array-write-own c = search needs
-
-add-i : tie.Need-add-i Inv-loop μ-loop
-add-i c = search needs
-
-loop-less : tie.Need-loop-less Inv-loop μ-loop
-loop-less c = search needs
-
 loop-again : tie.Need-loop-again Inv-loop μ-loop
 loop-again c =
     let L = c .before .before .before .loop in
@@ -61,13 +37,13 @@ owns-spec =
     Inv-loop
     μ-loop
     loop-holds
-    mul-d
-    array-copy-out-d
-    mul-own
-    array-read-own
-    mul-own-2
-    array-write-own
-    add-i
-    loop-less
+    (λ c. search needs)
+    (λ c. search needs)
+    (λ c. search needs)
+    (λ c. search needs)
+    (λ c. search needs)
+    (λ c. search needs)
+    (λ c. search needs)
+    (λ c. search needs)
     loop-again
     returns)

@@ -47,49 +47,10 @@ line-is c = c .first-line .ensures .0
 onward : (c : tie.After-behind Inv-loop μ-loop) → c .behind .result ≡ nextAt (c .before .before .before .before .before .before .before .before .before .before .before .before .before .before .before .before .before .before .before .before .before .before .before .before .before .before .before .before .before .before .before .before .args .text .now) (c .before .before .before .before .before .before .before .before .before .before .before .before .before .before .before .before .before .before .before .before .before .before .before .before .before .before .loop .place)
 onward c = next-place (c .before .before .before .before .before .before .before .before .before .before .before .before .before .before .before .before .before .before .before .before .before .before .before .before .before .before .before .before .before .before .before .before .args .text .now) (c .before .before .before .before .before .before .before .before .before .before .before .before .before .before .before .before .before .before .before .before .before .before .before .before .before .before .loop .place) (omega (arith, c .before .before .before .before .before .before .before .before .before .before .before .before .before .before .before .before .before .before .before .before .before .before .before .before .before .loop-test .taken)) (line-is (c .before .before .before .before .before .before .before .before .before .before .before .before .before .before .before .before .before .before .before .before .before .before .before)) refl (c .behind .ensures)
 
-desks-shape-requires : tie.Need-desks-shape-requires Inv-loop μ-loop
-desks-shape-requires c κs = search needs
-
-owns-requires : tie.Need-owns-requires Inv-loop μ-loop
-owns-requires c κs = search needs
-
 loop-holds : tie.Need-loop-holds Inv-loop μ-loop
 loop-holds c =
     let g = c .before .before .before .before .before .args in
     (rw (c .owns .ensures) (owns-all (g .core .desks) (c .before .desks-shape .ensures .count)), (refl, (search needs, λ z h. going-start h)))
-
-sub-if1 : tie.Need-sub-if1 Inv-loop μ-loop
-sub-if1 c = search needs
-
-first-line-requires : tie.Need-first-line-requires Inv-loop μ-loop
-first-line-requires c κs = search needs
-
-add-end : tie.Need-add-end Inv-loop μ-loop
-add-end c = search needs
-
-said-requires : tie.Need-said-requires Inv-loop μ-loop
-said-requires c κs = search needs
-
-actor-requires : tie.Need-actor-requires Inv-loop μ-loop
-actor-requires c κs = search needs
-
-seat-requires : tie.Need-seat-requires Inv-loop μ-loop
-seat-requires c κs = search needs
-
-desks-shape-requires-2 : tie.Need-desks-shape-requires-2 Inv-loop μ-loop
-desks-shape-requires-2 c κs = search needs
-
-cells-size-requires : tie.Need-cells-size-requires Inv-loop μ-loop
-cells-size-requires c κs = search needs
-
-opens-size-requires : tie.Need-opens-size-requires Inv-loop μ-loop
-opens-size-requires c κs = search needs
-
-mul-turn : tie.Need-mul-turn Inv-loop μ-loop
-mul-turn c = search needs
-
-array-copy-out-turn : tie.Need-array-copy-out-turn Inv-loop μ-loop
-array-copy-out-turn c = search needs
 
 turn-requires : tie.Need-turn-requires Inv-loop μ-loop
 turn-requires c κs =
@@ -97,27 +58,6 @@ turn-requires c κs =
     let p = c .before .before .before .before .before .before .before .before .before .before .before .before .before .before .before .before .before .before .before .before .before .before .before .pre in
     let g = L .inv .1 .1 .1 (p .session) (p .holds) in
     (c .before .before .before .before .before .before .before .before .before .before .before .before .said .ensures .few, record { desks = L .desks; session = g .session; seated = seated (c .before .before .before .before .before) (g .session) (g .holds) })
-
-mul-desks : tie.Need-mul-desks Inv-loop μ-loop
-mul-desks c = search needs
-
-array-set-from-desks : tie.Need-array-set-from-desks Inv-loop μ-loop
-array-set-from-desks c = search needs
-
-mul-own : tie.Need-mul-own Inv-loop μ-loop
-mul-own c = search needs
-
-array-read-own : tie.Need-array-read-own Inv-loop μ-loop
-array-read-own c = search needs
-
-mul-own-2 : tie.Need-mul-own-2 Inv-loop μ-loop
-mul-own-2 c = search needs
-
-array-write-own : tie.Need-array-write-own Inv-loop μ-loop
-array-write-own c = search needs
-
-print-requires : tie.Need-print-requires Inv-loop μ-loop
-print-requires c κs = search needs
 
 behind-requires : tie.Need-behind-requires Inv-loop μ-loop
 behind-requires c κs =
@@ -156,14 +96,8 @@ loop-again c =
       ),
     )
 
-same-length : tie.Need-same-length Inv-loop μ-loop
-same-length c = search needs
-
 returns : tie.Need-returns Inv-loop μ-loop
 returns c z h = going-end (c .before .loop .inv .1 .1 .1 z h) (λ l. absurd (omega (arith, c .loop-test .left)))
-
-same-length-2 : tie.Need-same-length-2 Inv-loop μ-loop
-same-length-2 c = search needs
 
 returns-2 : tie.Need-returns-2 Inv-loop μ-loop
 returns-2 c z h =
@@ -176,32 +110,32 @@ run-spec =
     (tie.spec
     Inv-loop
     μ-loop
-    desks-shape-requires
-    owns-requires
+    (λ c κs. search needs)
+    (λ c κs. search needs)
     loop-holds
-    sub-if1
-    first-line-requires
-    add-end
-    said-requires
-    actor-requires
-    seat-requires
-    desks-shape-requires-2
-    cells-size-requires
-    opens-size-requires
-    mul-turn
-    array-copy-out-turn
+    (λ c. search needs)
+    (λ c κs. search needs)
+    (λ c. search needs)
+    (λ c κs. search needs)
+    (λ c κs. search needs)
+    (λ c κs. search needs)
+    (λ c κs. search needs)
+    (λ c κs. search needs)
+    (λ c κs. search needs)
+    (λ c. search needs)
+    (λ c. search needs)
     turn-requires
-    mul-desks
-    array-set-from-desks
-    mul-own
-    array-read-own
-    mul-own-2
-    array-write-own
-    print-requires
+    (λ c. search needs)
+    (λ c. search needs)
+    (λ c. search needs)
+    (λ c. search needs)
+    (λ c. search needs)
+    (λ c. search needs)
+    (λ c κs. search needs)
     behind-requires
     loop-less
     loop-again
-    same-length
+    (λ c. search needs)
     returns
-    same-length-2
+    (λ c. search needs)
     returns-2)

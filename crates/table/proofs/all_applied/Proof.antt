@@ -23,24 +23,12 @@ loop-holds : tie.Need-loop-holds Inv-loop μ-loop
 unfolding everywhere
 loop-holds c = let z : c .args .n + 1 - 1 ≡ c .args .n = omega arith in (search needs, (search needs, rw z))
 
-sub-mark-at : tie.Need-sub-mark-at Inv-loop μ-loop
-sub-mark-at c = search needs
-
-mark-at-requires : tie.Need-mark-at-requires Inv-loop μ-loop
-mark-at-requires c κs = search needs
-
 returns : tie.Need-returns Inv-loop μ-loop
 returns c = let L = c .before .before .before .loop in
     let g = c .before .before .before .before .args in
     let m = openAt (g .opens .now) (g .e) .marks in
     let v = c .before .mark-at .ensures ∙ sym (place-at m (L .t) (L .inv .0)) in
     sym (all-fails (λ j. eqb (place m j) done) (g .n + 1) (L .t) (search needs) (ne-eqb (place m (L .t)) done (λ q. c .if1 .taken (v ∙ q)))) ∙ L .inv .1 .1
-
-add-t : tie.Need-add-t Inv-loop μ-loop
-add-t c = search needs
-
-loop-less : tie.Need-loop-less Inv-loop μ-loop
-loop-less c = search needs
 
 loop-again : tie.Need-loop-again Inv-loop μ-loop
 loop-again c = let L = c .before .before .before .loop in
@@ -67,10 +55,10 @@ all-applied-spec =
     Inv-loop
     μ-loop
     loop-holds
-    sub-mark-at
-    mark-at-requires
+    (λ c. search needs)
+    (λ c κs. search needs)
     returns
-    add-t
-    loop-less
+    (λ c. search needs)
+    (λ c. search needs)
     loop-again
     returns-2)

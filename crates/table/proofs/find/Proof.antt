@@ -15,26 +15,11 @@ Inv-loop opens u k first j₀ j = (j ≤ entries) × ((i : ℕ) → i < j → na
 abbrev μ-loop : tie.MeasureT-loop
 μ-loop opens u k first j₀ j = entries - j
 
-start-requires : tie.Need-start-requires Inv-loop μ-loop
-start-requires c κs = search needs
-
 loop-holds : tie.Need-loop-holds Inv-loop μ-loop
 loop-holds c = (search needs, λ i h. absurd (omega arith))
 
-add-e : tie.Need-add-e Inv-loop μ-loop
-add-e c = search needs
-
-holds-requires : tie.Need-holds-requires Inv-loop μ-loop
-holds-requires c κs = search needs
-
 returns : tie.Need-returns Inv-loop μ-loop
 returns c = (omega arith, sym (c .before .holds .ensures) ∙ c .if1 .taken)
-
-add-j : tie.Need-add-j Inv-loop μ-loop
-add-j c = search needs
-
-loop-less : tie.Need-loop-less Inv-loop μ-loop
-loop-less c = search needs
 
 loop-again : tie.Need-loop-again Inv-loop μ-loop
 loop-again c = let L = c .before .before .before .loop in
@@ -51,12 +36,12 @@ find-spec =
     (tie.spec
     Inv-loop
     μ-loop
-    start-requires
+    (λ c κs. search needs)
     loop-holds
-    add-e
-    holds-requires
+    (λ c. search needs)
+    (λ c κs. search needs)
     returns
-    add-j
-    loop-less
+    (λ c. search needs)
+    (λ c. search needs)
     loop-again
     returns-2)

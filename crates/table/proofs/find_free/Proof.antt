@@ -16,26 +16,11 @@ Inv-loop opens u k first j₀ j = (j ≤ entries) × ((i : ℕ) → i < j → fr
 abbrev μ-loop : tie.MeasureT-loop
 μ-loop opens u k first j₀ j = entries - j
 
-start-requires : tie.Need-start-requires Inv-loop μ-loop
-start-requires c κs = search needs
-
 loop-holds : tie.Need-loop-holds Inv-loop μ-loop
 loop-holds c = (search needs, λ i h. absurd (omega arith))
 
-add-e : tie.Need-add-e Inv-loop μ-loop
-add-e c = search needs
-
-writer-at-requires : tie.Need-writer-at-requires Inv-loop μ-loop
-writer-at-requires c κs = search needs
-
 returns : tie.Need-returns Inv-loop μ-loop
 returns c = (omega arith, eq-eqb _ 0 (sym (c .before .writer-at .ensures) ∙ c .if1 .taken))
-
-add-j : tie.Need-add-j Inv-loop μ-loop
-add-j c = search needs
-
-loop-less : tie.Need-loop-less Inv-loop μ-loop
-loop-less c = search needs
 
 loop-again : tie.Need-loop-again Inv-loop μ-loop
 loop-again c = let L = c .before .before .before .loop in
@@ -52,12 +37,12 @@ find-free-spec =
     (tie.spec
     Inv-loop
     μ-loop
-    start-requires
+    (λ c κs. search needs)
     loop-holds
-    add-e
-    writer-at-requires
+    (λ c. search needs)
+    (λ c κs. search needs)
     returns
-    add-j
-    loop-less
+    (λ c. search needs)
+    (λ c. search needs)
     loop-again
     returns-2)

@@ -9,31 +9,13 @@ use Rattle.clock.proofs.Clock.raise.Tie as tie
 returns : tie.Need-returns
 returns c = let g = c .before .args in rises-not (g .self) (g .u) (rw (c .if1 .taken))
 
-sub-at : tie.Need-sub-at
-sub-at c = search needs
-
 returns-2 : tie.Need-returns-2
 returns-2 c = let g = c .before .before .args in
     let n : length (g .self .at) ≡ places = search needs in
     rises-not (g .self) (g .u) (rises-out (g .self .at) (g .u) (search needs))
 
-mul-k : tie.Need-mul-k
-mul-k c = search needs
-
-array-read-k : tie.Need-array-read-k
-array-read-k c = search needs
-
 returns-3 : tie.Need-returns-3
 returns-3 c = let g = c .before .before .before .before .args in rises-not (g .self) (g .u) (rises-most (g .self .at) (g .u) (search needs) (search needs))
-
-add-v : tie.Need-add-v
-add-v c = search needs
-
-mul-v : tie.Need-mul-v
-mul-v c = search needs
-
-array-write-v : tie.Need-array-write-v
-array-write-v c = search needs
 
 returns-4 : tie.Need-returns-4
 returns-4 c = let g = c .before .before .before .before .args in
@@ -45,12 +27,12 @@ raise-spec =
     tie.close
     (tie.spec
     returns
-    sub-at
+    (λ c. search needs)
     returns-2
-    mul-k
-    array-read-k
+    (λ c. search needs)
+    (λ c. search needs)
     returns-3
-    add-v
-    mul-v
-    array-write-v
+    (λ c. search needs)
+    (λ c. search needs)
+    (λ c. search needs)
     returns-4)

@@ -8,32 +8,11 @@ use borrow.Author.Needs.{needs}
 use Rattle.steps.proofs.deliver.apply_at.Statement.{statement}
 use Rattle.steps.proofs.deliver.apply_at.Tie as tie
 
-open-at-requires : tie.Need-open-at-requires
-open-at-requires c κs = search needs
-
-wide-requires : tie.Need-wide-requires
-wide-requires c κs = search needs
-
 slot-of-requires : tie.Need-slot-of-requires
 slot-of-requires c κs =
     let r = c .before .before .open-at in
     let p = c .before .before .before .before .pre in
     (p .1 .0, rw (c .wide .ensures .0, r .ensures) (p .1 .1 .1))
-
-put-cell-requires : tie.Need-put-cell-requires
-put-cell-requires c κs = search needs
-
-sub-put-mark : tie.Need-sub-put-mark
-sub-put-mark c = search needs
-
-put-mark-requires : tie.Need-put-mark-requires
-put-mark-requires c κs = search needs
-
-all-applied-requires : tie.Need-all-applied-requires
-all-applied-requires c κs = search needs
-
-set-free-requires : tie.Need-set-free-requires
-set-free-requires c κs = search needs
 
 cell-stored : (c : tie.After-all-applied) → (os′ : List ℕ)
     → os′ ≡ pick (c .all-applied .result) (freeEntry (c .before .before .put-mark .last .0) (c .before .before .before .before .before .before .before .before .before .before .before .args .e)) (c .before .before .put-mark .last .0)
@@ -57,13 +36,13 @@ pub apply-at-spec : {M : Type 1} → statement M
 apply-at-spec =
     tie.close
     (tie.spec
-    open-at-requires
-    wide-requires
+    (λ c κs. search needs)
+    (λ c κs. search needs)
     slot-of-requires
-    put-cell-requires
-    sub-put-mark
-    put-mark-requires
-    all-applied-requires
-    set-free-requires
+    (λ c κs. search needs)
+    (λ c. search needs)
+    (λ c κs. search needs)
+    (λ c κs. search needs)
+    (λ c κs. search needs)
     returns
     returns-2)

@@ -93,12 +93,6 @@ due-of-requires c κs =
     let h = safe (s .before .before .before .before .before .before .before) in
     (h .desk, ((s .search .inv .1 .0, omega (arith, c .before .if1 .left, h .count)), gone (s .before) (p .0) (p .1) (p .2) .now .unique))
 
-enum-known-x : tie.Need-enum-known-x Inv-search μ-search Inv-apply μ-apply
-enum-known-x c = search needs
-
-enum-told : tie.Need-enum-told Inv-search μ-search Inv-apply μ-apply
-enum-told c = search needs
-
 add-t : tie.Need-add-t Inv-search μ-search Inv-apply μ-apply
 add-t c =
     let s = c .before .before .before .before .before in
@@ -117,12 +111,6 @@ search-again c =
       sym (scan-next _ some none (n + 1) (L .t) (omega arith) (due-not _ _ _ _ (L .t) (d .due-of .result) (d .due-of .ensures) (c .enum-told .given .1))) ∙ L .inv .0,
       (search needs, omega arith),
     )
-
-enum-known-found : tie.Need-enum-known-found Inv-search μ-search Inv-apply μ-apply
-enum-known-found c = search needs
-
-enum-told-2 : tie.Need-enum-told-2 Inv-search μ-search Inv-apply μ-apply
-enum-told-2 c = search needs
 
 apply-less : tie.Need-apply-less Inv-search μ-search Inv-apply μ-apply
 apply-less c = omega (arith, safe (c .before .before .before .before .before .before .before .before .before .before .before) .room)
@@ -176,13 +164,13 @@ cascade-spec =
     add-len
     search-holds
     due-of-requires
-    enum-known-x
-    enum-told
+    (λ c. search needs)
+    (λ c. search needs)
     add-t
     search-less
     search-again
-    enum-known-found
-    enum-told-2
+    (λ c. search needs)
+    (λ c. search needs)
     apply-less
     apply-again
     returns)

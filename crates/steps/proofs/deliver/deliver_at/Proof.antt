@@ -15,21 +15,12 @@ use Rattle.steps.proofs.deliver.deliver_at.Tie as tie
 tests-requires : tie.Need-tests-requires
 tests-requires c κs = few-desks (c .pre .2)
 
-enum-known-test : tie.Need-enum-known-test
-enum-known-test c = search needs
-
-turned-away-requires : tie.Need-turned-away-requires
-turned-away-requires c κs = search needs
-
 returns : tie.Need-returns
 returns c m ds p =
     let q = c .before .before in
     let t = q .before .before in
     let g = t .before .args in
     rw (c .turned-away .ensures) (meets-refused p (g .u) (g .k) _ (g .names .now) (failed p (g .u) (g .k) (t .tests .result) _ (t .tests .ensures) (q .test .given .1)))
-
-enum-told : tie.Need-enum-told
-enum-told c = search needs
 
 past : (c : tie.After-enum-told) → (let g = c .before .before .before .args in Passes (g .n) (g .own) (g .i) (g .u) (g .k))
 past c =
@@ -45,15 +36,6 @@ find-requires c κs =
     let t = c .before .before in
     let h = past t .writer in
     (h .0, omega (arith, h .1, few-desks (t .before .before .before .pre .2)))
-
-enum-known-e : tie.Need-enum-known-e
-enum-known-e c = search needs
-
-enum-told-2 : tie.Need-enum-told-2
-enum-told-2 c = search needs
-
-turned-away-requires-2 : tie.Need-turned-away-requires-2
-turned-away-requires-2 c κs = search needs
 
 found : (c : tie.After-find) → (let g = c .before .before .before .before .before .before .args in FoundIn (namedAt (g .opens .now) (g .u) (g .k)) (c .find .result))
 found c =
@@ -82,9 +64,6 @@ mark-at-requires c κs =
     let t = c .before .before .before .before .before .before .before in
     let h = past t .desk in
     (entry (c .before) .0, omega (arith, h .0, h .1, few-desks (t .before .before .before .pre .2)))
-
-turned-away-requires-3 : tie.Need-turned-away-requires-3
-turned-away-requires-3 c κs = search needs
 
 mark-is : (c : tie.After-mark-at)
     → (let g = c .before .before .before .before .before .before .before .before .before .before .before .args in
@@ -130,19 +109,19 @@ deliver-at-spec =
     tie.close
     (tie.spec
     tests-requires
-    enum-known-test
-    turned-away-requires
+    (λ c. search needs)
+    (λ c κs. search needs)
     returns
-    enum-told
+    (λ c. search needs)
     small-requires
     find-requires
-    enum-known-e
-    enum-told-2
-    turned-away-requires-2
+    (λ c. search needs)
+    (λ c. search needs)
+    (λ c κs. search needs)
     returns-2
     sub-mark-at
     mark-at-requires
-    turned-away-requires-3
+    (λ c κs. search needs)
     returns-3
     receive-requires
     returns-4)

@@ -16,41 +16,11 @@ use borrow.Author.Needs.{needs}
 use Rattle.steps.proofs.deliver.due_of.Statement.{statement}
 use Rattle.steps.proofs.deliver.due_of.Tie as tie
 
-sub-k : tie.Need-sub-k
-sub-k c = search needs
-
-mul-k : tie.Need-mul-k
-mul-k c = search needs
-
-array-read-k : tie.Need-array-read-k
-array-read-k c = search needs
-
-sub-most : tie.Need-sub-most
-sub-most c = search needs
-
-mul-most : tie.Need-mul-most
-mul-most c = search needs
-
-array-read-most : tie.Need-array-read-most
-array-read-most c = search needs
-
 returns : tie.Need-returns
 returns c =
     let g = c .before .args in
     let h = c .before .pre .1 .0 .0 in
     due-late (g .t1) (g .t2) (g .opens .now) (g .i) (g .u) (omega (arith, place-at (g .t1) (g .u) h, place-at (g .t2) (g .u) h, c .if1 .taken))
-
-one-more-requires : tie.Need-one-more-requires
-one-more-requires c κs = search needs
-
-find-requires : tie.Need-find-requires
-find-requires c κs = search needs
-
-enum-known-e : tie.Need-enum-known-e
-enum-known-e c = search needs
-
-enum-told : tie.Need-enum-told
-enum-told c = search needs
 
 -- what the search by name finds is the writer's next write
 found : (c : tie.After-find) → (let g = c .before .before .before .args in FoundIn (namedAt (g .opens .now) (g .u) (suc (place (g .t1) (g .u)))) (c .find .result))
@@ -66,9 +36,6 @@ returns-2 c =
     let f = c .before .before in
     let g = f .before .before .before .args in
     due-none (g .t1) (g .t2) (g .opens .now) (g .i) (g .u) (found-none _ _ _ (f .find .result) (found f) (c .enum-told .given .1))
-
-sub-mark-at : tie.Need-sub-mark-at
-sub-mark-at c = search needs
 
 entry : (c : tie.After-known-told)
     → (let g = c .before .before .before .before .before .before .args in
@@ -95,9 +62,6 @@ returns-3 c = due (c .before) ∙ rw (ne-eqb _ _ (c .if2 .taken))
 vector-at-requires : tie.Need-vector-at-requires
 vector-at-requires c κs = entry (c .before .before) .0
 
-ready-requires : tie.Need-ready-requires
-ready-requires c κs = search needs
-
 ready-is : (c : tie.After-ready)
     → (let g = c .before .before .before .before .before .before .before .before .before .before .args in
     c .ready .result ≡ readyAt (g .t1) (openAt (g .opens .now) (c .before .before .before .before .before .e .given .0 .0) .vector) (g .u))
@@ -123,22 +87,22 @@ pub due-of-spec : {M : Type 1} → statement M
 due-of-spec =
     tie.close
     (tie.spec
-    sub-k
-    mul-k
-    array-read-k
-    sub-most
-    mul-most
-    array-read-most
+    (λ c. search needs)
+    (λ c. search needs)
+    (λ c. search needs)
+    (λ c. search needs)
+    (λ c. search needs)
+    (λ c. search needs)
     returns
-    one-more-requires
-    find-requires
-    enum-known-e
-    enum-told
+    (λ c κs. search needs)
+    (λ c κs. search needs)
+    (λ c. search needs)
+    (λ c. search needs)
     returns-2
-    sub-mark-at
+    (λ c. search needs)
     mark-at-requires
     returns-3
     vector-at-requires
-    ready-requires
+    (λ c κs. search needs)
     returns-4
     returns-5)

@@ -16,9 +16,6 @@ use Rattle.steps.proofs.deliver.receive.Tie as tie
 vector-at-requires : tie.Need-vector-at-requires
 vector-at-requires c κs = c .before .pre .2 .small
 
-ready-requires : tie.Need-ready-requires
-ready-requires c κs = search needs
-
 ready-is : (c : tie.After-ready)
     → (let g = c .before .before .before .before .before .args in c .ready .result ≡ readyAt (g .d .applied) (openAt (g .opens .now) (g .e) .vector) (g .u))
 ready-is c = c .ready .ensures ∙ rw (c .before .before .before .vector-at .ensures)
@@ -60,7 +57,7 @@ receive-spec =
     tie.close
     (tie.spec
     vector-at-requires
-    ready-requires
+    (λ c κs. search needs)
     cascade-requires
     returns
     sub-put-mark

@@ -12,15 +12,9 @@ use borrow.Author.Needs.{needs}
 use Rattle.steps.proofs.deliver.tests.Statement.{statement}
 use Rattle.steps.proofs.deliver.tests.Tie as tie
 
-inside-requires : tie.Need-inside-requires
-inside-requires c κs = search needs
-
 returns : tie.Need-returns
 unfolding testsOf
 returns c = rw (sym (c .before .inside .ensures) ∙ not-true _ (c .if1 .taken))
-
-inside-requires-2 : tie.Need-inside-requires-2
-inside-requires-2 c κs = search needs
 
 first : (c : tie.Else1) → (let g = c .before .before .before .args in within (g .n) (g .i) ≡ true)
 first c = sym (c .before .inside .ensures) ∙ not-false _ (c .if1 .left)
@@ -48,12 +42,6 @@ mul-wide c = omega (arith, writer c .1, c .before .before .before .before .befor
 array-read-wide : tie.Need-array-read-wide
 array-read-wide c = omega (arith, writer c, c .before .before .before .before .before .before .pre)
 
-wide-requires : tie.Need-wide-requires
-wide-requires c κs = search needs
-
-inside-requires-3 : tie.Need-inside-requires-3
-inside-requires-3 c κs = search needs
-
 number : (c : tie.After-inside3) → (let g = c .before .before .before .before .before .before .before .before .args in c .inside3 .result ≡ within (place (g .t3) (g .u)) (g .k))
 number c =
     let e = c .before .before in
@@ -74,9 +62,6 @@ mul-wide-2 c = let e = c .before .before .before in omega (arith, writer e .1, e
 
 array-read-wide-2 : tie.Need-array-read-wide-2
 array-read-wide-2 c = let e = c .before .before .before in omega (arith, writer e, e .before .before .before .before .before .before .pre)
-
-wide-requires-2 : tie.Need-wide-requires-2
-wide-requires-2 c κs = search needs
 
 count : (c : tie.After-wide2) → (let g = c .before .before .before .before .before .before .before .before .before .before .args in c .wide2 .result ≡ place (g .d .applied) (g .u))
 count c =
@@ -102,20 +87,20 @@ pub tests-spec : {M : Type 1} → statement M
 tests-spec =
     tie.close
     (tie.spec
-    inside-requires
+    (λ c κs. search needs)
     returns
-    inside-requires-2
+    (λ c κs. search needs)
     returns-2
     returns-3
     sub-wide
     mul-wide
     array-read-wide
-    wide-requires
-    inside-requires-3
+    (λ c κs. search needs)
+    (λ c κs. search needs)
     returns-4
     sub-wide-2
     mul-wide-2
     array-read-wide-2
-    wide-requires-2
+    (λ c κs. search needs)
     returns-5
     returns-6)

@@ -8,21 +8,9 @@ use borrow.Author.Needs.{needs}
 use Rattle.steps.proofs.look.read_at.Statement.{statement}
 use Rattle.steps.proofs.look.read_at.Tie as tie
 
-inside-requires : tie.Need-inside-requires
-inside-requires c κs = search needs
-
-refused-requires : tie.Need-refused-requires
-refused-requires c κs = search needs
-
 returns : tie.Need-returns
 returns c ds os own p =
     refused-turn p _ NoDesk (c .refused .ensures) (inl (stops (says-within _ _) (c .before .before .inside .ensures) (c .before .if1 .taken), refl))
-
-inside-requires-2 : tie.Need-inside-requires-2
-inside-requires-2 c κs = search needs
-
-refused-requires-2 : tie.Need-refused-requires-2
-refused-requires-2 c κs = search needs
 
 returns-2 : tie.Need-returns-2
 returns-2 c ds os own p =
@@ -49,11 +37,11 @@ pub read-at-spec : {M : Type 1} → statement M
 read-at-spec =
     tie.close
     (tie.spec
-    inside-requires
-    refused-requires
+    (λ c κs. search needs)
+    (λ c κs. search needs)
     returns
-    inside-requires-2
-    refused-requires-2
+    (λ c κs. search needs)
+    (λ c κs. search needs)
     returns-2
     looked-requires
     returns-3)

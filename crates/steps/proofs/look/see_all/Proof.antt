@@ -19,33 +19,12 @@ abbrev μ-loop : tie.MeasureT-loop
 loop-holds : tie.Need-loop-holds Inv-loop μ-loop
 loop-holds c = (search needs, refl)
 
-mul-wide : tie.Need-mul-wide Inv-loop μ-loop
-mul-wide c = search needs
-
-shared-slice-read-wide : tie.Need-shared-slice-read-wide Inv-loop μ-loop
-shared-slice-read-wide c = search needs
-
-wide-requires : tie.Need-wide-requires Inv-loop μ-loop
-wide-requires c κs = search needs
-
 slot-of-requires : tie.Need-slot-of-requires Inv-loop μ-loop
 slot-of-requires c κs =
     let a = c .before .before .before .before .before .args in
     let L = c .before .before .before .loop in
     let pre = c .before .before .before .before .before .pre in
     (pre .0, rw (c .wide .ensures .0) (says-within _ _ .to (every-at (within desk-cells) (a .list .now) (L .j) 0 (search needs) (pre .1))))
-
-cell-at-requires : tie.Need-cell-at-requires Inv-loop μ-loop
-cell-at-requires c κs = search needs
-
-see-requires : tie.Need-see-requires Inv-loop μ-loop
-see-requires c κs = search needs
-
-add-j : tie.Need-add-j Inv-loop μ-loop
-add-j c = search needs
-
-loop-less : tie.Need-loop-less Inv-loop μ-loop
-loop-less c = search needs
 
 loop-again : tie.Need-loop-again Inv-loop μ-loop
 loop-again c =
@@ -64,13 +43,13 @@ see-all-spec =
     Inv-loop
     μ-loop
     loop-holds
-    mul-wide
-    shared-slice-read-wide
-    wide-requires
+    (λ c. search needs)
+    (λ c. search needs)
+    (λ c κs. search needs)
     slot-of-requires
-    cell-at-requires
-    see-requires
-    add-j
-    loop-less
+    (λ c κs. search needs)
+    (λ c κs. search needs)
+    (λ c. search needs)
+    (λ c. search needs)
     loop-again
     returns)

@@ -9,21 +9,9 @@ use borrow.Author.Needs.{needs}
 use Rattle.steps.proofs.look.trip_at.Statement.{statement}
 use Rattle.steps.proofs.look.trip_at.Tie as tie
 
-inside-requires : tie.Need-inside-requires
-inside-requires c κs = search needs
-
-refused-requires : tie.Need-refused-requires
-refused-requires c κs = search needs
-
 returns : tie.Need-returns
 returns c ds os own p =
     refused-turn p _ NoDesk (c .refused .ensures) (inl (stops (says-within _ _) (c .before .before .inside .ensures) (c .before .if1 .taken), refl))
-
-inside-requires-2 : tie.Need-inside-requires-2
-inside-requires-2 c κs = search needs
-
-refused-requires-2 : tie.Need-refused-requires-2
-refused-requires-2 c κs = search needs
 
 returns-2 : tie.Need-returns-2
 returns-2 c ds os own p =
@@ -32,12 +20,6 @@ returns-2 c ds os own p =
       passes (says-within _ _) (c .before .before .before .before .inside .ensures) (c .before .before .before .if1 .left),
       inl (stops (says-within _ _) (c .before .before .inside2 .ensures) (c .before .if2 .taken), refl),
     ))
-
-all-inside-requires : tie.Need-all-inside-requires
-all-inside-requires c κs = search needs
-
-refused-requires-3 : tie.Need-refused-requires-3
-refused-requires-3 c κs = search needs
 
 returns-3 : tie.Need-returns-3
 returns-3 c ds os own p =
@@ -69,14 +51,14 @@ pub trip-at-spec : {M : Type 1} → statement M
 trip-at-spec =
     tie.close
     (tie.spec
-    inside-requires
-    refused-requires
+    (λ c κs. search needs)
+    (λ c κs. search needs)
     returns
-    inside-requires-2
-    refused-requires-2
+    (λ c κs. search needs)
+    (λ c κs. search needs)
     returns-2
-    all-inside-requires
-    refused-requires-3
+    (λ c κs. search needs)
+    (λ c κs. search needs)
     returns-3
     travelled-requires
     returns-4)

@@ -29,40 +29,19 @@ unspent k = omega (arith, k .before .at-place .ensures)
 not-full : (k : tie.At-match-keys2) → k .before .spot-for .result ≡ Full → ⊥
 not-full k e = ⊎-elim (λ q. omega arith) (λ q. omega arith) (rw e at (k .match .keys2))
 
-inside-requires : tie.Need-inside-requires
-inside-requires c κs = search needs
-
-refused-requires : tie.Need-refused-requires
-refused-requires c κs = search needs
-
 returns : tie.Need-returns
 returns c ds own p =
     refused-turn p _ NoDesk (c .refused .ensures) (inl (stops (says-within _ _) (c .before .before .inside .ensures) (c .before .if1 .taken), refl))
-
-inside-requires-2 : tie.Need-inside-requires-2
-inside-requires-2 c κs = search needs
-
-refused-requires-2 : tie.Need-refused-requires-2
-refused-requires-2 c κs = search needs
 
 returns-2 : tie.Need-returns-2
 returns-2 c ds own p =
     refused-turn p _ NoCell (c .refused2 .ensures)
     (inr (desk-in (c .before .before .before), inl (stops (says-within _ _) (c .before .before .inside2 .ensures) (c .before .if2 .taken), refl)))
 
-refused-requires-3 : tie.Need-refused-requires-3
-refused-requires-3 c κs = search needs
-
 returns-3 : tie.Need-returns-3
 returns-3 c ds own p =
     let k = c .before .before in
     refused-turn p _ NoStatus (c .refused3 .ensures) (inr (desk-in (k .before .before), inr (cell-in k, inl ((λ h. omega (arith, c .before .if3 .taken)), refl))))
-
-at-place-requires : tie.Need-at-place-requires
-at-place-requires c κs = search needs
-
-refused-requires-4 : tie.Need-refused-requires-4
-refused-requires-4 c κs = search needs
 
 returns-4 : tie.Need-returns-4
 returns-4 c ds own p =
@@ -79,18 +58,6 @@ returns-4 c ds own p =
         ),
       ),
     ))
-
-add-spot-for : tie.Need-add-spot-for
-add-spot-for c = search needs
-
-spot-for-requires : tie.Need-spot-for-requires
-spot-for-requires c κs = search needs
-
-enum-told : tie.Need-enum-told
-enum-told c = search needs
-
-refused-requires-5 : tie.Need-refused-requires-5
-refused-requires-5 c κs = search needs
 
 returns-5 : tie.Need-returns-5
 returns-5 c ds own p =
@@ -111,9 +78,6 @@ returns-5 c ds own p =
         ),
       ),
     ))
-
-small-requires : tie.Need-small-requires
-small-requires c κs = search needs
 
 written-requires : tie.Need-written-requires
 written-requires c κs =
@@ -139,22 +103,22 @@ pub write-at-spec : {M : Type 1} → statement M
 write-at-spec =
     tie.close
     (tie.spec
-    inside-requires
-    refused-requires
+    (λ c κs. search needs)
+    (λ c κs. search needs)
     returns
-    inside-requires-2
-    refused-requires-2
+    (λ c κs. search needs)
+    (λ c κs. search needs)
     returns-2
-    refused-requires-3
+    (λ c κs. search needs)
     returns-3
-    at-place-requires
-    refused-requires-4
+    (λ c κs. search needs)
+    (λ c κs. search needs)
     returns-4
-    add-spot-for
-    spot-for-requires
-    enum-told
-    refused-requires-5
+    (λ c. search needs)
+    (λ c κs. search needs)
+    (λ c. search needs)
+    (λ c κs. search needs)
     returns-5
-    small-requires
+    (λ c κs. search needs)
     written-requires
     returns-6)
