@@ -10,8 +10,8 @@ use Rattle.laws.specs.All.{all}
 use Rattle.laws.specs.Update.{upd, upd2}
 use Rattle.laws.specs.Sum.{sum}
 use Rattle.laws.specs.Lists.{any, every}
-use Rattle.machine.specs.Table.{name, blank, State, fresh}
-use Rattle.machine.specs.Answer.{no-step, damaged, broken, short, numberOf, Yes, Answer, began, shows, wrote, holds, applies, judged, refused}
+use Rattle.machine.specs.Table.{Vec, zeros, name, blank, State, fresh}
+use Rattle.machine.specs.Answer.{shown, no-step, damaged, broken, short, numberOf, Yes, Answer, began, shows, wrote, holds, applies, judged, refused}
 use Rattle.machine.specs.Steps.{Step, Read, Write, Deliver, Trip, begin, step, answers, failing, everywhere, openCount, firstDue, settle, reads, verdict}
 use Rattle.machine.specs.History.{take-step, run}
 
@@ -49,9 +49,11 @@ pub edge-of-trip : replies (fresh 1 1) (Write 1 1 1 ∷ Trip 1 (replicate 16 1) 
 unfolding all upd upd2 sum step answers everywhere openCount reads any every verdict
 edge-of-trip = refl
 
--- a table of one desk that has written k times
+-- a table of one desk that has written k times (which cell it wrote makes no difference to the count)
 abbrev pub writtenTimes : ℕ → State
-writtenTimes k = record { desks = 1; cells = 1; applied = λ i u. k; clock = λ i u. k; cell = λ i x. blank; opens = λ u k. none }
+writtenTimes k =
+    let once : ℕ → Vec = upd2 (λ i. zeros) 1 1 k in
+    record { desks = 1; cells = 1; applied = once; clock = once; cell = λ i x. blank; opens = λ u k. none }
 
 -- "write 65,535 and the next"
 pub edge-of-writes : replies (writtenTimes 65534) (Write 1 1 0 ∷ Write 1 1 0 ∷ []) ≡ given (wrote (name 1 65535)) ∷ E 4 ∷ []
@@ -64,6 +66,18 @@ pub edge-of-open : replies (run (λ s. s) (fresh 2 1) (map take-step (replicate 
     ≡ given (wrote (name 1 64)) ∷ E 5 ∷ E 5 ∷ given (applies (name 1 1 ∷ [])) ∷ given (wrote (name 2 1)) ∷ E 5 ∷ []
 unfolding turns scan all upd upd2 sum step answers run failing everywhere openCount firstDue settle
 edge-of-open = refl
+
+-- "the smallest desk number whose place fails": 3.2 lacks both 1.1 and 3.1. "the one with the smallest writer is applied; the search .. begins
+-- again": 3.1 makes 2.1 and 3.2 ready.
+pub smallest-first : answers (fresh 4 1) (
+    Write 1 1 0 ∷ Deliver 3 1 1 ∷ Read 3 1 ∷ Write 3 1 0 ∷ Write 3 1 0 ∷
+    Deliver 2 1 1 ∷ Deliver 2 3 1 ∷ Read 2 1 ∷ Write 2 1 0 ∷
+    Deliver 4 3 2 ∷ Deliver 4 2 1 ∷ Deliver 4 3 1 ∷ Deliver 4 1 1 ∷ [])
+    ≡ wrote (name 1 1) ∷ applies (name 1 1 ∷ []) ∷ shows (shown 0 1 1) ∷ wrote (name 3 1) ∷ wrote (name 3 2) ∷
+    applies (name 1 1 ∷ []) ∷ applies (name 3 1 ∷ []) ∷ shows (shown 0 3 1) ∷ wrote (name 2 1) ∷
+    holds 1 ∷ holds 1 ∷ holds 1 ∷ applies (name 1 1 ∷ name 3 1 ∷ name 2 1 ∷ name 3 2 ∷ []) ∷ []
+unfolding turns scan all upd upd2 sum step answers failing everywhere openCount firstDue settle
+smallest-first = refl
 
 -- 1, 2, 6, 7 and 8, each where it is met
 pub numbers-of-steps : replies (fresh 2 1) (

@@ -5,7 +5,7 @@ ghost use Prim.Native.Nat.{_≤_};
 ghost use lib.ListN.{length};
 ghost use Rattle.laws.specs.Stores.{Stored};
 ghost use Rattle.laws.specs.Text.{text};
-ghost use Rattle.session.specs.Transcript.{transcriptFrom};
+ghost use Rattle.session.specs.Transcript.{transcriptFrom, transcript};
 ghost use Rattle.replay.specs.Answers.{Answered, Room, Filled, most-answers};
 use clock::PLACES;
 use libc::STDERR_FILENO;
@@ -73,11 +73,18 @@ fn answers(text: &[u8], out: &mut [u8; ANSWERS]) -> usize
     lines(text, out)
 }
 
+// The one place that writes to standard output. It asks that what it is handed is all that is printed for the text.
+fn print(text: &[u8], all: &[u8]) -> bool
+    requires { ⌜ now all ≡ transcript (now text) ⌝ }
+{
+    io::write_all(STDOUT_FILENO, all)
+}
+
 // Answers a text on standard output, and says so where it can't.
 fn reply(text: &[u8]) {
     let mut out = [0u8; ANSWERS];
     let len = answers(text, &mut out);
-    if !io::write_all(STDOUT_FILENO, &out[..len]) {
+    if !print(text, &out[..len]) {
         io::write_all(STDERR_FILENO, b"replay: standard output: write failed\n");
     }
 }

@@ -70,6 +70,14 @@ fn compare_and_streams_tell_a_replay_from_others() {
 }
 
 #[test]
+fn each_check_of_streams_can_fail() {
+    let found = run(env!("CARGO_BIN_EXE_streams"), &["/bin/true"], b"").stdout;
+    let found = String::from_utf8(found).unwrap();
+    assert_eq!(found.lines().count(), 6);
+    assert!(!found.contains("as it should be"), "{found}");
+}
+
+#[test]
 fn schedules_prints_schedules() {
     let program = env!("CARGO_BIN_EXE_schedules");
     for kind in Kind::ALL {
