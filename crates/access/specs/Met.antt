@@ -11,10 +11,10 @@ use Rattle.clock.specs.Vectors.{places}
 use Rattle.machine.specs.Answer as machine
 use Rattle.machine.specs.Rules.{In}
 use Rattle.machine.specs.Steps.{Step, Deliver, step}
-use Rattle.answer.specs.declared.Answer.{Answer}
-use Rattle.answer.specs.declared.Answer.the-variants.{Refused}
-use Rattle.answer.specs.declared.Refusal.the-variants.{Broken}
-use Rattle.answer.specs.Meaning.{answerOf, Counted}
+use Rattle.reply.specs.declared.Answer.{Answer}
+use Rattle.reply.specs.declared.Answer.the-variants.{Refused}
+use Rattle.reply.specs.declared.Refusal.the-variants.{Broken}
+use Rattle.reply.specs.Meaning.{answerOf, Counted}
 use Rattle.table.specs.declared.Core.{Core}
 use Rattle.table.specs.declared.Desk.{Desk}
 use Rattle.table.specs.declared.Table.{Table}

@@ -13,11 +13,11 @@ use Rattle.machine.specs.Answer as machine
 use Rattle.machine.specs.Steps.{Step, Read, Write, Deliver, Trip, step, answers}
 use Rattle.machine.specs.Refusals.{Row, rowsOf, FirstFails}
 use Rattle.machine.specs.Proofs.Refusals.{refusal-exactly}
-use Rattle.answer.specs.declared.Answer.{Answer}
-use Rattle.answer.specs.declared.Answer.the-variants.{Refused}
-use Rattle.answer.specs.declared.Refusal.{Refusal}
-use Rattle.answer.specs.Meaning.{refusalOf, answerOf, Counted}
-use Rattle.answer.specs.Unique.{answer-is, Silent, silent-counted}
+use Rattle.reply.specs.declared.Answer.{Answer}
+use Rattle.reply.specs.declared.Answer.the-variants.{Refused}
+use Rattle.reply.specs.declared.Refusal.{Refusal}
+use Rattle.reply.specs.Meaning.{refusalOf, answerOf, Counted}
+use Rattle.reply.specs.Unique.{answer-is, Silent, silent-counted}
 use Rattle.table.specs.declared.Table.{Table}
 use Rattle.table.specs.Shape.{DesksShape, Shaped}
 use Rattle.table.specs.Model.{modelOf}

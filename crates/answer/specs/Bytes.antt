@@ -1,19 +1,10 @@
 -- The output line of an answer (document 01, "Schedule text": "`replay` .. prints one line for each input line").
-use Prim.Native.Nat.{ℕ, zero, suc, _+_, _/_, _%_}
+use Prim.Native.Nat.{ℕ}
 use mathlib.Core.List.{List, [], _∷_, _++_}
 use Rattle.laws.specs.Text.{text}
+use Rattle.text.specs.Number.{decimal}
 use Rattle.machine.specs.Table.{Name}
 use Rattle.machine.specs.Answer.{Answer, began, shows, wrote, holds, applies, judged, refused, unset, shown, Verdict, Yes, No, Unknown, numberOf}
-
--- the digits of n, and none for 0. Each turn takes the last off, so n turns are enough.
-unfoldable pub digits : ℕ → ℕ → List ℕ
-digits zero n = []
-digits (suc turns) zero = []
-digits (suc turns) (suc n) = digits turns (suc n / 10) ++ (48 + suc n % 10) ∷ []
-
--- a number: the digits before the last, with no leading zero, and the last; 48 is the byte of 0
-unfoldable pub decimal : ℕ → List ℕ
-decimal n = digits n (n / 10) ++ (48 + n % 10) ∷ []
 
 -- "Write number k of desk u is named u.k"
 unfoldable pub nameBytes : Name → List ℕ
@@ -44,3 +35,13 @@ answerBytes (refused r) = text "E " ++ decimal (numberOf r)
 -- the line, with its LF
 abbrev pub answerLine : Answer → List ℕ
 answerLine a = answerBytes a ++ text "\n"
+
+-- the most bytes: of a name, two numbers and the point; of an answer's names; of a line, `A` and the LF besides
+abbrev pub most-name : ℕ
+most-name = 11
+
+abbrev pub most-names : ℕ
+most-names = 768
+
+abbrev pub most-answer : ℕ
+most-answer = 770

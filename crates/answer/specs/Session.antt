@@ -6,7 +6,8 @@ use Rattle.laws.specs.Text.{text}
 use Rattle.laws.specs.Tab.{tab, tabFrom}
 use Rattle.machine.specs.Table.{name}
 use Rattle.machine.specs.Answer.{began, shows, wrote, holds, applies, judged, refused, unset, shown, Yes, No, Unknown, own-write, short}
-use Rattle.answer.specs.Bytes.{digits, decimal, nameBytes, namesBytes, answerLine}
+use Rattle.text.specs.Number.{digits, decimal}
+use Rattle.answer.specs.Bytes.{nameBytes, namesBytes, answerLine}
 
 line-N : answerLine began ≡ text "N\n"
 line-N = refl
@@ -43,19 +44,6 @@ line-E : answerLine (refused own-write) ≡ text "E 6\n"
 unfolding digits decimal
 line-E = refl
 
--- numbers of one digit, of two and of five
 line-E14 : answerLine (refused short) ≡ text "E 14\n"
 unfolding digits decimal
 line-E14 = refl
-
-decimal-0 : decimal 0 ≡ text "0"
-unfolding digits decimal
-decimal-0 = refl
-
-decimal-large : decimal 65535 ≡ text "65535"
-unfolding digits decimal
-decimal-large = refl
-
-decimal-inner : decimal 90010 ≡ text "90010"
-unfolding digits decimal
-decimal-inner = refl

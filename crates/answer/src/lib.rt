@@ -1,4 +1,4 @@
-// The answers to a schedule's lines, and their output lines as bytes (document 01, "Schedule text").
+// The output lines of answers, as bytes (document 01, "Schedule text").
 ghost use mathlib.Core.Path.{_≡_};
 ghost use mathlib.Core.List.{_++_};
 ghost use Prim.Native.Nat.{_+_, _<_, _≤_, min};
@@ -6,41 +6,17 @@ ghost use lib.ListN.{length};
 ghost use Rattle.laws.specs.Stores.{Stored};
 ghost use Rattle.machine.specs.Table.{name, most-open};
 ghost use Rattle.machine.specs.Answer.{numberOf, shows, shown, wrote, applies};
-ghost use Rattle.answer.specs.Meaning.{refusalOf, answerOf, namesOf};
-ghost use Rattle.answer.specs.Bytes.{decimal, nameBytes, namesBytes, answerBytes, answerLine};
+ghost use Rattle.reply.specs.Meaning.{refusalOf, answerOf, namesOf};
+ghost use Rattle.text.specs.Number.{decimal};
+ghost use Rattle.answer.specs.Bytes.{nameBytes, namesBytes, answerBytes, answerLine, most-name, most-names, most-answer};
 ghost use Rattle.answer.specs.Outcome.{writtenOf, written, buffer};
+use reply::APPLIED;
+use reply::Answer;
+use reply::NAMES;
+use reply::Refusal;
 
-// Why a line or a call is refused.
-pub enum Refusal {
-    NoDesk,
-    NoCell,
-    NoStatus,
-    Spent,
-    Full,
-    OwnWrite,
-    NoWrite,
-    Received,
-    TripSize,
-    NoStep,
-    NoSize,
-    Damaged,
-    Broken,
-    Short,
-}
-
-// The answer to a line. Applied holds how many names there are: they stand in an array beside it.
-pub enum Answer {
-    Begun,
-    Unset,
-    Shown(u16, u16, u16),
-    Wrote(u16, u16),
-    Held(u16),
-    Applied(usize),
-    Yes,
-    No,
-    Unknown,
-    Refused(Refusal),
-}
+// The most bytes of an answer's line.
+pub const LONGEST_ANSWER: usize = 770;
 
 // The place behind a line that was written, or that the buffer is too short for it.
 pub enum Written {
@@ -70,40 +46,21 @@ fn number(r: Refusal) -> u16
     }
 }
 
-// How many of the names in an array are meant: it holds 64.
+// How many of the names in an array are meant: no more than it holds.
 fn name_count(count: usize) -> usize
-    ensures { λ r. ⌜ (r ≡ min count most-open) × (r ≤ 64) ⌝ }
+    ensures { λ r. ⌜ (r ≡ min count most-open) × (r ≤ most-open) ⌝ }
 {
-    if count < 64 { count } else { 64 }
-}
-
-// How many digits a number has.
-fn digit_count(k: u16) -> usize
-    ensures { λ r. ⌜ (r ≡ length (decimal k)) × (r ≤ 5) ⌝ }
-{
-    if k < 10 {
-        return 1;
-    }
-    if k < 100 {
-        return 2;
-    }
-    if k < 1000 {
-        return 3;
-    }
-    if k < 10000 {
-        return 4;
-    }
-    5
+    if count < APPLIED { count } else { APPLIED }
 }
 
 fn name_length(u: u16, k: u16) -> usize
-    ensures { λ r. ⌜ (r ≡ length (nameBytes (name u k))) × (r ≤ 11) ⌝ }
+    ensures { λ r. ⌜ (r ≡ length (nameBytes (name u k))) × (r ≤ most-name) ⌝ }
 {
-    digit_count(u) + 1 + digit_count(k)
+    text::digit_count(u) + 1 + text::digit_count(k)
 }
 
-fn names_length(names: &[u16; 128], count: usize) -> usize
-    ensures { λ r. ⌜ (r ≡ length (namesBytes (namesOf count (now (names .entry))))) × (r ≤ 768) ⌝ }
+fn names_length(names: &[u16; NAMES], count: usize) -> usize
+    ensures { λ r. ⌜ (r ≡ length (namesBytes (namesOf count (now (names .entry))))) × (r ≤ most-names) ⌝ }
 {
     let n = name_count(count);
     let mut sum = 0;
@@ -116,45 +73,21 @@ fn names_length(names: &[u16; 128], count: usize) -> usize
 }
 
 // How long an answer is without its LF.
-fn answer_length(a: Answer, names: &[u16; 128]) -> usize
-    ensures { λ r. ⌜ (r ≡ length (answerBytes (answerOf a (now (names .entry))))) × (r ≤ 769) ⌝ }
+fn answer_length(a: Answer, names: &[u16; NAMES]) -> usize
+    ensures { λ r. ⌜ (r ≡ length (answerBytes (answerOf a (now (names .entry))))) × (r < most-answer) ⌝ }
 {
     match a {
         Answer::Begun => 1,
         Answer::Unset => 3,
-        Answer::Shown(v, u, k) => 3 + digit_count(v) + name_length(u, k),
+        Answer::Shown(v, u, k) => 3 + text::digit_count(v) + name_length(u, k),
         Answer::Wrote(u, k) => 2 + name_length(u, k),
-        Answer::Held(t) => 2 + digit_count(t),
+        Answer::Held(t) => 2 + text::digit_count(t),
         Answer::Applied(count) => 1 + names_length(names, count),
         Answer::Yes => 5,
         Answer::No => 4,
         Answer::Unknown => 9,
-        Answer::Refused(r) => 2 + digit_count(number(r)),
+        Answer::Refused(r) => 2 + text::digit_count(number(r)),
     }
-}
-
-fn digit(d: u16) -> u8
-    requires { ⌜ d < 10 ⌝ }
-    ensures { λ r. ⌜ r ≡ 48 + d ⌝ }
-{
-    (48 + d) as u8
-}
-
-// A number in decimal, from its last digit on.
-fn put_number(out: &mut [u8], at: usize, k: u16) -> usize
-    requires { ⌜ at + length (decimal k) ≤ length (now out) ⌝ }
-    ensures { λ r. ⌜ Stored (now (out .entry)) at (decimal k) (now (out .exit)) r ⌝ }
-{
-    let end = at + digit_count(k);
-    let mut p = end - 1;
-    let mut v = k;
-    while 10 <= v {
-        out[p] = digit(v % 10);
-        p -= 1;
-        v /= 10;
-    }
-    out[p] = digit(v);
-    end
 }
 
 // The name u.k.
@@ -162,13 +95,13 @@ fn put_name(out: &mut [u8], at: usize, u: u16, k: u16) -> usize
     requires { ⌜ at + length (nameBytes (name u k)) ≤ length (now out) ⌝ }
     ensures { λ r. ⌜ Stored (now (out .entry)) at (nameBytes (name u k)) (now (out .exit)) r ⌝ }
 {
-    let p = put_number(out, at, u);
+    let p = text::put_number(out, at, u);
     out[p] = b'.';
-    put_number(out, p + 1, k)
+    text::put_number(out, p + 1, k)
 }
 
 // The names applied, each after a space.
-fn put_names(out: &mut [u8], at: usize, names: &[u16; 128], count: usize) -> usize
+fn put_names(out: &mut [u8], at: usize, names: &[u16; NAMES], count: usize) -> usize
     requires { ⌜ at + length (namesBytes (namesOf count (now names))) ≤ length (now out) ⌝ }
     ensures { λ r. ⌜ Stored (now (out .entry)) at (namesBytes (namesOf count (now (names .entry)))) (now (out .exit)) r ⌝ }
 {
@@ -183,34 +116,12 @@ fn put_names(out: &mut [u8], at: usize, names: &[u16; 128], count: usize) -> usi
     p
 }
 
-// A fixed byte string.
-fn put_words(out: &mut [u8], at: usize, words: &[u8]) -> usize
-    requires { ⌜ at + length (now words) ≤ length (now out) ⌝ }
-    ensures { λ r. ⌜ Stored (now (out .entry)) at (now (words .entry)) (now (out .exit)) r ⌝ }
-{
-    let mut j = 0;
-    while j < words.len() {
-        out[at + j] = words[j];
-        j += 1;
-    }
-    at + j
-}
-
-// A letter and a number.
-fn put_field(out: &mut [u8], at: usize, head: &[u8], k: u16) -> usize
-    requires { ⌜ at + length (now head ++ decimal k) ≤ length (now out) ⌝ }
-    ensures { λ r. ⌜ Stored (now (out .entry)) at (now (head .entry) ++ decimal k) (now (out .exit)) r ⌝ }
-{
-    let p = put_words(out, at, head);
-    put_number(out, p, k)
-}
-
 // What a read shows.
 fn put_shown(out: &mut [u8], at: usize, v: u16, u: u16, k: u16) -> usize
     requires { ⌜ at + length (answerBytes (shows (shown v u k))) ≤ length (now out) ⌝ }
     ensures { λ r. ⌜ Stored (now (out .entry)) at (answerBytes (shows (shown v u k))) (now (out .exit)) r ⌝ }
 {
-    let p = put_field(out, at, b"R ", v);
+    let p = text::put_field(out, at, b"R ", v);
     out[p] = b' ';
     put_name(out, p + 1, u, k)
 }
@@ -220,43 +131,43 @@ fn put_wrote(out: &mut [u8], at: usize, u: u16, k: u16) -> usize
     requires { ⌜ at + length (answerBytes (wrote (name u k))) ≤ length (now out) ⌝ }
     ensures { λ r. ⌜ Stored (now (out .entry)) at (answerBytes (wrote (name u k))) (now (out .exit)) r ⌝ }
 {
-    let p = put_words(out, at, b"W ");
+    let p = text::put_words(out, at, b"W ");
     put_name(out, p, u, k)
 }
 
 // The names applied.
-fn put_applied(out: &mut [u8], at: usize, names: &[u16; 128], count: usize) -> usize
+fn put_applied(out: &mut [u8], at: usize, names: &[u16; NAMES], count: usize) -> usize
     requires { ⌜ at + length (answerBytes (applies (namesOf count (now names)))) ≤ length (now out) ⌝ }
     ensures { λ r. ⌜ Stored (now (out .entry)) at (answerBytes (applies (namesOf count (now (names .entry))))) (now (out .exit)) r ⌝ }
 {
-    let p = put_words(out, at, b"A");
+    let p = text::put_words(out, at, b"A");
     put_names(out, p, names, count)
 }
 
 // An answer without its LF.
-fn put_answer(out: &mut [u8], at: usize, a: Answer, names: &[u16; 128]) -> usize
+fn put_answer(out: &mut [u8], at: usize, a: Answer, names: &[u16; NAMES]) -> usize
     requires { ⌜ at + length (answerBytes (answerOf a (now names))) ≤ length (now out) ⌝ }
     ensures { λ r. ⌜ Stored (now (out .entry)) at (answerBytes (answerOf a (now (names .entry)))) (now (out .exit)) r ⌝ }
 {
     match a {
-        Answer::Begun => put_words(out, at, b"N"),
-        Answer::Unset => put_words(out, at, b"R -"),
+        Answer::Begun => text::put_words(out, at, b"N"),
+        Answer::Unset => text::put_words(out, at, b"R -"),
         Answer::Shown(v, u, k) => put_shown(out, at, v, u, k),
         Answer::Wrote(u, k) => put_wrote(out, at, u, k),
-        Answer::Held(t) => put_field(out, at, b"H ", t),
+        Answer::Held(t) => text::put_field(out, at, b"H ", t),
         Answer::Applied(count) => put_applied(out, at, names, count),
-        Answer::Yes => put_words(out, at, b"T yes"),
-        Answer::No => put_words(out, at, b"T no"),
-        Answer::Unknown => put_words(out, at, b"T unknown"),
-        Answer::Refused(r) => put_field(out, at, b"E ", number(r)),
+        Answer::Yes => text::put_words(out, at, b"T yes"),
+        Answer::No => text::put_words(out, at, b"T no"),
+        Answer::Unknown => text::put_words(out, at, b"T unknown"),
+        Answer::Refused(r) => text::put_field(out, at, b"E ", number(r)),
     }
 }
 
 // Writes the line of an answer, with its LF, from place at on. Where the buffer is too short for it, nothing is written.
-pub fn put(out: &mut [u8], at: usize, a: Answer, names: &[u16; 128]) -> Written
+pub fn put(out: &mut [u8], at: usize, a: Answer, names: &[u16; NAMES]) -> Written
     ensures { λ r. ⌜ writtenOf r ≡ written (now (out .entry)) at (answerLine (answerOf a (now (names .entry)))) ⌝ }
     ensures { λ _. ⌜ now (out .exit) ≡ buffer (now (out .entry)) at (answerLine (answerOf a (now (names .entry)))) ⌝ }
-    ensures { λ _. ⌜ length (answerLine (answerOf a (now (names .entry)))) ≤ 770 ⌝ }
+    ensures { λ _. ⌜ length (answerLine (answerOf a (now (names .entry)))) ≤ most-answer ⌝ }
 {
     let n = answer_length(a, names);
     if out.len() < at {

@@ -1,8 +1,9 @@
 // The edges of document 01, "At each edge", on table values: one answer line for each.
-use answer::Answer;
-use answer::Refusal;
 use answer::Written;
 use libc::STDOUT_FILENO;
+use reply::Answer;
+use reply::NAMES;
+use reply::Refusal;
 use table::Table;
 
 fn emit(all: &[u8], len: usize) {
@@ -11,7 +12,7 @@ fn emit(all: &[u8], len: usize) {
     }
 }
 
-fn say_named(a: Answer, names: &[u16; 128]) {
+fn say_named(a: Answer, names: &[u16; NAMES]) {
     let mut out = [0u8; 800];
     let w = answer::put(&mut out, 0, a, names);
     let Written::Upto(len) = w else {
@@ -21,7 +22,7 @@ fn say_named(a: Answer, names: &[u16; 128]) {
 }
 
 fn say(a: Answer) {
-    let names = [0u16; 128];
+    let names = [0u16; NAMES];
     say_named(a, &names);
 }
 

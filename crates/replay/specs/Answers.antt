@@ -16,7 +16,8 @@ use Rattle.session.specs.Session.{Session}
 use Rattle.session.specs.Transcript.{transcriptFrom, most-text, transcript}
 use Rattle.session.specs.Laws.{from-end}
 use Rattle.session.specs.Holds.{zeroCells, zeroOpens, zeroCore, Holds}
-use Rattle.session.specs.Run.{most-answer, Ran, ran-rest, ran-progress}
+use Rattle.answer.specs.Bytes.{most-answer}
+use Rattle.session.specs.Run.{Ran, ran-rest, ran-progress}
 use Rattle.session.specs.AnswersBound.{each-byte, answers-bound, transcript-bound}
 
 -- r bytes of the buffer are all that `replay` prints, and the rest of it stays

@@ -7,6 +7,7 @@ ghost use Rattle.laws.specs.Stores.{Stored};
 ghost use Rattle.laws.specs.Text.{text};
 ghost use Rattle.session.specs.Transcript.{transcriptFrom, transcript};
 ghost use Rattle.replay.specs.Answers.{Answered, Room, Filled, most-answers};
+use answer::LONGEST_ANSWER;
 use clock::PLACES;
 use libc::STDERR_FILENO;
 use libc::STDIN_FILENO;
@@ -19,10 +20,8 @@ use table::OPENS;
 // The most bytes of a schedule.
 const LONGEST_TEXT: usize = 65536;
 
-// The most bytes of answers for each byte of a schedule (`answers-bound`), and of one answer.
+// The most bytes of answers for each byte of a schedule (`answers-bound`).
 const EACH_BYTE: usize = 5;
-
-const LONGEST_ANSWER: usize = 770;
 
 // What is read at a time of an input that is too long.
 const PART: usize = 16384;

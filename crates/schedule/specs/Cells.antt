@@ -8,11 +8,11 @@ use native.Mathlib.Nat.{add-zero}
 use native.Mathlib.Numerals.{add-one}
 use lib.ListN.{length, set, drop-of-length-le}
 use lib.Seq.{sets}
-use Rattle.schedule.specs.declared.Field.{Field}
-use Rattle.schedule.specs.declared.Field.the-variants.{Num, Bad}
+use Rattle.text.specs.declared.Field.{Field}
+use Rattle.text.specs.declared.Field.the-variants.{Num, Bad}
 use Rattle.schedule.specs.declared.Line.the-variants.{Trip}
-use Rattle.schedule.specs.Grammar.{join}
-use Rattle.schedule.specs.Fields.{rest, fieldsAt, FieldIs}
+use Rattle.text.specs.Words.{join}
+use Rattle.text.specs.Fields.{rest, fieldsAt, FieldIs}
 use Rattle.schedule.specs.Forms.{travels, sayAt, Told}
 
 pub data Stored : Type 0 where

@@ -1,23 +1,24 @@
--- What holds of every line: at most 62 cells, no number above 65,535; and the two public functions leave no choice.
-use Prim.Native.Nat.{ℕ, zero, suc, _+_, _-_, _*_, _≤_}
+-- What holds of every line: how many cells it lists, how large its numbers are; and the two public functions leave no choice.
+use Prim.Native.Nat.{ℕ, _+_, _-_, _*_, _≤_}
 use mathlib.Core.Path.{_≡_, refl, sym, _∙_}
 use mathlib.Core.List.{List, [], _∷_}
-use mathlib.Core.Bool.{Bool, true, false, and-false}
 use mathlib.Core.Option.{Option, none, some}
 use native.Mathlib.Omega.{arith}
-use borrow.Author.Tests.{ltb-true, ltb-false, eqb-true, eqb-false, leb-true}
+use borrow.Author.Tests.{ltb-true, ltb-false, eqb-true, eqb-false}
 use denote.Ref.{RefT}
-use lib.Dec.{eqb, leb, ltb}
+use lib.Dec.{eqb, ltb}
 use lib.ListN.{length, getD, take, drop, length-drop}
 use lib.Seq.{sets, sets-eq, take-at}
-use Rattle.laws.specs.Lists.{every}
 use Rattle.laws.specs.Loop.{cases}
 use Rattle.machine.specs.Steps.{Read, Write, Deliver, Trip}
 use Rattle.schedule.specs.declared.Line.{Line as Answer}
-use Rattle.schedule.specs.Grammar.{Line, begin-line, step-line, most-bytes, most-number, space, onto, words, isDigit, decimal, unpadded, isNumber, when, number, join, numbers, two, three, oneOrMore, form, lineOf}
+use Rattle.text.specs.Number.{most-number}
+use Rattle.text.specs.Words.{space}
+use Rattle.text.specs.Fields.{fieldsAt}
+use Rattle.text.specs.Bounds.{Small, small-nil, rest-count, rest-small}
+use Rattle.schedule.specs.Grammar.{Line, begin-line, step-line, most-bytes, two, three, oneOrMore, form, lineOf}
 use Rattle.schedule.specs.Lines.{lineAt, placeIn}
-use Rattle.schedule.specs.Value.{cellsOf, numbersOf}
-use Rattle.schedule.specs.Fields.{rest, fieldsAt}
+use Rattle.schedule.specs.Value.{cellsOf, most-listed, numbersOf}
 use Rattle.schedule.specs.Forms.{sayAt-all, too-long, no-bytes, no-letter, by-letter, Told}
 
 -- a line is none, or one of the forms of the numbers that follow its letter --
@@ -67,41 +68,6 @@ line-all s P z h =
         (λ q. rw (no-letter s d e (eqb-true _ _ q)) z)
         (λ q. rw (by-letter s d e (getD s 0 0) q refl) (sayAt-all s 1 (form (getD s 0 0)) P z (λ l g. h (getD s 0 0) l e g)))
 
--- two bytes a number, the space and a digit at least --
-
-weight : List (List ℕ) → ℕ
-weight [] = 0
-weight (w ∷ ws) = length w + 1 + weight ws
-
-weight-words : (l : List ℕ) → weight (words l) ≡ length l + 1
-unfolding words weight
-weight-words [] = refl
-weight-words (b ∷ l) = cases (eqb b space) (λ e. rw e (omega (arith, weight-words l))) (λ e. rw e (go (words l) (weight-words l)))
-  where
-    go : (ws : List (List ℕ)) → weight ws ≡ length l + 1 → weight (onto b ws) ≡ suc (length l) + 1
-    go [] h = absurd (omega arith)
-    go (w ∷ ws) h = omega arith
-
-abbrev listOf : Option (List ℕ) → List ℕ
-listOf none = []
-listOf (some l) = l
-
-join-count : (o : Option ℕ) (ns : Option (List ℕ)) → length (listOf (join o ns)) ≤ suc (length (listOf ns))
-join-count none ns = omega arith
-join-count (some x) none = omega arith
-join-count (some x) (some l) = omega arith
-
-numbers-count : (ws : List (List ℕ)) → 2 * length (listOf (numbers ws)) ≤ weight ws
-unfolding numbers number weight
-numbers-count [] = omega arith
-numbers-count ([] ∷ ws) = omega arith
-numbers-count ((b ∷ w) ∷ ws) = omega (arith, join-count (number (b ∷ w)) (numbers ws), numbers-count ws)
-
-rest-count : (l : List ℕ) → 2 * length (listOf (rest l)) ≤ length l
-unfolding rest
-rest-count [] = omega arith
-rest-count (b ∷ l) = cases (eqb b space) (λ e. rw e (omega (arith, numbers-count (words l), weight-words l))) (λ e. rw e (omega arith))
-
 form-cells : (c : ℕ) (l : List ℕ) → length (cellsOf (form c l)) ≤ length l - 1
 form-cells =
     form-all (λ l o. length (cellsOf o) ≤ length l - 1) (λ l. omega arith)
@@ -111,14 +77,14 @@ form-cells =
     (λ i u k. omega arith)
     (λ i xs. omega arith)
 
--- 62 cells at most
-pub few-cells : (s : List ℕ) → length (cellsOf (lineOf s)) ≤ 62
+-- two bytes a cell, behind `T i`
+pub few-cells : (s : List ℕ) → length (cellsOf (lineOf s)) ≤ most-listed
 few-cells s =
-    line-all s (λ o. length (cellsOf o) ≤ 62) (omega arith)
+    line-all s (λ o. length (cellsOf o) ≤ most-listed) (omega arith)
     (λ c l h e. (let k : 2 * length l ≤ length s - 1 = rw length-drop at (rw e at (rest-count (drop 1 s))) in omega (arith, form-cells c l)))
 
 -- so the lent array holds them all
-pub cells-there : (s l : List ℕ) → 62 ≤ length l → let xs = cellsOf (lineOf s) in take (length xs) (sets l 0 xs) ≡ xs
+pub cells-there : (s l : List ℕ) → most-listed ≤ length l → let xs = cellsOf (lineOf s) in take (length xs) (sets l 0 xs) ≡ xs
 cells-there s l h =
     let xs = cellsOf (lineOf s) in
     let f : 0 + length xs ≤ length l = omega (arith, few-cells s) in
@@ -135,44 +101,7 @@ step-bytes s x =
     no-line : none ≡ some x → 3 ≤ length s
     no-line q = absurd (let z : _≡_ {A = ℕ} 0 1 = cc in omega arith)
 
--- no number above 65,535 --
-
-abbrev Small : List ℕ → Type 0
-Small l = (k : ℕ) → getD l k 0 ≤ most-number
-
-small-nil : Small []
-small-nil k = omega arith
-
-small-cons : (x : ℕ) (l : List ℕ) → x ≤ most-number → Small l → Small (x ∷ l)
-small-cons x l h g zero = h
-small-cons x l h g (suc k) = g k
-
-abbrev valueOf : Option ℕ → ℕ
-valueOf none = 0
-valueOf (some x) = x
-
-number-small : (w : List ℕ) → valueOf (number w) ≤ most-number
-unfolding number
-number-small w = cases (leb (decimal 0 w) most-number) (λ e. fits (isNumber w) (leb-true _ _ e)) (λ e. rw (e, and-false (every isDigit w), and-false (unpadded w)) (omega arith))
-  where
-    fits : (b : Bool) → decimal 0 w ≤ most-number → valueOf (when b (decimal 0 w)) ≤ most-number
-    fits true h = h
-    fits false h = omega arith
-
-numbers-small : (ws : List (List ℕ)) → Small (listOf (numbers ws))
-unfolding numbers
-numbers-small [] = small-nil
-numbers-small (w ∷ ws) = go (number w) (numbers ws) (number-small w) (numbers-small ws)
-  where
-    go : (o : Option ℕ) (ns : Option (List ℕ)) → valueOf o ≤ most-number → Small (listOf ns) → Small (listOf (join o ns))
-    go none ns h g = small-nil
-    go (some x) none h g = small-nil
-    go (some x) (some l) h g = small-cons x l h g
-
-rest-small : (l : List ℕ) → Small (listOf (rest l))
-unfolding rest
-rest-small [] = small-nil
-rest-small (b ∷ l) = cases (eqb b space) (λ e. rw e (numbers-small (words l))) (λ e. rw e small-nil)
+-- no number above the largest --
 
 pub line-small : (s : List ℕ) (k : ℕ) → getD (numbersOf (lineOf s)) k 0 ≤ most-number
 line-small s =

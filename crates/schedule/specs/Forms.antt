@@ -12,11 +12,15 @@ use lib.ListN.{length, getD, drop, drop-of-length-le}
 use lib.Seq.{drop-cons, drop-length, sets}
 use Rattle.laws.specs.Loop.{cases}
 use Rattle.machine.specs.Steps.{Read, Write, Deliver, Trip}
+use Rattle.schedule.specs.declared.Pair.{Pair}
+use Rattle.schedule.specs.declared.Pair.the-variants.{Nums, Bad}
 use Rattle.schedule.specs.declared.Line.{Line as Answer}
 use Rattle.schedule.specs.declared.Line.the-variants.{NoStep}
-use Rattle.schedule.specs.Grammar.{Line, begin-line, step-line, most-bytes, space, onto, words, join, number, numbers, two, three, oneOrMore, form, sentence, lineOf}
+use Rattle.text.specs.Number.{number}
+use Rattle.text.specs.Words.{space, onto, words, join, numbers}
+use Rattle.schedule.specs.Grammar.{Line, begin-line, step-line, most-bytes, two, three, oneOrMore, form, sentence, lineOf}
 use Rattle.schedule.specs.Value.{lineValue, cellsOf}
-use Rattle.schedule.specs.Fields.{rest, fieldsAt, FieldIs}
+use Rattle.text.specs.Fields.{rest, fieldsAt, FieldIs}
 
 abbrev pub pairs : Bool → ℕ → ℕ → Line
 pairs true n m = begin-line n m
@@ -89,6 +93,26 @@ module _ (s : List ℕ) (at : ℕ) (f : List ℕ → Option Line) where
       go : (o : Option (List ℕ)) → ((l : List ℕ) → o ≡ some l → P (f l)) → P (bind o f)
       go none h = z
       go (some l) h = h l refl
+
+-- what reading two fields and the end tells, of every form of two
+abbrev pub pairSays : (ℕ → ℕ → Line) → Pair → Option Line
+pairSays f (Nums a b) = some (f a b)
+pairSays f Bad = none
+
+abbrev pub PairTells : List ℕ → ℕ → Pair → Type 0
+PairTells s at r = (f : ℕ → ℕ → Line) → sayAt s at (two f) ≡ pairSays f r
+
+-- behind its first field a form of three is one of two
+pub three-two : (s : List ℕ) (at : ℕ) (f : ℕ → ℕ → ℕ → Line) (a : ℕ) → sayAt s at (λ l. three f (a ∷ l)) ≡ sayAt s at (two (f a))
+unfolding sayAt bind
+three-two s at f a = go (fieldsAt s at)
+  where
+    go : (o : Option (List ℕ)) → bind o (λ l. three f (a ∷ l)) ≡ bind o (two (f a))
+    go none = refl
+    go (some []) = refl
+    go (some (x ∷ [])) = refl
+    go (some (x ∷ y ∷ [])) = refl
+    go (some (x ∷ y ∷ z ∷ l)) = refl
 
 two-cells : (b : Bool) (l : List ℕ) → cellsOf (two (pairs b) l) ≡ []
 two-cells b [] = refl

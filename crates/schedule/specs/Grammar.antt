@@ -1,13 +1,12 @@
 -- Document 01, "Schedule text": what a line says, as a function of its bytes.
-use Prim.Native.Nat.{ℕ, _+_, _*_, _-_}
+use Prim.Native.Nat.{ℕ}
 use Prim.Native.Char.{code}
 use mathlib.Core.List.{List, [], _∷_}
-use mathlib.Core.Bool.{Bool, true, false, not, _&&_}
 use mathlib.Core.Option.{Option, none, some, bind}
 use lib.ListN.{length}
 use lib.Dec.{eqb, leb}
-use Rattle.laws.specs.Lists.{every}
 use Rattle.laws.specs.Loop.{pick}
+use Rattle.text.specs.Words.{words, numbers}
 use Rattle.machine.specs.Steps.{Step, Read, Write, Deliver, Trip}
 
 -- the beginning of a table, or one of the machine's steps
@@ -18,61 +17,6 @@ pub data Line : Type 0 where
 -- "A line over 128 bytes, an empty line .. are no step."
 abbrev pub most-bytes : ℕ
 most-bytes = 128
-
--- "[A number] is at most 65,535"
-abbrev pub most-number : ℕ
-most-number = 65535
-
--- "A line is a letter and decimal fields, one space between." --
-
-abbrev pub space : ℕ
-space = code " "
-
--- a byte in front of the first word (there always is one)
-abbrev pub onto : ℕ → List (List ℕ) → List (List ℕ)
-onto b [] = (b ∷ []) ∷ []
-onto b (w ∷ ws) = (b ∷ w) ∷ ws
-
--- what stands between the spaces: an empty word before a leading space, between two in a row, after a trailing one
-unfoldable pub words : List ℕ → List (List ℕ)
-words [] = [] ∷ []
-words (b ∷ l) = pick (eqb b space) ([] ∷ words l) (onto b (words l))
-
--- "A number is 0 or has no leading zero, and is at most 65,535; larger makes the line no step." --
-
-unfoldable pub isDigit : ℕ → Bool
-isDigit b = leb (code "0") b && leb b (code "9")
-
--- digits after those that made v
-unfoldable pub decimal : ℕ → List ℕ → ℕ
-decimal v [] = v
-decimal v (b ∷ l) = decimal (10 * v + (b - code "0")) l
-
-abbrev pub unpadded : List ℕ → Bool
-unpadded [] = false
-unpadded (b ∷ []) = true
-unpadded (b ∷ c ∷ l) = not (eqb b (code "0"))
-
-abbrev pub isNumber : List ℕ → Bool
-isNumber w = unpadded w && (every isDigit w && leb (decimal 0 w) most-number)
-
-abbrev pub when : {A : Type 0} → Bool → A → Option A
-when true a = some a
-when false a = none
-
-unfoldable pub number : List ℕ → Option ℕ
-number w = when (isNumber w) (decimal 0 w)
-
--- one number more in front; none if any is missing
-abbrev pub join : Option ℕ → Option (List ℕ) → Option (List ℕ)
-join none o = none
-join (some x) none = none
-join (some x) (some l) = some (x ∷ l)
-
--- every word a number
-unfoldable pub numbers : List (List ℕ) → Option (List ℕ)
-numbers [] = some []
-numbers (w ∷ ws) = join (number w) (numbers ws)
 
 -- "Forms: `N n m`, `R i x`, `W i x v`, `D i u k`, `T i x x ..` (the cells may be missing)." --
 

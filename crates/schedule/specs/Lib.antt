@@ -3,7 +3,6 @@ pub mod Grammar
 pub mod Examples
 pub mod Value
 pub mod LineLaws
-pub mod Fields
 pub mod Forms
 pub mod Cells
 pub mod Facts

@@ -25,6 +25,10 @@ cellsOf (some (step-line (writing i x v))) = []
 cellsOf (some (step-line (delivering i u k))) = []
 cellsOf (some (step-line (travelling i xs))) = xs
 
+-- so many cells at most does a line list
+abbrev pub most-listed : ℕ
+most-listed = 62
+
 -- all its numbers, in the order of the text
 abbrev pub numbersOf : Option Said → List ℕ
 numbersOf none = []

@@ -16,10 +16,10 @@ use Rattle.machine.specs.Rules.{In}
 use Rattle.machine.specs.Steps.{Step, within, step, begin, begins}
 use Rattle.machine.specs.Steps as steps
 use Rattle.machine.specs.Proofs.Refusals.{says-within, step-cases}
-use Rattle.answer.specs.declared.Answer.{Answer}
-use Rattle.answer.specs.declared.Answer.the-variants.{Begun, Unset, Shown, Wrote, Held, Applied, Yes, No, Unknown, Refused}
-use Rattle.answer.specs.declared.Refusal.the-variants.{NoStep as NoStepAnswer, NoSize}
-use Rattle.answer.specs.Meaning.{answerOf}
+use Rattle.reply.specs.declared.Answer.{Answer}
+use Rattle.reply.specs.declared.Answer.the-variants.{Begun, Unset, Shown, Wrote, Held, Applied, Yes, No, Unknown, Refused}
+use Rattle.reply.specs.declared.Refusal.the-variants.{NoStep as NoStepAnswer, NoSize}
+use Rattle.reply.specs.Meaning.{answerOf}
 use Rattle.schedule.specs.Grammar.{Line as Said, begin-line, step-line}
 use Rattle.schedule.specs.declared.Line.{Line}
 use Rattle.schedule.specs.declared.Line.the-variants.{New, Read, Write, Deliver, Trip, NoStep}

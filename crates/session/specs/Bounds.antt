@@ -15,8 +15,9 @@ use Rattle.laws.specs.Text.{text}
 use Rattle.machine.specs.Table.{Name, name, most-open, most-writes}
 use Rattle.machine.specs.Answer.{Answer, began, shows, wrote, holds, applies, judged, refused, unset, shown, Yes, No, Unknown, numberOf}
 use Rattle.schedule.specs.Lines.{LF}
-use Rattle.answer.specs.Bytes.{digits, decimal, nameBytes, namesBytes, answerBytes, answerLine}
-use Rattle.answer.specs.Decimal.{decimal-one, decimal-longer}
+use Rattle.text.specs.Number.{digits, decimal}
+use Rattle.answer.specs.Bytes.{nameBytes, namesBytes, answerBytes, answerLine, most-answer}
+use Rattle.text.specs.Decimal.{decimal-one, decimal-longer}
 use Rattle.answer.specs.Names.{name-length, shown-length}
 use Rattle.session.specs.Session.{Session, lineAnswer}
 use Rattle.session.specs.Transcript.{TextLine, onto, linesOf, answersOf, printed, transcriptFrom, most-text, transcript}
@@ -142,11 +143,11 @@ unfolding namesBytes
 names-short [] h = omega arith
 names-short (w ∷ l) (and h t) = simp length-append (omega (arith, name-short w h, names-short l t))
 
--- 770 bytes with the LF
-pub answer-short : (a : Answer) → Small a → length (answerLine a) ≤ 770
+-- with the LF
+pub answer-short : (a : Answer) → Small a → length (answerLine a) ≤ most-answer
 answer-short a h = rw length-append (omega (arith, go a h))
   where
-    go : (a : Answer) → Small a → length (answerBytes a) ≤ 769
+    go : (a : Answer) → Small a → length (answerBytes a) < most-answer
     go began h = omega arith
     go (shows unset) h = omega arith
     go (shows (shown v u k)) h = rw (shown-length v u k) (omega (arith, number-short v (h .0), name-short (name u k) (h .1)))

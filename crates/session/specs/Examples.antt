@@ -10,9 +10,10 @@ use Rattle.laws.specs.Sum.{sum}
 use Rattle.laws.specs.Lists.{any, every}
 use Rattle.laws.specs.Text.{text}
 use Rattle.machine.specs.Steps.{begin, step, failing, everywhere, openCount, firstDue, settle, reads, verdict}
-use Rattle.schedule.specs.Grammar.{words, isDigit, number, numbers, form, lineOf}
-use Rattle.schedule.specs.Grammar as grammar
-use Rattle.answer.specs.Bytes.{digits, decimal, nameBytes, namesBytes}
+use Rattle.text.specs.Number.{digits, decimal, isDigit, readOn, number}
+use Rattle.text.specs.Words.{words, numbers}
+use Rattle.schedule.specs.Grammar.{form, lineOf}
+use Rattle.answer.specs.Bytes.{nameBytes, namesBytes}
 use Rattle.session.specs.Transcript.{linesOf, answersOf, printed, transcriptFrom, transcript}
 
 abbrev pub fourteen : List ℕ
@@ -23,7 +24,7 @@ fourteen-out = text "N\nW 1.1\nA 1.1\nR 2 1.1\nW 1.2\nA 1.2\nW 2.1\nH 1\nT unkno
 
 -- the first fourteen lines
 pub session-bytes : transcript fourteen ≡ fourteen-out
-unfolding transcript transcriptFrom linesOf answersOf printed lineOf words number numbers grammar.decimal form bind isDigit turns scan all upd upd2 sum begin step failing everywhere openCount firstDue settle reads any every verdict digits decimal nameBytes namesBytes
+unfolding transcript transcriptFrom linesOf answersOf printed lineOf words number numbers readOn form bind isDigit turns scan all upd upd2 sum begin step failing everywhere openCount firstDue settle reads any every verdict digits decimal nameBytes namesBytes
 session-bytes = refl
 
 -- all eighteen; an empty line; a last line without LF; before a table, a refused N, a further N
@@ -32,5 +33,5 @@ pub edges : map transcript (
     text "R 1 1\nN 9 1\nT 1\nN 2 1\nN 2 1\nT 1\n\nW 1 1 0\nR 1 1\nR 1 1" ∷ [])
     ≡ (fourteen-out ++ text "R -\nE 6\nE 8\nE 7\n") ∷ text "E 10\n" ∷ text "E 10\n" ∷
     text "E 10\nE 11\nE 10\nN\nE 10\nE 9\nE 10\nW 1.1\nR 0 1.1\nE 10\n" ∷ []
-unfolding transcript transcriptFrom linesOf answersOf printed lineOf words number numbers grammar.decimal form bind isDigit turns scan all upd upd2 sum begin step failing everywhere openCount firstDue settle reads any every verdict digits decimal nameBytes namesBytes
+unfolding transcript transcriptFrom linesOf answersOf printed lineOf words number numbers readOn form bind isDigit turns scan all upd upd2 sum begin step failing everywhere openCount firstDue settle reads any every verdict digits decimal nameBytes namesBytes
 edges = refl

@@ -12,7 +12,8 @@ use Rattle.laws.specs.Loop.{cases}
 use Rattle.laws.specs.Text.{text}
 use Rattle.schedule.specs.Lines.{LF, untilLF, fromLF, lineAt, endedAt, nextAt}
 use Rattle.schedule.specs.LineLaws.{next-drop}
-use Rattle.answer.specs.Bytes.{answerLine, digits, decimal}
+use Rattle.text.specs.Number.{digits, decimal}
+use Rattle.answer.specs.Bytes.{answerLine}
 use Rattle.session.specs.Session.{Session, Turn, lineAnswer}
 use Rattle.session.specs.Transcript.{textLine, onto, linesOf, answersOf, sessionOf, printed, transcriptFrom, sessionFrom, most-text, transcript}
 

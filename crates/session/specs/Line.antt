@@ -9,7 +9,7 @@ use Rattle.clock.specs.Vectors.{places}
 use Rattle.machine.specs.Steps.{within}
 use Rattle.machine.specs.Steps as steps
 use Rattle.schedule.specs.Grammar.{Line as Said, begin-line, step-line}
-use Rattle.schedule.specs.Value.{lineValue, cellsOf, lineBack, line-back}
+use Rattle.schedule.specs.Value.{lineValue, cellsOf, most-listed, lineBack, line-back}
 use Rattle.schedule.specs.declared.Line.{Line}
 use Rattle.schedule.specs.declared.Line.the-variants.{New, Read, Write, Deliver, Trip, NoStep}
 
@@ -27,7 +27,7 @@ lineIn s list = lineBack s (take (cellCount s) list)
 
 pub record Means (o : Option Said) (s : Line) (list : List ℕ) : Type 0 where
   pub is : lineIn s list ≡ o
-  pub few : cellCount s ≤ 62
+  pub few : cellCount s ≤ most-listed
 
 count-is : (o : Option Said) → cellCount (lineValue o) ≡ length (cellsOf o)
 count-is none = refl
@@ -37,7 +37,7 @@ count-is (some (step-line (steps.Write i x v))) = refl
 count-is (some (step-line (steps.Deliver i u k))) = refl
 count-is (some (step-line (steps.Trip i xs))) = refl
 
-pub means : (o : Option Said) (list : List ℕ) → take (length (cellsOf o)) list ≡ cellsOf o → length (cellsOf o) ≤ 62 → Means o (lineValue o) list
+pub means : (o : Option Said) (list : List ℕ) → take (length (cellsOf o)) list ≡ cellsOf o → length (cellsOf o) ≤ most-listed → Means o (lineValue o) list
 means o list h few = record {
   is = ap (λ (xs : List ℕ). lineBack (lineValue o) xs) (ap (λ (n : ℕ). take n list) (count-is o) ∙ h) ∙ line-back o;
   few = rw (count-is o) few;

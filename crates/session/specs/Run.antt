@@ -17,7 +17,7 @@ use Rattle.machine.specs.Answer as machine
 use Rattle.schedule.specs.Grammar.{Line as Said, lineOf}
 use Rattle.schedule.specs.Lines.{lineAt, endedAt, nextAt}
 use Rattle.schedule.specs.LineLaws.{ended-is, next-is, next-more, next-le}
-use Rattle.answer.specs.Bytes.{answerLine}
+use Rattle.answer.specs.Bytes.{answerLine, most-answer}
 use Rattle.answer.specs.Outcome.{upto, writtenOf, written, buffer}
 use Rattle.answer.specs.declared.Written.{Written}
 use Rattle.answer.specs.declared.Written.the-variants.{Upto, Short}
@@ -28,10 +28,6 @@ use Rattle.session.specs.Laws.{turnAt, from-end, from-line, left-line, t
 use Rattle.session.specs.Line.{seatOf}
 use Rattle.session.specs.Holds.{Holds}
 use Rattle.session.specs.Act.{Turned}
-
--- the bytes that an answer's line takes at most
-abbrev pub most-answer : ℕ
-most-answer = 770
 
 -- Lines one by one, while there is text and room for a line of any answer: each is answered by its turn, and the answer's line stands behind those
 -- before it. From the session z at a place, with len bytes of the room in use, to the session and the place reached.

@@ -8,36 +8,33 @@ ghost use Rattle.laws.specs.Tab.{tab};
 ghost use Rattle.clock.specs.Vectors.{places};
 ghost use Rattle.machine.specs.Steps.{begins};
 ghost use Rattle.schedule.specs.Grammar.{lineOf};
+ghost use Rattle.schedule.specs.Value.{most-listed};
 ghost use Rattle.session.specs.Line.{cellCount, Means, actor, seatOf};
 ghost use Rattle.session.specs.Holds.{zeroCore, ownAt, SomeSession};
 ghost use Rattle.session.specs.Act.{Acting, Acts, SomeSeat, Turns, nextOf, begunOf, noStepOf, firstOf};
-ghost use Rattle.answer.specs.declared.Answer.the-variants.{Refused};
-ghost use Rattle.answer.specs.Bytes.{answerLine};
-ghost use Rattle.answer.specs.Meaning.{answerOf};
+ghost use Rattle.reply.specs.declared.Answer.the-variants.{Refused};
+ghost use Rattle.answer.specs.Bytes.{answerLine, most-answer};
+ghost use Rattle.reply.specs.Meaning.{answerOf};
 ghost use Rattle.laws.specs.Stores.{Stored};
-ghost use Rattle.session.specs.Run.{most-answer, Runs};
+ghost use Rattle.session.specs.Run.{Runs};
 ghost use Rattle.machine.specs.Steps.{Trip};
 ghost use Rattle.steps.specs.LookTurn.{SomeLook, Looks};
-use answer::Answer;
-use answer::Refusal;
+use answer::LONGEST_ANSWER;
 use answer::Written;
 use clock::Clock;
 use clock::PLACES;
+use reply::Answer;
+use reply::NAMES;
+use reply::Refusal;
+use schedule::LIST;
 use schedule::Line;
 use steps::Turn;
-use steps::deliver::NAMES;
 use table::CELL;
 use table::CELLS;
 use table::Core;
 use table::Desk;
 use table::OPEN;
 use table::OPENS;
-
-// The numbers of a trip's cells that a line can hold, and more.
-const LIST: usize = 64;
-
-// The most bytes of an answer's line: A and 64 names of 12 bytes, and the LF.
-const LONGEST_ANSWER: usize = 770;
 
 // The size of the table after a line, 0 while there is none, the acting desk, and the answer.
 struct Next {
@@ -159,7 +156,7 @@ fn act(
     list: &[u16; LIST],
     s: Line,
 ) -> Turn
-    requires { ⌜ (cellCount s ≤ 62) × (Acting n m (now cells) (now opens) own (actor s) d) ⌝ }
+    requires { ⌜ (cellCount s ≤ most-listed) × (Acting n m (now cells) (now opens) own (actor s) d) ⌝ }
     ensures { λ r. ⌜ Acts n m d own (now (cells .entry)) (now (opens .entry)) (now (list .entry)) s r (now (cells .exit)) (now (opens .exit)) (now (names .exit)) ⌝ }
 {
     match s {
@@ -186,7 +183,7 @@ fn turn(
     list: &[u16; LIST],
     s: Line,
 ) -> Next
-    requires { ⌜ (cellCount s ≤ 62) × (SomeSeat n m (now cells) (now opens) own (actor s) d) ⌝ }
+    requires { ⌜ (cellCount s ≤ most-listed) × (SomeSeat n m (now cells) (now opens) own (actor s) d) ⌝ }
     ensures { λ r. ⌜ Turns n m d own (now (cells .entry)) (now (opens .entry)) (now (list .entry)) s r (now (cells .exit)) (now (opens .exit)) (now (names .exit)) ⌝ }
 {
     if n == 0 {
@@ -207,7 +204,7 @@ fn seen(l: &[u16]) {}
 
 // Nothing is done here: the contract hands the caller what the type says.
 fn list_size(list: &[u16; LIST])
-    ensures { λ _. ⌜ length (now (list .entry)) ≡ 64 ⌝ }
+    ensures { λ _. ⌜ most-listed ≤ length (now (list .entry)) ⌝ }
 {
     seen(list);
 }

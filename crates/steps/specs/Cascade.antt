@@ -16,14 +16,14 @@ use Rattle.laws.specs.Update.{upd, upd2, upd-same, upd-other, upd2-is, same-or}
 use Rattle.clock.specs.Vectors.{places, place, place-at, raised, place-raised}
 use Rattle.clock.specs.Readiness.{readyAt, ready-narrow}
 use Rattle.machine.specs.Table as machine
-use Rattle.machine.specs.Table.{Vec, State, most-open, done, held, Name, name, written}
+use Rattle.machine.specs.Table.{Vec, State, most-open, most-writes, done, held, Name, name, written}
 use Rattle.machine.specs.Answer.{nameValues}
 use Rattle.machine.specs.Steps.{ready, everywhere, stillOpen, mark, apply, dueOpen, due, firstDue, Settled, applyNext, settleBy, settle}
 use Rattle.machine.specs.Rules.{In, Flat, Rules}
 use Rattle.machine.specs.Proofs.Apply.{to-be-open, apply-written}
 use Rattle.machine.specs.Proofs.Kept.{Midway, ReadyAt, ready-next, apply-midway, left, apply-left, left-few, settle-rules}
-use Rattle.answer.specs.Meaning.{namesOf}
-use Rattle.answer.specs.Names.{length-names, names-none, names-more}
+use Rattle.reply.specs.Meaning.{namesOf}
+use Rattle.reply.specs.Names.{length-names, names-none, names-more}
 use Rattle.table.specs.declared.Cell.{Cell}
 use Rattle.table.specs.declared.Open.{Open}
 use Rattle.table.specs.declared.Found.{Found}
@@ -348,7 +348,7 @@ pub record Safe (n i : ℕ) (a os : List ℕ) (len u e : ℕ) : Type 0 where
   pub writer : In places u
   pub small : e < entries
   pub cell : In desk-cells (openAt os e .cell)
-  pub number : getD a (u - 1) 0 < 65535
+  pub number : getD a (u - 1) 0 < most-writes
   pub room : len < most-open
   pub size : length a ≡ places
 
@@ -385,7 +385,7 @@ module _ {whole : Settled} {b : State} {n i : ℕ} {a own cs os names₀ names :
   going-writer = ready-next (g .now .mid .frame) (ready-at (g .now) (g .next)) .writer
 
   -- its number is no larger than the largest
-  going-number : place a u < 65535
+  going-number : place a u < most-writes
   going-number =
       let f = g .now .mid .frame in
       omega (arith, ready-next f (ready-at (g .now) (g .next)) .known, f .ranges .written u)

@@ -22,10 +22,10 @@ use Rattle.machine.specs.Proofs.Ready.{says-within}
 use Rattle.machine.specs.Refusals.{Accepted}
 use Rattle.machine.specs.Proofs.Kept.{done-counted}
 use Rattle.machine.specs.Proofs.Refusals.{not-refused}
-use Rattle.answer.specs.declared.Refusal.{Refusal}
-use Rattle.answer.specs.declared.Refusal.the-variants.{NoDesk, OwnWrite, NoWrite, Received}
-use Rattle.answer.specs.declared.Answer.the-variants.{Refused}
-use Rattle.answer.specs.Meaning.{refusalOf, answerOf, Counted}
+use Rattle.reply.specs.declared.Refusal.{Refusal}
+use Rattle.reply.specs.declared.Refusal.the-variants.{NoDesk, OwnWrite, NoWrite, Received}
+use Rattle.reply.specs.declared.Answer.the-variants.{Refused}
+use Rattle.reply.specs.Meaning.{refusalOf, answerOf, Counted}
 use Rattle.table.specs.declared.Desk.{Desk}
 use Rattle.table.specs.Value.{desk0, entries, openAt}
 use Rattle.table.specs.Names.{namedAt}

@@ -18,8 +18,8 @@ use Rattle.machine.specs.Rules.{In, Quiet, Rules}
 use Rattle.machine.specs.Proofs.Ready.{is-none}
 use Rattle.machine.specs.Proofs.Kept.{ReadyAt, ready-next, hold-rules}
 use Rattle.machine.specs.Proofs.Apply.{to-be-open}
-use Rattle.answer.specs.declared.Answer.the-variants.{Held, Applied}
-use Rattle.answer.specs.Meaning.{answerOf, Counted}
+use Rattle.reply.specs.declared.Answer.the-variants.{Held, Applied}
+use Rattle.reply.specs.Meaning.{answerOf, Counted}
 use Rattle.table.specs.declared.Desk.{Desk}
 use Rattle.table.specs.Value.{all-cells, cellAt, entries, openAt, putMark}
 use Rattle.table.specs.Names.{namedAt}

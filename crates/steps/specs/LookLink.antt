@@ -20,7 +20,7 @@ use Rattle.table.specs.declared.Desk.{Desk}
 use Rattle.table.specs.Value.{cellAt, full-cellAt, FullCell}
 use Rattle.table.specs.Model.{cellM, slot, clockM, cellsM, opensM, model, clockVec, cell-in, clock-at, clock-put, applied-keep}
 use Rattle.table.specs.Sound.{AllZero}
-use Rattle.answer.specs.Meaning.{answerOf}
+use Rattle.reply.specs.Meaning.{answerOf}
 use Rattle.steps.specs.Stepped.{Placed, Stepped}
 use Rattle.steps.specs.LookStepped.{in-places, in-cells, in-desks, desk-shape, taken-stepped}
 use Rattle.steps.specs.LookTurn.{clocked, shownCell, lookTurn}

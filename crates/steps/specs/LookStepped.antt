@@ -21,8 +21,8 @@ use Rattle.table.specs.Shape.{DeskShape}
 use Rattle.table.specs.Opens.{Unique}
 use Rattle.table.specs.Sound.{AllZero}
 use Rattle.table.specs.Model.{model}
-use Rattle.answer.specs.Meaning.{answerOf, refusalOf}
-use Rattle.answer.specs.declared.Refusal.{Refusal}
+use Rattle.reply.specs.Meaning.{answerOf, refusalOf}
+use Rattle.reply.specs.declared.Refusal.{Refusal}
 use Rattle.steps.specs.declared.Turn.{Turn}
 use Rattle.steps.specs.LookTurn.{refusedTurn}
 use Rattle.steps.specs.Stepped.{Placed, Stepped, putDesk, put-back}

@@ -14,8 +14,8 @@ use Rattle.table.specs.declared.Cell.{Cell}
 use Rattle.table.specs.declared.Desk.{Desk}
 use Rattle.table.specs.Value.{cellAt}
 use Rattle.table.specs.Model.{slot}
-use Rattle.answer.specs.declared.Answer.{Answer}
-use Rattle.answer.specs.declared.Answer.the-variants.{Yes, No, Unknown}
+use Rattle.reply.specs.declared.Answer.{Answer}
+use Rattle.reply.specs.declared.Answer.the-variants.{Yes, No, Unknown}
 use Rattle.steps.specs.declared.Turn.{Turn}
 use Rattle.steps.specs.declared.look.Seen.{Seen}
 use Rattle.steps.specs.LookTurn.{clockTurn}

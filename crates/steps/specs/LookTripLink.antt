@@ -20,7 +20,7 @@ use Rattle.table.specs.declared.Cell.{Cell}
 use Rattle.table.specs.declared.Desk.{Desk}
 use Rattle.table.specs.Value.{cellAt, full-cellAt}
 use Rattle.table.specs.Model.{cellM, slot, cellsM, model}
-use Rattle.answer.specs.Meaning.{answerOf}
+use Rattle.reply.specs.Meaning.{answerOf}
 use Rattle.steps.specs.declared.look.Seen.{Seen}
 use Rattle.steps.specs.Stepped.{Placed, Stepped}
 use Rattle.steps.specs.LookStepped.{desk-shape}

@@ -7,12 +7,12 @@ use Rattle.clock.specs.declared.Clock.{Clock}
 use Rattle.clock.specs.Vectors.{place, joinClock}
 use Rattle.table.specs.declared.Cell.{Cell}
 use Rattle.table.specs.declared.Desk.{Desk}
-use Rattle.answer.specs.declared.Answer.{Answer}
-use Rattle.answer.specs.declared.Answer.the-variants.{Unset, Shown, Refused}
-use Rattle.answer.specs.declared.Refusal.{Refusal}
+use Rattle.reply.specs.declared.Answer.{Answer}
+use Rattle.reply.specs.declared.Answer.the-variants.{Unset, Shown, Refused}
+use Rattle.reply.specs.declared.Refusal.{Refusal}
 use Rattle.steps.specs.declared.Turn.{Turn}
 use Rattle.machine.specs.Steps.{Step}
-use Rattle.answer.specs.Meaning.{answerOf}
+use Rattle.reply.specs.Meaning.{answerOf}
 use Rattle.steps.specs.Stepped.{Placed, Stepped}
 
 abbrev pub refusedTurn : Desk → Refusal → Turn

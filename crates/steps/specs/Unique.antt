@@ -17,11 +17,11 @@ use Rattle.machine.specs.Rules.{In}
 use Rattle.machine.specs.Steps.{Step, Read, Write, Deliver, Trip, within, step}
 use Rattle.machine.specs.Paper.{actor}
 use Rattle.machine.specs.Proofs.Refusals.{says-within, refusal-exactly, step-cases}
-use Rattle.answer.specs.declared.Answer.{Answer}
-use Rattle.answer.specs.declared.Answer.the-variants.{Refused}
-use Rattle.answer.specs.declared.Refusal.{Refusal}
-use Rattle.answer.specs.Meaning.{answerOf, refusalOf, Counted}
-use Rattle.answer.specs.Unique.{answer-is, Silent, silent-counted}
+use Rattle.reply.specs.declared.Answer.{Answer}
+use Rattle.reply.specs.declared.Answer.the-variants.{Refused}
+use Rattle.reply.specs.declared.Refusal.{Refusal}
+use Rattle.reply.specs.Meaning.{answerOf, refusalOf, Counted}
+use Rattle.reply.specs.Unique.{answer-is, Silent, silent-counted}
 use Rattle.table.specs.declared.Core.{Core}
 use Rattle.table.specs.declared.Desk.{Desk}
 use Rattle.table.specs.declared.Table.{Table}

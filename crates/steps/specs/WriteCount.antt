@@ -99,13 +99,13 @@ module _ {n m : ℕ} {ds : List Desk} {cs os : List ℕ} (ok : Sound n m ds cs o
           let t = ok .rules .frame .open-exactly (o .writer) (number o) .0 (rw (opens-at os e (o .writer) (number o) (ok .unique) (at e h .0) (own-named o g))) in
           rw (at e h .1) (t .writer, t .number)
 
-  -- a free entry: the write finds fewer than 64 open
+  -- a free entry: the write finds fewer than the most open
   pub free-few : (e : ℕ) → e < entries → freeAt os e ≡ true → openCount (model n m ds cs os) < most-open
   free-few e h f =
       let c = count-miss inUse open0 (entriesOf os) e (rw length-entriesOf h) (rw (getD-entriesOf os e h, f)) in
       omega (arith, open-is, length-entriesOf os)
 
-  -- none: it finds 64
+  -- none: it finds the most
   pub full-many : ((e : ℕ) → e < entries → freeAt os e ≡ false) → openCount (model n m ds cs os) < most-open → ⊥
   full-many f h =
       let c = count-all inUse open0 (entriesOf os) (λ j b. let z : j < entries = rw length-entriesOf at b in rw (getD-entriesOf os j z, f j z)) in

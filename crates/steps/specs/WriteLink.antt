@@ -25,7 +25,7 @@ use Rattle.table.specs.Names.{number}
 use Rattle.table.specs.Model.{openM, slot, opensM, appliedM, clockM, cellsM, model, appliedVec, applied-at, applied-put, clock-put, cell-put}
 use Rattle.table.specs.Opens.{Unique, opens-store, unique-store}
 use Rattle.table.specs.Sound.{AllZero}
-use Rattle.answer.specs.Meaning.{answerOf}
+use Rattle.reply.specs.Meaning.{answerOf}
 use Rattle.steps.specs.declared.write.Spot.{Spot}
 use Rattle.steps.specs.declared.write.Spot.the-variants.{Entry, Alone, Full}
 use Rattle.steps.specs.Stepped.{Placed, Stepped}
@@ -60,11 +60,11 @@ module _ {n m : ℕ} {ds : List Desk} {cs os own : List ℕ} {i : ℕ} {d : Desk
   own-same : place (d .clock .at) i ≡ place (d .applied) i
   own-same = ap (λ (v : ℕ → ℕ). v i) (sym (clock-start p hi)) ∙ p .sound .rules .frame .clocks .own i ∙ written-start
 
-  module _ (hw : place (d .applied) i < 65535) where
+  module _ (hw : place (d .applied) i < states.most-writes) where
     clock-rises : raiseClock (d .clock) i ≡ record { at = raised (d .clock .at) i }
     clock-rises =
         let a = desk-shape p hi .clock in
-        rw (lt-ltb 0 i (omega (arith, hi .0)), lt-ltb (i - 1) (length (d .clock .at)) (omega (arith, in-places p hi)), lt-ltb (place (d .clock .at) i) 65535 (omega (arith, own-same)))
+        rw (lt-ltb 0 i (omega (arith, hi .0)), lt-ltb (i - 1) (length (d .clock .at)) (omega (arith, in-places p hi)), lt-ltb (place (d .clock .at) i) states.most-writes (omega (arith, own-same)))
 
     vector-size : length (raiseClock (d .clock) i .at) ≡ places
     vector-size = ap (λ (k : Clock). length (k .at)) clock-rises ∙ length-set (d .clock .at) (i - 1) (place (d .clock .at) i + 1) ∙ desk-shape p hi .clock

@@ -12,8 +12,8 @@ use Rattle.table.specs.declared.Open.{Open}
 use Rattle.table.specs.Value.{entries, putCell, putOpen}
 use Rattle.table.specs.Names.{freeAt}
 use Rattle.table.specs.Model.{slot}
-use Rattle.answer.specs.declared.Answer.the-variants.{Wrote as WroteAnswer}
-use Rattle.answer.specs.Meaning.{answerOf}
+use Rattle.reply.specs.declared.Answer.the-variants.{Wrote as WroteAnswer}
+use Rattle.reply.specs.Meaning.{answerOf}
 use Rattle.steps.specs.declared.Turn.{Turn}
 use Rattle.steps.specs.declared.write.Spot.{Spot}
 use Rattle.steps.specs.declared.write.Spot.the-variants.{Entry, Alone, Full}

@@ -4,9 +4,9 @@ ghost use Prim.Native.Nat.{_<_};
 ghost use Rattle.clock.specs.Vectors.{place};
 ghost use Rattle.steps.specs.LookTurn.{refusedTurn};
 use crate::Turn;
-use answer::Answer;
-use answer::Refusal;
 use clock::PLACES;
+use reply::Answer;
+use reply::Refusal;
 use table::Desk;
 
 pub(crate) fn small(x: usize) -> u16

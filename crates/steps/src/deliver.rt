@@ -15,10 +15,11 @@ ghost use Rattle.steps.specs.DeliverReceive.{Arrives, Received};
 ghost use Rattle.steps.specs.Deliver.{Part, Delivers, testsOf, turnedAway};
 use crate::Turn;
 use crate::common::small;
-use answer::Answer;
-use answer::Refusal;
 use clock::PLACES;
 use clock::Wait;
+use reply::Answer;
+use reply::NAMES;
+use reply::Refusal;
 use table::CELL;
 use table::CELLS;
 use table::Cell;
@@ -26,9 +27,6 @@ use table::Desk;
 use table::Found;
 use table::OPEN;
 use table::OPENS;
-
-// The numbers of the names that an answer lists: writer and number by turns.
-pub const NAMES: usize = 2 * OPENS;
 
 // What the search finds: a writer and the entry of its write that is due.
 enum Due {

@@ -1,5 +1,5 @@
 // The four steps.
-use answer::Answer;
+use reply::Answer;
 use table::Desk;
 
 mod common;

@@ -15,10 +15,10 @@ ghost use Rattle.steps.specs.LookTrip.{seenNothing, seeCell, seeAll, ver
 use crate::Turn;
 use crate::common::at_place;
 use crate::common::refused;
-use answer::Answer;
-use answer::Refusal;
 use clock::Clock;
 use clock::PLACES;
+use reply::Answer;
+use reply::Refusal;
 use table::CELL;
 use table::CELLS;
 use table::Cell;

@@ -2,6 +2,7 @@
 ghost use mathlib.Core.Path.{_≡_};
 ghost use Prim.Native.Nat.{_-_, _<_};
 ghost use lib.ListN.{getD};
+ghost use Rattle.machine.specs.Table.{most-writes};
 ghost use Rattle.machine.specs.Rules.{In};
 ghost use Rattle.machine.specs.Steps.{Write};
 ghost use Rattle.clock.specs.Vectors.{places, place};
@@ -11,9 +12,9 @@ use crate::Turn;
 use crate::common::at_place;
 use crate::common::refused;
 use crate::common::small;
-use answer::Answer;
-use answer::Refusal;
 use clock::PLACES;
+use reply::Answer;
+use reply::Refusal;
 use table::CELL;
 use table::CELLS;
 use table::Cell;
@@ -22,6 +23,9 @@ use table::Found;
 use table::OPEN;
 use table::OPENS;
 use table::Open;
+
+// The most writes of a desk.
+const MOST_WRITES: u16 = 65535;
 
 // Where a new write is kept for the other desks: in an entry, or nowhere as there is no other desk, or all are in use.
 enum Spot {
@@ -75,7 +79,7 @@ fn written(
     s: Spot,
 ) -> Turn
     requires { ⌜ (In places i) × ((In desk-cells x) × (SpotIn s)) ⌝ }
-    requires { ⌜ getD (d .applied) (i - 1) 0 < 65535 ⌝ }
+    requires { ⌜ getD (d .applied) (i - 1) 0 < most-writes ⌝ }
     ensures { λ r. ⌜ Wrote d (now (cells .entry)) (now (opens .entry)) i x v s r (now (cells .exit)) (now (opens .exit)) ⌝ }
 {
     let mut a = d.applied;
@@ -133,7 +137,7 @@ pub fn write_at(
     }
     let a = d.applied;
     let k = at_place(a, i);
-    if 65535 <= k {
+    if MOST_WRITES <= k {
         return refused(d, Refusal::Spent);
     }
     let s = spot_for(n, opens, i, k + 1);

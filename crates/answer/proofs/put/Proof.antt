@@ -1,14 +1,14 @@
 -- The line is stored where it fits, and else nothing is.
-use Prim.Native.Nat.{ℕ, _≤_}
+use Prim.Native.Nat.{ℕ, _<_, _≤_}
 use mathlib.Core.Path.{_≡_}
 use mathlib.Core.List.{List, _++_}
 use native.Mathlib.Omega.{arith}
 use lib.ListN.{length, length-append}
 use Rattle.laws.specs.Text.{text}
 use borrow.Author.Needs.{needs}
-use Rattle.answer.specs.declared.Answer.{Answer}
-use Rattle.answer.specs.Meaning.{answerOf}
-use Rattle.answer.specs.Bytes.{answerBytes}
+use Rattle.reply.specs.declared.Answer.{Answer}
+use Rattle.reply.specs.Meaning.{answerOf}
+use Rattle.answer.specs.Bytes.{answerBytes, most-answer}
 use Rattle.answer.specs.Outcome.{kept, ended}
 use Rattle.answer.proofs.put.Statement.{statement}
 use Rattle.answer.proofs.put.Tie as tie
@@ -16,7 +16,7 @@ use Rattle.answer.proofs.put.Tie as tie
 abbrev bytes : Answer → List ℕ → List ℕ
 bytes a names = answerBytes (answerOf a names)
 
-short : (b : List ℕ) (n : ℕ) → (n ≡ length b) × (n ≤ 769) → length (b ++ text "\n") ≤ 770
+short : (b : List ℕ) (n : ℕ) → (n ≡ length b) × (n < most-answer) → length (b ++ text "\n") ≤ most-answer
 short b n h = omega (arith, h .0, h .1, length-append b (text "\n"))
 
 returns : tie.Need-returns

@@ -1,62 +1,26 @@
 use mathlib.Core.Path.{_≡_, refl, sym, ap, _∙_}
-use mathlib.Core.List.{_∷_}
-use native.Mathlib.Omega.{arith}
+use mathlib.Core.Option.{some}
+use Rattle.text.specs.Fields.{FieldIs}
+use Rattle.schedule.specs.declared.Pair.{Pair}
 use Rattle.schedule.specs.Grammar.{three}
 use Rattle.schedule.specs.Value.{lineValue}
-use Rattle.schedule.specs.Fields.{FieldIs}
-use Rattle.schedule.specs.Forms.{sayAt, triples, no-field, one-field, too-many, no-more}
+use Rattle.schedule.specs.Forms.{sayAt, triples, pairSays, no-field, one-field, three-two}
 use borrow.Author.Needs.{needs}
 use Rattle.schedule.proofs.three.Statement.{statement}
 use Rattle.schedule.proofs.three.Tie as tie
 
-first : (c : tie.After-a) → FieldIs (c .before .before .before .before .args .s .now) 1 (c .a .given .0 .0) (c .a .given .0 .1 .0)
-first c = rw (c .a .given .1) at (c .before .before .next-field .ensures)
-
-second : (c : tie.After-b) →
-    let a = c .before .before .before .before in
-    FieldIs (a .before .before .before .before .args .s .now) (a .a .given .0 .1 .0) (c .b .given .0 .0) (c .b .given .0 .1 .0)
-second c = rw (c .b .given .1) at (c .before .before .next-field2 .ensures)
-
-third : (c : tie.After-d) →
-    let b = c .before .before .before .before in
-    let a = b .before .before .before .before in
-    FieldIs (a .before .before .before .before .args .s .now) (b .b .given .0 .1 .0) (c .d .given .0 .0) (c .d .given .0 .1 .0)
-third c = rw (c .d .given .1) at (c .before .before .next-field3 .ensures)
-
--- all fields are there
-all : (c : tie.After-d) →
-    let b = c .before .before .before .before in
-    let a = b .before .before .before .before in
+-- the first number is there, and the two behind it are what was found
+said : (c : tie.After-last-two) →
+    let a = c .before .before in
     let k = a .before .before .before .before .args in
-    sayAt (k .s .now) 1 (three (triples (k .writes))) ≡ sayAt (k .s .now) (c .d .given .0 .1 .0) (λ l. three (triples (k .writes)) (a .a .given .0 .0 ∷ b .b .given .0 .0 ∷ c .d .given .0 .0 ∷ l))
-all c =
-    let b = c .before .before .before .before in
-    one-field _ 1 _ _ _ (first (b .before .before .before .before)) ∙ (one-field _ _ _ _ _ (second b) ∙ one-field _ _ _ _ _ (third c))
+    sayAt (k .s .now) 1 (three (triples (k .writes))) ≡ pairSays (triples (k .writes) (a .a .given .0 .0)) (c .last-two .result)
+said c =
+    let a = c .before .before in
+    let g = triples (a .before .before .before .before .args .writes) in
+    one-field _ 1 _ _ _ (rw (a .a .given .1) at (a .before .before .next-field .ensures)) ∙ (three-two _ _ g _ ∙ c .last-two .ensures (g (a .a .given .0 .0)))
 
 returns : tie.Need-returns
 returns c = sym (ap lineValue (no-field _ 1 _ (rw (c .enum-told .given .1) at (c .before .before .next-field .ensures)) refl))
-
-returns-2 : tie.Need-returns-2
-returns-2 c =
-    let b = c .before .before .before in
-    sym (ap lineValue (one-field _ 1 _ _ _ (first (b .before)) ∙ no-field _ _ _ (rw (c .enum-told2 .given .1) at (c .before .before .next-field2 .ensures)) refl))
-
-returns-3 : tie.Need-returns-3
-returns-3 c =
-    let b = c .before .before .before .before in
-    sym (ap lineValue (one-field _ 1 _ _ _ (first (b .before .before .before .before)) ∙ (one-field _ _ _ _ _ (second b) ∙ no-field _ _ _ (rw (c .enum-told3 .given .1) at (c .before .before .next-field3 .ensures)) refl)))
-
-returns-4 : tie.Need-returns-4
-returns-4 c =
-    let d = c .before .before in sym (ap lineValue (all d ∙ too-many _ _ _ (third d .within) (λ e. (omega (arith, c .if1 .taken))) (λ x l. refl)))
-
-returns-5 : tie.Need-returns-5
-returns-5 c =
-    let d = c .before .before .before in sym (ap lineValue (all d ∙ no-more _ _ _ (omega (arith, c .before .if1 .left))) ∙ rw (c .if2 .taken))
-
-returns-6 : tie.Need-returns-6
-returns-6 c =
-    let d = c .before .before .before in sym (ap lineValue (all d ∙ no-more _ _ _ (omega (arith, c .before .if1 .left))) ∙ rw (c .if2 .left))
 
 pub three-spec : {M : Type 1} → statement M
 three-spec =
@@ -69,11 +33,6 @@ three-spec =
     (λ c κs. search needs)
     (λ c. search needs)
     (λ c. search needs)
-    returns-2
-    (λ c κs. search needs)
-    (λ c. search needs)
-    (λ c. search needs)
-    returns-3
-    returns-4
-    returns-5
-    returns-6)
+    (λ c. sym (ap lineValue (said (c .before .before)) ∙ rw (c .enum-told2 .given .1)))
+    (λ c. sym (ap lineValue (said (c .before .before .before .before)) ∙ rw (c .before .before .b .given .1, c .if1 .taken)))
+    (λ c. sym (ap lineValue (said (c .before .before .before .before)) ∙ rw (c .before .before .b .given .1, c .if1 .left))))

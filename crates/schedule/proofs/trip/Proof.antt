@@ -1,5 +1,5 @@
 use mathlib.Core.Path.{refl, _∙_}
-use Rattle.schedule.specs.Fields.{FieldIs}
+use Rattle.text.specs.Fields.{FieldIs}
 use Rattle.schedule.specs.Forms.{no-field, one-field, told-none}
 use Rattle.schedule.specs.Cells.{told-trip, trip-bad}
 use borrow.Author.Needs.{needs}

@@ -2,7 +2,7 @@ use Prim.Native.Nat.{_≤_, _-_, _+_, _*_}
 use mathlib.Core.Path.{_≡_, refl, _∙_}
 use native.Mathlib.Omega.{arith}
 use lib.ListN.{length}
-use Rattle.schedule.specs.Fields.{fieldsAt, FieldIs}
+use Rattle.text.specs.Fields.{fieldsAt, FieldIs}
 use Rattle.schedule.specs.Cells.{storing, store-one, store-bad, store-end}
 use borrow.Author.Needs.{needs}
 use Rattle.schedule.proofs.trip_cells.Statement.{statement}

@@ -1,48 +1,26 @@
-use mathlib.Core.Path.{_≡_, refl, sym, ap, _∙_}
-use mathlib.Core.List.{_∷_}
-use native.Mathlib.Omega.{arith}
+use mathlib.Core.Path.{_≡_, sym, ap, _∙_}
+use mathlib.Core.Option.{some}
 use Rattle.schedule.specs.Grammar.{two}
 use Rattle.schedule.specs.Value.{lineValue}
-use Rattle.schedule.specs.Fields.{FieldIs}
-use Rattle.schedule.specs.Forms.{sayAt, pairs, no-field, one-field, too-many, no-more}
+use Rattle.schedule.specs.Forms.{sayAt, pairs, pairSays}
 use borrow.Author.Needs.{needs}
 use Rattle.schedule.proofs.two.Statement.{statement}
 use Rattle.schedule.proofs.two.Tie as tie
 
-first : (c : tie.After-a) → FieldIs (c .before .before .before .before .args .s .now) 1 (c .a .given .0 .0) (c .a .given .0 .1 .0)
-first c = rw (c .a .given .1) at (c .before .before .next-field .ensures)
-
-second : (c : tie.After-b) →
-    let a = c .before .before .before .before in
-    FieldIs (a .before .before .before .before .args .s .now) (a .a .given .0 .1 .0) (c .b .given .0 .0) (c .b .given .0 .1 .0)
-second c = rw (c .b .given .1) at (c .before .before .next-field2 .ensures)
-
--- both fields are there
-both : (c : tie.After-b) →
-    let a = c .before .before .before .before in
-    let k = a .before .before .before .before .args in
-    sayAt (k .s .now) 1 (two (pairs (k .begins))) ≡ sayAt (k .s .now) (c .b .given .0 .1 .0) (λ l. two (pairs (k .begins)) (a .a .given .0 .0 ∷ c .b .given .0 .0 ∷ l))
-both c = one-field _ 1 _ _ _ (first (c .before .before .before .before)) ∙ one-field _ _ _ _ _ (second c)
+-- both numbers are there
+said : (c : tie.After-a) →
+    let k = c .before .before .before .before .args in
+    sayAt (k .s .now) 1 (two (pairs (k .begins))) ≡ some (pairs (k .begins) (c .a .given .0 .0) (c .a .given .0 .1 .0))
+said c =
+    let b = c .before .before in
+    let f = pairs (b .before .before .args .begins) in
+    b .last-two .ensures f ∙ ap (pairSays f) (c .a .given .1)
 
 returns : tie.Need-returns
-returns c = sym (ap lineValue (no-field _ 1 _ (rw (c .enum-told .given .1) at (c .before .before .next-field .ensures)) refl))
-
-returns-2 : tie.Need-returns-2
-returns-2 c =
-    let b = c .before .before .before in
-    sym (ap lineValue (one-field _ 1 _ _ _ (first (b .before)) ∙ no-field _ _ _ (rw (c .enum-told2 .given .1) at (c .before .before .next-field2 .ensures)) refl))
-
-returns-3 : tie.Need-returns-3
-returns-3 c =
-    let b = c .before .before in sym (ap lineValue (both b ∙ too-many _ _ _ (second b .within) (λ e. (omega (arith, c .if1 .taken))) (λ x l. refl)))
-
-returns-4 : tie.Need-returns-4
-returns-4 c =
-    let b = c .before .before .before in sym (ap lineValue (both b ∙ no-more _ _ _ (omega (arith, c .before .if1 .left))) ∙ rw (c .if2 .taken))
-
-returns-5 : tie.Need-returns-5
-returns-5 c =
-    let b = c .before .before .before in sym (ap lineValue (both b ∙ no-more _ _ _ (omega (arith, c .before .if1 .left))) ∙ rw (c .if2 .left))
+returns c =
+    let b = c .before .before in
+    let f = pairs (b .before .before .args .begins) in
+    sym (ap lineValue (b .last-two .ensures f ∙ ap (pairSays f) (c .enum-told .given .1)))
 
 pub two-spec : {M : Type 1} → statement M
 two-spec =
@@ -52,10 +30,5 @@ two-spec =
     (λ c. search needs)
     (λ c. search needs)
     returns
-    (λ c κs. search needs)
-    (λ c. search needs)
-    (λ c. search needs)
-    returns-2
-    returns-3
-    returns-4
-    returns-5)
+    (λ c. sym (ap lineValue (said (c .before .before)) ∙ rw (c .if1 .taken)))
+    (λ c. sym (ap lineValue (said (c .before .before)) ∙ rw (c .if1 .left))))

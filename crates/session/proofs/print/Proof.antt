@@ -1,5 +1,5 @@
 use Rattle.answer.specs.Bytes.{answerLine}
-use Rattle.answer.specs.Meaning.{answerOf}
+use Rattle.reply.specs.Meaning.{answerOf}
 use Rattle.session.specs.Run.{print-upto, print-short}
 use borrow.Author.Needs.{needs}
 use Rattle.session.proofs.print.Statement.{statement}

@@ -3,7 +3,7 @@ use mathlib.Core.Path.{_≡_, sym, subst, _∙_}
 use mathlib.Core.Bool.{true}
 use native.Mathlib.Omega.{arith}
 use Rattle.clock.specs.Vectors.{place, place-at}
-use Rattle.answer.specs.declared.Refusal.the-variants.{Received}
+use Rattle.reply.specs.declared.Refusal.the-variants.{Received}
 use Rattle.table.specs.Value.{entries, openAt}
 use Rattle.table.specs.Names.{namedAt, FoundIn, found-at}
 use Rattle.table.specs.Opens.{found-none}

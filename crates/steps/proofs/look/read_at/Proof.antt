@@ -1,6 +1,6 @@
 use mathlib.Core.Path.{refl}
 use mathlib.Core.Logic.{inl, inr}
-use Rattle.answer.specs.declared.Refusal.the-variants.{NoDesk, NoCell}
+use Rattle.reply.specs.declared.Refusal.the-variants.{NoDesk, NoCell}
 use Rattle.machine.specs.Proofs.Refusals.{says-within}
 use Rattle.steps.specs.LookStepped.{stops, passes, in-places, in-cells, refused-turn}
 use Rattle.steps.specs.LookLink.{read-stepped}

@@ -1,7 +1,7 @@
 use mathlib.Core.Path.{refl}
 use mathlib.Core.Logic.{inl, inr}
 use Rattle.laws.specs.Lists.{says-every}
-use Rattle.answer.specs.declared.Refusal.the-variants.{NoDesk, NoCell, TripSize}
+use Rattle.reply.specs.declared.Refusal.the-variants.{NoDesk, NoCell, TripSize}
 use Rattle.machine.specs.Proofs.Refusals.{says-within}
 use Rattle.steps.specs.LookStepped.{stops, passes, in-places, in-cells, refused-turn}
 use Rattle.steps.specs.LookTripLink.{trip-stepped}

@@ -2,8 +2,9 @@ use mathlib.Core.Path.{_≡_, refl}
 use mathlib.Core.Logic.{inl, inr, ⊎-elim}
 use Prim.Native.Nat.{_<_}
 use native.Mathlib.Omega.{arith}
-use Rattle.answer.specs.declared.Refusal.{Refusal}
-use Rattle.answer.specs.declared.Refusal.the-variants.{NoDesk, NoCell, NoStatus, Spent}
+use Rattle.reply.specs.declared.Refusal.{Refusal}
+use Rattle.reply.specs.declared.Refusal.the-variants.{NoDesk, NoCell, NoStatus, Spent}
+use Rattle.machine.specs.Table.{most-writes}
 use Rattle.machine.specs.Rules.{In}
 use Rattle.machine.specs.Proofs.Refusals.{says-within}
 use Rattle.clock.specs.Vectors.{place, place-at}
@@ -22,8 +23,8 @@ desk-in k = passes (says-within _ _) (k .before .inside .ensures) (k .if1 .left)
 cell-in : (k : tie.Else2) → In (k .before .before .before .before .args .m) (k .before .before .before .before .args .x)
 cell-in k = passes (says-within _ _) (k .before .inside2 .ensures) (k .if2 .left)
 
--- the desk has written less than 65,535 times
-unspent : (k : tie.Else4) → place (k .before .before .before .before .before .before .before .before .args .d .applied) (k .before .before .before .before .before .before .before .before .args .i) < 65535
+-- the desk has not written its last
+unspent : (k : tie.Else4) → place (k .before .before .before .before .before .before .before .before .args .d .applied) (k .before .before .before .before .before .before .before .before .args .i) < most-writes
 unspent k = omega (arith, k .before .at-place .ensures)
 
 not-full : (k : tie.At-match-keys2) → k .before .spot-for .result ≡ Full → ⊥

@@ -5,11 +5,12 @@ use mathlib.Core.Logic.{inl, inr}
 use mathlib.Core.Option.{some}
 use native.Mathlib.Omega.{arith}
 use lib.ListN.{length, drop}
-use Rattle.schedule.specs.Grammar.{most-number, join}
-use Rattle.schedule.specs.Fields.{digitsOn, fieldsAt, DigitsAre, at-more, at-stop, at-end, digits-large}
+use Rattle.text.specs.Number.{most-number}
+use Rattle.text.specs.Words.{join}
+use Rattle.text.specs.Fields.{digitsOn, fieldsAt, DigitsAre, at-more, at-stop, at-end, digits-large}
 use borrow.Author.Needs.{needs}
-use Rattle.schedule.proofs.digits.Statement.{statement}
-use Rattle.schedule.proofs.digits.Tie as tie
+use Rattle.text.proofs.digits.Statement.{statement}
+use Rattle.text.proofs.digits.Tie as tie
 
 abbrev Inv-loop : tie.InvT-loop
 Inv-loop s from first v₀ i₀ v i =

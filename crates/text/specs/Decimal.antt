@@ -5,9 +5,9 @@ use mathlib.Core.List.{List, [], _∷_, _++_}
 use native.Mathlib.Omega.{arith}
 use native.Mathlib.Nat.{pow-suc, one-le-pow, zero-lt-suc}
 use lib.ListN.{length, length-append}
-use Rattle.answer.specs.Bytes.{digits, decimal}
+use Rattle.text.specs.Number.{digits, decimal, readOn}
 
-digits-zero : (f : ℕ) → digits f 0 ≡ []
+pub digits-zero : (f : ℕ) → digits f 0 ≡ []
 unfolding digits
 digits-zero zero = refl
 digits-zero (suc f) = refl
@@ -57,11 +57,6 @@ decimal-length (suc w) n l h =
     let q : 10 ^ suc (suc w) ≡ 10 ^ suc w * 10 = pow-suc 10 (suc w) in
     let o : 0 < 10 ^ w = one-le-pow w 10 (zero-lt-suc 9) in
     rw (decimal-longer n (omega arith), decimal-length w (n / 10) (omega arith) (omega arith)) (omega arith)
-
--- the number that digits read as, after v
-unfoldable pub readOn : ℕ → List ℕ → ℕ
-readOn v [] = v
-readOn v (b ∷ l) = readOn (10 * v + (b - 48)) l
 
 read-last : (l : List ℕ) (v b : ℕ) → readOn v (l ++ b ∷ []) ≡ 10 * readOn v l + (b - 48)
 unfolding readOn

@@ -3,10 +3,10 @@ use mathlib.Core.Path.{_≡_}
 use mathlib.Core.Logic.{inl, inr}
 use native.Mathlib.Omega.{arith}
 use lib.ListN.{drop}
-use Rattle.schedule.specs.Fields.{fieldsAt, digitsOn, field-unspaced, field-empty, field-zero, field-none, field-first, tells-digits}
+use Rattle.text.specs.Fields.{fieldsAt, digitsOn, field-unspaced, field-empty, field-zero, field-none, field-first, tells-digits}
 use borrow.Author.Needs.{needs}
-use Rattle.schedule.proofs.next_field.Statement.{statement}
-use Rattle.schedule.proofs.next_field.Tie as tie
+use Rattle.text.proofs.next_field.Statement.{statement}
+use Rattle.text.proofs.next_field.Tie as tie
 
 -- past all tests the byte after the space is 1 to 9
 first : (c : tie.After-wide) →

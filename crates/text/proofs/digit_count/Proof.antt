@@ -2,9 +2,9 @@
 use mathlib.Core.Path.{sym, ap}
 use borrow.Author.Needs.{needs}
 use lib.ListN.{length}
-use Rattle.answer.specs.Decimal.{decimal-one, decimal-length}
-use Rattle.answer.proofs.digit_count.Statement.{statement}
-use Rattle.answer.proofs.digit_count.Tie as tie
+use Rattle.text.specs.Decimal.{decimal-one, decimal-length}
+use Rattle.text.proofs.digit_count.Statement.{statement}
+use Rattle.text.proofs.digit_count.Tie as tie
 
 returns : tie.Need-returns
 returns c = (sym (ap length (decimal-one _ (search needs))), search needs)

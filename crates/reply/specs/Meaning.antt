@@ -6,10 +6,10 @@ use lib.ListN.{getD}
 use Rattle.laws.specs.Tab.{tab}
 use Rattle.machine.specs.Table.{Name, name, most-open}
 use Rattle.machine.specs.Answer as machine
-use Rattle.answer.specs.declared.Refusal.{Refusal}
-use Rattle.answer.specs.declared.Refusal.the-variants.{NoDesk, NoCell, NoStatus, Spent, Full, OwnWrite, NoWrite, Received, TripSize, NoStep, NoSize, Damaged, Broken, Short}
-use Rattle.answer.specs.declared.Answer.{Answer}
-use Rattle.answer.specs.declared.Answer.the-variants.{Begun, Unset, Shown, Wrote, Held, Applied, Yes, No, Unknown, Refused}
+use Rattle.reply.specs.declared.Refusal.{Refusal}
+use Rattle.reply.specs.declared.Refusal.the-variants.{NoDesk, NoCell, NoStatus, Spent, Full, OwnWrite, NoWrite, Received, TripSize, NoStep, NoSize, Damaged, Broken, Short}
+use Rattle.reply.specs.declared.Answer.{Answer}
+use Rattle.reply.specs.declared.Answer.the-variants.{Begun, Unset, Shown, Wrote, Held, Applied, Yes, No, Unknown, Refused}
 
 abbrev pub refusalOf : Refusal → machine.Refusal
 refusalOf NoDesk = machine.no-desk

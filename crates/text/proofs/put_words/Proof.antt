@@ -7,8 +7,8 @@ use borrow.Author.Needs.{needs}
 use lib.ListN.{length, drop, drop-of-length-le}
 use lib.Seq.{drop-cons}
 use Rattle.laws.specs.Stores.{Left, stored-one, left-start, left-put, left-none}
-use Rattle.answer.proofs.put_words.Statement.{statement}
-use Rattle.answer.proofs.put_words.Tie as tie
+use Rattle.text.proofs.put_words.Statement.{statement}
+use Rattle.text.proofs.put_words.Tie as tie
 
 abbrev Inv-loop : tie.InvT-loop
 Inv-loop out₀ at words j₀ out j = (j ≤ length words) × Left out₀ at words out (at + j) (drop j words)

@@ -3,9 +3,9 @@ use native.Mathlib.Omega.{arith}
 use borrow.Author.Needs.{needs}
 use lib.ListN.{length-append}
 use Rattle.laws.specs.Stores.{left-start, left-put, left-last}
-use Rattle.answer.specs.Bytes.{decimal}
-use Rattle.answer.proofs.put_field.Statement.{statement}
-use Rattle.answer.proofs.put_field.Tie as tie
+use Rattle.text.specs.Number.{decimal}
+use Rattle.text.proofs.put_field.Statement.{statement}
+use Rattle.text.proofs.put_field.Tie as tie
 
 put-words-requires : tie.Need-put-words-requires
 put-words-requires c κs = let a = c .before .before .before .args in omega (arith, length-append (a .head .now) (decimal (a .k)))

@@ -7,10 +7,10 @@ use borrow.Author.Needs.{needs}
 use lib.ListN.{length, set, length-set}
 use lib.Seq.{sets}
 use Rattle.laws.specs.Stores.{sets-last}
-use Rattle.answer.specs.Bytes.{decimal}
-use Rattle.answer.specs.Decimal.{decimal-one, decimal-more, decimal-longer, decimal-some}
-use Rattle.answer.proofs.put_number.Statement.{statement}
-use Rattle.answer.proofs.put_number.Tie as tie
+use Rattle.text.specs.Number.{decimal}
+use Rattle.text.specs.Decimal.{decimal-one, decimal-more, decimal-longer, decimal-some}
+use Rattle.text.proofs.put_number.Statement.{statement}
+use Rattle.text.proofs.put_number.Tie as tie
 
 -- a turn stores the last digit of what is left
 turn : (out : List ℕ) (at p v : ℕ) → 10 ≤ v → p + 1 ≡ at + length (decimal v) → sets (set out p (48 + v % 10)) at (decimal (v / 10)) ≡ sets out at (decimal v)

@@ -14,9 +14,10 @@ use lib.ListN.{length, getD, drop, drop-of-length-le}
 use lib.Seq.{drop-cons}
 use Rattle.laws.specs.Lists.{every, every-first, every-fails}
 use Rattle.laws.specs.Loop.{pick, cases}
-use Rattle.schedule.specs.declared.Field.{Field}
-use Rattle.schedule.specs.declared.Field.the-variants.{Num, Bad}
-use Rattle.schedule.specs.Grammar.{most-number, space, onto, words, isDigit, decimal, unpadded, when, number, join, numbers}
+use Rattle.text.specs.declared.Field.{Field}
+use Rattle.text.specs.declared.Field.the-variants.{Num, Bad}
+use Rattle.text.specs.Number.{most-number, isDigit, readOn, unpadded, when, number}
+use Rattle.text.specs.Words.{space, onto, words, join, numbers}
 
 -- what follows a word: nothing, or a space and numbers
 unfoldable pub rest : List ℕ → Option (List ℕ)
@@ -28,7 +29,7 @@ fieldsAt s at = rest (drop at s)
 
 -- the same in the midst of a number, whose digits so far make v
 abbrev pub numberOn : ℕ → List ℕ → Option ℕ
-numberOn v w = when (every isDigit w && leb (decimal v w) most-number) (decimal v w)
+numberOn v w = when (every isDigit w && leb (readOn v w) most-number) (readOn v w)
 
 abbrev pub wordsOn : ℕ → List (List ℕ) → Option (List ℕ)
 wordsOn v [] = join (numberOn v []) (some [])
@@ -41,7 +42,7 @@ digitsOn v l = wordsOn v (words l)
 abbrev pub NoDigit : ℕ → Type 0
 NoDigit b = (b < 48) ⊎ (57 < b)
 
-is-digit : (b : ℕ) → 48 ≤ b → b ≤ 57 → isDigit b ≡ true
+pub is-digit : (b : ℕ) → 48 ≤ b → b ≤ 57 → isDigit b ≡ true
 unfolding isDigit
 is-digit b l h = rw (le-leb 48 b l, le-leb b 57 h)
 
@@ -52,13 +53,13 @@ no-digit b (inr h) = rw (lt-leb b 57 h, and-false (leb 48 b))
 
 -- in the midst of a number --
 
-decimal-grows : (v : ℕ) (w : List ℕ) → v ≤ decimal v w
-unfolding decimal
-decimal-grows v [] = omega arith
-decimal-grows v (b ∷ w) = omega (arith, decimal-grows (10 * v + (b - 48)) w)
+read-grows : (v : ℕ) (w : List ℕ) → v ≤ readOn v w
+unfolding readOn
+read-grows v [] = omega arith
+read-grows v (b ∷ w) = omega (arith, read-grows (10 * v + (b - 48)) w)
 
 number-large : (v : ℕ) (w : List ℕ) → most-number < v → numberOn v w ≡ none
-number-large v w h = rw (lt-leb (decimal v w) 65535 (omega (arith, decimal-grows v w)), and-false (every isDigit w))
+number-large v w h = rw (lt-leb (readOn v w) most-number (omega (arith, read-grows v w)), and-false (every isDigit w))
 
 -- too large already
 pub digits-large : (v : ℕ) (l : List ℕ) → most-number < v → digitsOn v l ≡ none
@@ -71,7 +72,7 @@ digits-large v l h = go (words l)
 
 -- one digit more
 pub digits-more : (v b : ℕ) (l : List ℕ) → 48 ≤ b → b ≤ 57 → digitsOn v (b ∷ l) ≡ digitsOn (10 * v + (b - 48)) l
-unfolding digitsOn words numbers every decimal
+unfolding digitsOn words numbers every readOn
 digits-more v b l low high = rw (ne-eqb b 32 (λ e. (omega arith))) (go (words l))
   where
     go : (ws : List (List ℕ)) → wordsOn v (onto b ws) ≡ wordsOn (10 * v + (b - 48)) ws
@@ -80,12 +81,12 @@ digits-more v b l low high = rw (ne-eqb b 32 (λ e. (omega arith))) (go (words l
 
 -- the number ends, at the end or at another byte
 pub digits-end : (v : ℕ) → v ≤ most-number → digitsOn v [] ≡ join (some v) (rest [])
-unfolding digitsOn words rest numbers every decimal
-digits-end v h = rw (le-leb v 65535 h)
+unfolding digitsOn words rest numbers every readOn
+digits-end v h = rw (le-leb v most-number h)
 
 pub digits-stop : (v b : ℕ) (l : List ℕ) → v ≤ most-number → NoDigit b → digitsOn v (b ∷ l) ≡ join (some v) (rest (b ∷ l))
-unfolding digitsOn words rest every decimal
-digits-stop v b l h n = cases (eqb b 32) (λ e. rw (e, le-leb v 65535 h)) (λ e. rw e (go (words l)))
+unfolding digitsOn words rest every readOn
+digits-stop v b l h n = cases (eqb b 32) (λ e. rw (e, le-leb v most-number h)) (λ e. rw e (go (words l)))
   where
     go : (ws : List (List ℕ)) → wordsOn v (onto b ws) ≡ none
     go [] = rw (every-fails isDigit b [] (no-digit b n))
@@ -95,7 +96,7 @@ digits-stop v b l h n = cases (eqb b 32) (λ e. rw (e, le-leb v 65535 h)) (λ e.
 
 -- 0 alone
 pub digit-zero : (l : List ℕ) → rest (32 ∷ 48 ∷ l) ≡ join (some 0) (rest l)
-unfolding rest words numbers number every isDigit decimal
+unfolding rest words numbers number every isDigit readOn
 digit-zero [] = refl
 digit-zero (b ∷ l) = cases (eqb b 32) (λ e. rw e) (λ e. rw e (go (words l)))
   where
@@ -105,7 +106,7 @@ digit-zero (b ∷ l) = cases (eqb b 32) (λ e. rw e) (λ e. rw e (go (words l)))
 
 -- 1 to 9
 pub digit-first : (d : ℕ) (l : List ℕ) → 48 < d → d ≤ 57 → rest (32 ∷ d ∷ l) ≡ digitsOn (d - 48) l
-unfolding rest words numbers number every decimal digitsOn
+unfolding rest words numbers number every readOn digitsOn
 digit-first d l low high = rw (ne-eqb d 32 (λ e. (omega arith))) (go (words l) ∙ rw (zero-add (d - 48)))
   where
     go : (ws : List (List ℕ)) → numbers (onto d ws) ≡ wordsOn (0 + (d - 48)) ws

@@ -1,0 +1,32 @@
+-- Document 01, "Schedule text": "A line is a letter and decimal fields, one space between."
+use Prim.Native.Nat.{ℕ}
+use Prim.Native.Char.{code}
+use mathlib.Core.List.{List, [], _∷_}
+use mathlib.Core.Option.{Option, none, some}
+use lib.Dec.{eqb}
+use Rattle.laws.specs.Loop.{pick}
+use Rattle.text.specs.Number.{number}
+
+abbrev pub space : ℕ
+space = code " "
+
+-- a byte in front of the first word (there always is one)
+abbrev pub onto : ℕ → List (List ℕ) → List (List ℕ)
+onto b [] = (b ∷ []) ∷ []
+onto b (w ∷ ws) = (b ∷ w) ∷ ws
+
+-- what stands between the spaces: an empty word before a leading space, between two in a row, after a trailing one
+unfoldable pub words : List ℕ → List (List ℕ)
+words [] = [] ∷ []
+words (b ∷ l) = pick (eqb b space) ([] ∷ words l) (onto b (words l))
+
+-- one number more in front; none if any is missing
+abbrev pub join : Option ℕ → Option (List ℕ) → Option (List ℕ)
+join none o = none
+join (some x) none = none
+join (some x) (some l) = some (x ∷ l)
+
+-- every word a number
+unfoldable pub numbers : List (List ℕ) → Option (List ℕ)
+numbers [] = some []
+numbers (w ∷ ws) = join (number w) (numbers ws)
