@@ -10,7 +10,7 @@ use Rattle.laws.specs.All.{all}
 use Rattle.laws.specs.Update.{upd, upd2}
 use Rattle.laws.specs.Sum.{sum}
 use Rattle.laws.specs.Lists.{any, every}
-use Rattle.machine.specs.Table.{name, blank, State, fresh}
+use Rattle.machine.specs.Table.{name, blank, sized, State, fresh}
 use Rattle.machine.specs.Answer.{no-step, damaged, broken, short, numberOf, Yes, Answer, began, shows, wrote, holds, applies, judged, refused}
 use Rattle.machine.specs.Steps.{Step, Read, Write, Deliver, Trip, begin, step, answers, failing, everywhere, openCount, firstDue, settle, reads, verdict}
 use Rattle.machine.specs.History.{take-step, run}
@@ -51,7 +51,7 @@ edge-of-trip = refl
 
 -- a table of one desk that has written k times
 abbrev pub writtenTimes : ℕ → State
-writtenTimes k = record { desks = 1; cells = 1; applied = λ i u. k; clock = λ i u. k; cell = λ i x. blank; opens = λ u k. none }
+writtenTimes k = record { setup = sized 1 1; applied = λ i u. k; clock = λ i u. k; cell = λ i x. blank; opens = λ u k. none }
 
 -- "write 65,535 and the next"
 pub edge-of-writes : replies (writtenTimes 65534) (Write 1 1 0 ∷ Write 1 1 0 ∷ []) ≡ given (wrote (name 1 65535)) ∷ E 4 ∷ []
