@@ -33,16 +33,16 @@ bytes-block kind place l h g k =
     (and (omega arith) (and (omega arith) (and (omega arith) (and (omega arith) no))))
 
 module _ (s : State) (ok : Rules s) where
-  n-most : s .desks ≤ 8
+  n-most : s .setup .desks ≤ 8
   n-most = ok .frame .ranges .desks .1
 
-  m-most : s .cells ≤ 64
+  m-most : s .setup .cells ≤ 64
   m-most = ok .frame .ranges .cells .1
 
-  few-cells : perDesk (s .cells) * s .desks ≤ 24
+  few-cells : perDesk (s .setup .cells) * s .setup .desks ≤ 24
   unfolding perDesk
   few-cells =
-      let c : (s .cells + 24) / 25 ≤ 3 = omega (arith, m-most) in
+      let c : (s .setup .cells + 24) / 25 ≤ 3 = omega (arith, m-most) in
       mul-le-mul c n-most
 
   -- "The largest image is 37 blocks."
@@ -50,8 +50,8 @@ module _ (s : State) (ok : Rules s) where
   unfolding openBlocks
   most-blocks = omega (arith, n-most, ok .frame .ranges .few, few-cells)
 
-  place-3 : (i q : ℕ) → i < s .desks → q < perDesk (s .cells) → 1 + s .desks + perDesk (s .cells) * i + q ≤ most-writes
-  place-3 i q h g = omega (arith, few-cells, mul-le-mul-left (perDesk (s .cells)) h, n-most)
+  place-3 : (i q : ℕ) → i < s .setup .desks → q < perDesk (s .setup .cells) → 1 + s .setup .desks + perDesk (s .setup .cells) * i + q ≤ most-writes
+  place-3 i q h g = omega (arith, few-cells, mul-le-mul-left (perDesk (s .setup .cells)) h, n-most)
 
   bytes-vector : (v : Vec) → Issued s v → Bytes (words v)
   bytes-vector v h = bytes-words v (λ t. omega (arith, h t, ok .frame .ranges .written t))
@@ -63,7 +63,7 @@ module _ (s : State) (ok : Rules s) where
       let h = ok .frame .cell i x v u w e in
       head u v 0 0 (words w) (omega (arith, h .writer-in .1, n-most)) (omega (arith, h .status-in)) (omega arith) (omega arith) (bytes-vector w (h .issued))
 
-  bytes-open : (u k : ℕ) (o : Option Open) → u ≤ s .desks → s .opens u k ≡ o → Bytes (openBytes u o)
+  bytes-open : (u k : ℕ) (o : Option Open) → u ≤ s .setup .desks → s .opens u k ≡ o → Bytes (openBytes u o)
   unfolding openBytes markBytes
   bytes-open u k none l e = each-replicate Byte 28 0 (omega arith)
   bytes-open u k (some w) l e =
@@ -80,7 +80,7 @@ module _ (s : State) (ok : Rules s) where
       (each-map Bytes (named s) (OpenName s) (λ w h. bytes-open (w .writer) (w .number) (s .opens (w .writer) (w .number)) (h .writer-in .1) refl) (names s) (names-open s))
       (18 * q + j)
 
-  bytes-2 : (i : ℕ) → i < s .desks → Bytes (block2 s i)
+  bytes-2 : (i : ℕ) → i < s .setup .desks → Bytes (block2 s i)
   unfolding deskBytes
   bytes-2 i h =
       let a = s .applied (suc i) in
@@ -90,15 +90,15 @@ module _ (s : State) (ok : Rules s) where
       (head (suc i) 0 0 0 (words a ++ words c) (omega (arith, n-most)) (omega arith) (omega arith) (omega arith)
       (each-append Byte (words a) (words c) (bytes-vector a most) (bytes-vector c (λ t. omega (arith, most t, ok .frame .clocks .below (suc i) t)))))
 
-  bytes-3 : (i q : ℕ) → i < s .desks → q < perDesk (s .cells) → Bytes (block3 s i q)
+  bytes-3 : (i q : ℕ) → i < s .setup .desks → q < perDesk (s .setup .cells) → Bytes (block3 s i q)
   unfolding cellPart
   bytes-3 i q h g =
-      bytes-block 3 (1 + s .desks + perDesk (s .cells) * i + q) (cat (cellPart s i q) 25) (omega arith) (place-3 i q h g)
+      bytes-block 3 (1 + s .setup .desks + perDesk (s .setup .cells) * i + q) (cat (cellPart s i q) 25) (omega arith) (place-3 i q h g)
       (each-cat Byte (cellPart s i q) 25 (λ j _. bytes-cell (suc i) (suc (25 * q + j)) (s .cell (suc i) (suc (25 * q + j))) refl))
 
   bytes-4 : (q : ℕ) → q < openBlocks s → Bytes (block4 s q)
   bytes-4 q h =
-      bytes-block 4 (1 + s .desks + perDesk (s .cells) * s .desks + q) (cat (openPart s q) 18) (omega arith) (omega (arith, most-blocks))
+      bytes-block 4 (1 + s .setup .desks + perDesk (s .setup .cells) * s .setup .desks + q) (cat (openPart s q) 18) (omega arith) (omega (arith, most-blocks))
       (each-cat Byte (openPart s q) 18 (λ j _. bytes-opens q j))
 
   -- every byte is below 256
@@ -106,9 +106,9 @@ module _ (s : State) (ok : Rules s) where
   unfolding encode
   bytes-encode =
       each-append Byte (block1 s) (kind2 s ++ (kind3 s ++ kind4 s))
-      (bytes-block 1 0 (s .desks ∷ s .cells ∷ openCount s ∷ []) (omega arith) (omega arith)
+      (bytes-block 1 0 (s .setup .desks ∷ s .setup .cells ∷ openCount s ∷ []) (omega arith) (omega arith)
       (and (omega (arith, n-most)) (and (omega (arith, m-most)) (and (omega (arith, ok .frame .ranges .few)) no))))
-      (each-append Byte (kind2 s) (kind3 s ++ kind4 s) (each-cat Byte (block2 s) (s .desks) bytes-2)
+      (each-append Byte (kind2 s) (kind3 s ++ kind4 s) (each-cat Byte (block2 s) (s .setup .desks) bytes-2)
       (each-append Byte (kind3 s) (kind4 s)
-      (each-cat Byte (λ i. cat (block3 s i) (perDesk (s .cells))) (s .desks) (λ i h. each-cat Byte (block3 s i) (perDesk (s .cells)) (λ q g. bytes-3 i q h g)))
+      (each-cat Byte (λ i. cat (block3 s i) (perDesk (s .setup .cells))) (s .setup .desks) (λ i h. each-cat Byte (block3 s i) (perDesk (s .setup .cells)) (λ q g. bytes-3 i q h g)))
       (each-cat Byte (block4 s) (openBlocks s) bytes-4)))

@@ -65,30 +65,30 @@ above u l (suc n) =
     rw (t, above u l n, append-nil, e))
 
 module _ (s : State) (ok : Rules s) where
-  pub open-low : (u k : ℕ) → In (s .desks) u → In (written s u) k → isOpen s u k ≡ ltb (low (s .desks) (s .applied) u) k
+  pub open-low : (u k : ℕ) → In (s .setup .desks) u → In (written s u) k → isOpen s u k ≡ ltb (low (s .setup .desks) (s .applied) u) k
   unfolding low
   open-low u k a b =
-      cases (ltb (low (s .desks) (s .applied) u) k)
+      cases (ltb (low (s .setup .desks) (s .applied) u) k)
       (λ e.
-      let r = least-is (written s u) k (λ i. s .applied i u) (s .desks) (ltb-true (low (s .desks) (s .applied) u) k e) (b .1) in
+      let r = least-is (written s u) k (λ i. s .applied i u) (s .setup .desks) (ltb-true (low (s .setup .desks) (s .applied) u) k e) (b .1) in
       rw e (ok .frame .open-exactly u k .1 (record { writer = a; number = b; lacks = record { desk = r .0; desk-in = r .1; lower = r .2 } })))
       (λ e. rw e (cases (isOpen s u k)
       (λ t. absurd
       (let l = ok .frame .open-exactly u k .0 t .lacks in
-      omega (arith, ltb-false (low (s .desks) (s .applied) u) k e, l .lower, least-at (written s u) (λ i. s .applied i u) (s .desks) (l .desk) (l .desk-in .0) (l .desk-in .1))))
+      omega (arith, ltb-false (low (s .setup .desks) (s .applied) u) k e, l .lower, least-at (written s u) (λ i. s .applied i u) (s .setup .desks) (l .desk) (l .desk-in .0) (l .desk-in .1))))
       (λ t. t)))
 
   -- the open writes by their names: those above what every desk has applied
-  pub names-counted : names s ≡ counted (s .desks) (s .applied)
+  pub names-counted : names s ≡ counted (s .setup .desks) (s .applied)
   unfolding names namesOf counted
   names-counted =
-      cat-same (λ u. namesOf s (suc u)) (λ u. openAbove (s .desks) (s .applied) (suc u)) (s .desks)
+      cat-same (λ u. namesOf s (suc u)) (λ u. openAbove (s .setup .desks) (s .applied) (suc u)) (s .setup .desks)
       (λ u h.
-      let l = low (s .desks) (s .applied) (suc u) in
+      let l = low (s .setup .desks) (s .applied) (suc u) in
       cat-same (λ k. nameIf (isOpen s (suc u) (suc k)) (suc u) (suc k)) (λ k. nameIf (ltb l (suc k)) (suc u) (suc k)) (written s (suc u))
       (λ k g. ap (λ (b : Bool). nameIf b (suc u) (suc k)) (open-low (suc u) (suc k) (omega arith, h) (omega arith, g)))
       ∙ above (suc u) l (written s (suc u)))
 
 -- n and the counts determine them
-pub names-same : (s t : State) → Rules s → Rules t → s .desks ≡ t .desks → s .applied ≡ t .applied → names s ≡ names t
+pub names-same : (s t : State) → Rules s → Rules t → s .setup .desks ≡ t .setup .desks → s .applied ≡ t .applied → names s ≡ names t
 names-same s t hs ht e f = names-counted s hs ∙ rw (e, f) (sym (names-counted t ht))

@@ -16,7 +16,7 @@ use Rattle.laws.specs.From.{from1, from1-is}
 use Rattle.laws.specs.Find.{firstOf, FoundAt, first-is, first-not}
 use Rattle.laws.specs.Cat.{part}
 use Rattle.laws.specs.Each.{each-in, getD-map-in}
-use Rattle.machine.specs.Table.{most-desks, Vec, zeros, Name, name, Cell, blank, set, Open, State, written}
+use Rattle.machine.specs.Table.{most-desks, Vec, zeros, Name, name, Cell, blank, set, Open, sized, State, written}
 use Rattle.machine.specs.Steps.{within, isNone, isOpen, openCount}
 use Rattle.machine.specs.Rules.{In, Flat, Below, Issued, Rules}
 use Rattle.machine.specs.Within.{says-within}
@@ -72,7 +72,7 @@ opensIn n a l u k = pick (within n u && within (a u u) k) (findIn l u k) none
 
 abbrev pub readIn : ℕ → ℕ → (ℕ → Vec) → List ℕ → State
 readIn n m a b =
-    record { desks = n; cells = m; applied = a; clock = deskIn n b 20; cell = cellIn n m b; opens = opensIn n a (entriesIn n m b) }
+    record { setup = sized n m; applied = a; clock = deskIn n b 20; cell = cellIn n m b; opens = opensIn n a (entriesIn n m b) }
 
 unfoldable pub decode : List ℕ → State
 decode b = readIn (nIn b) (mIn b) (deskIn (nIn b) b 4) b
@@ -87,11 +87,11 @@ says-bears : (u k : ℕ) (l : List ℕ) → Says (bears u k l) ((writerIn l ≡ 
 says-bears u k l = says-both (eqb (writerIn l) u) (eqb (numberIn l) k) (says-eqb (writerIn l) u) (says-eqb (numberIn l) k)
 
 module _ (s : State) (ok : Rules s) where
-  pub n-back : nIn (encode s) ≡ s .desks
+  pub n-back : nIn (encode s) ≡ s .setup .desks
   unfolding encode block
   n-back = refl
 
-  pub m-back : mIn (encode s) ≡ s .cells
+  pub m-back : mIn (encode s) ≡ s .setup .cells
   unfolding encode block
   m-back = refl
 
@@ -104,21 +104,21 @@ module _ (s : State) (ok : Rules s) where
   issued-flat v h t l =
       let i = ok .frame .counts .inside t t (omega (arith, h t)) .0 in (i .0, omega (arith, ok .frame .ranges .desks .1))
 
-  no-desk : (i : ℕ) → (1 ≤ i → i ≤ s .desks → ⊥) → (t : ℕ) → s .applied i t ≡ 0
+  no-desk : (i : ℕ) → (1 ≤ i → i ≤ s .setup .desks → ⊥) → (t : ℕ) → s .applied i t ≡ 0
   no-desk i o t = same-or (s .applied i t) 0 (λ e. e) (λ e. absurd (let h = ok .frame .counts .inside i t (omega arith) .0 in o (h .0) (h .1)))
 
   -- the numbers at p of each desk, at most its counts
-  desk-back : (p : ℕ) (v : ℕ → Vec) → p + 16 ≤ 36 → ((i : ℕ) → part p 16 (deskBytes i (s .applied i) (s .clock i)) ≡ words (v i)) → ((i : ℕ) → Below (v i) (s .applied i)) → deskIn (s .desks) (encode s) p ≡ v
+  desk-back : (p : ℕ) (v : ℕ → Vec) → p + 16 ≤ 36 → ((i : ℕ) → part p 16 (deskBytes i (s .applied i) (s .clock i)) ≡ words (v i)) → ((i : ℕ) → Below (v i) (s .applied i)) → deskIn (s .setup .desks) (encode s) p ≡ v
   desk-back p v g at below =
-      from1-is zeros (s .desks) _ v
+      from1-is zeros (s .setup .desks) _ v
       (λ i h. rw (part-2 s i p 16 h g, at (suc i)) (vec-words (v (suc i)) (issued-flat (v (suc i)) (λ t. omega (arith, below (suc i) t, ok .frame .counts .most (suc i) t)))))
       (λ i o. fun-ext (λ t. omega (arith, no-desk i o t, below i t)))
 
-  pub applied-back : deskIn (s .desks) (encode s) 4 ≡ s .applied
+  pub applied-back : deskIn (s .setup .desks) (encode s) 4 ≡ s .applied
   unfolding deskBytes
   applied-back = desk-back 4 (s .applied) (omega arith) (λ i. vector-part i 0 0 0 (s .applied i) (words (s .clock i))) (λ i t. omega arith)
 
-  pub clock-back : deskIn (s .desks) (encode s) 20 ≡ s .clock
+  pub clock-back : deskIn (s .setup .desks) (encode s) 20 ≡ s .clock
   unfolding deskBytes
   clock-back =
       desk-back 20 (s .clock) (omega arith)
@@ -129,21 +129,21 @@ module _ (s : State) (ok : Rules s) where
   one-cell i x (set v u w) e =
       let h = ok .frame .cell i x v u w e in cell-set v u w (h .writer-in .0) (issued-flat w (h .issued))
 
-  no-cell : (i x : ℕ) → ((In (s .desks) i × In (s .cells) x) → ⊥) → (c : Cell) → s .cell i x ≡ c → c ≡ blank
+  no-cell : (i x : ℕ) → ((In (s .setup .desks) i × In (s .setup .cells) x) → ⊥) → (c : Cell) → s .cell i x ≡ c → c ≡ blank
   no-cell i x o blank e = refl
   no-cell i x o (set v u w) e = let h = ok .frame .cell i x v u w e in absurd (o (h .desk, h .cell))
 
-  pub cell-back : cellIn (s .desks) (s .cells) (encode s) ≡ s .cell
+  pub cell-back : cellIn (s .setup .desks) (s .setup .cells) (encode s) ≡ s .cell
   unfolding perDesk cellPart
   cell-back =
-      from1-is (λ x. blank) (s .desks) _ (s .cell)
-      (λ i hi. from1-is blank (s .cells) _ (s .cell (suc i))
+      from1-is (λ x. blank) (s .setup .desks) _ (s .cell)
+      (λ i hi. from1-is blank (s .setup .cells) _ (s .cell (suc i))
       (λ x hx.
       rw (part-3 s i (x / 25) (x % 25) hi (omega arith) (mod-lt x (omega arith)), div-add-mod x 25) (one-cell (suc i) (suc x) (s .cell (suc i) (suc x)) refl))
       (λ x o. no-cell (suc i) x (λ h. o (h .1 .0) (h .1 .1)) (s .cell (suc i) x) refl))
       (λ i o. fun-ext (λ x. no-cell i x (λ h. o (h .0 .0) (h .0 .1)) (s .cell i x) refl))
 
-  pub entry-back : (p : ℕ) → p < openCount s → entryIn (s .desks) (s .cells) (encode s) p ≡ named s (getD (names s) p no-name)
+  pub entry-back : (p : ℕ) → p < openCount s → entryIn (s .setup .desks) (s .setup .cells) (encode s) p ≡ named s (getD (names s) p no-name)
   unfolding openBlocks openPart
   entry-back p h =
       rw (part-4 s (p / 18) (p % 18) (omega arith) (mod-lt p (omega arith)), div-add-mod p 18)
@@ -160,7 +160,7 @@ module _ (s : State) (ok : Rules s) where
         whole = ap some (open-back u w f (λ i l. (h .marks-flat i l .0, omega (arith, h .marks-flat i l .1, ok .frame .ranges .desks .1)))) ∙ sym e;
       }
 
-  pub shows-at : (p : ℕ) → p < openCount s → let w : Name = getD (names s) p no-name in Shows s (w .writer) (w .number) (entryIn (s .desks) (s .cells) (encode s) p)
+  pub shows-at : (p : ℕ) → p < openCount s → let w : Name = getD (names s) p no-name in Shows s (w .writer) (w .number) (entryIn (s .setup .desks) (s .setup .cells) (encode s) p)
   shows-at p h =
       let w : Name = getD (names s) p no-name in
       let o = each-in (OpenName s) (names s) no-name (names-open s) p (omega (arith, length-names s)) in
@@ -175,14 +175,14 @@ module _ (s : State) (ok : Rules s) where
 
   -- the entries read
   abbrev entries : List (List ℕ)
-  entries = tab (openCount s) (entryIn (s .desks) (s .cells) (encode s))
+  entries = tab (openCount s) (entryIn (s .setup .desks) (s .setup .cells) (encode s))
 
   at-entry : (p : ℕ) → p < openCount s → let w : Name = getD (names s) p no-name in Shows s (w .writer) (w .number) (getD entries p [])
-  at-entry p h = rw (getD-tab (entryIn (s .desks) (s .cells) (encode s)) (openCount s) p [] h) (shows-at p h)
+  at-entry p h = rw (getD-tab (entryIn (s .setup .desks) (s .setup .cells) (encode s)) (openCount s) p [] h) (shows-at p h)
 
   found-is : (u k : ℕ) (w : Open) → FoundAt (bears u k) openOf entries [] w → some w ≡ s .opens u k
   found-is u k w f =
-      let h = at-entry (f .at) (omega (arith, f .small, length-tab (entryIn (s .desks) (s .cells) (encode s)) (openCount s))) in
+      let h = at-entry (f .at) (omega (arith, f .small, length-tab (entryIn (s .setup .desks) (s .setup .cells) (encode s)) (openCount s))) in
       let b = says-bears u k (getD entries (f .at) []) .to (f .passes) in
       same-name (getD entries (f .at) []) _ _ u k w h (b .0) (b .1) (f .is)
 
@@ -194,26 +194,26 @@ module _ (s : State) (ok : Rules s) where
       let h : Shows s u k (getD entries (p .at) []) = rw (p .is) at (at-entry (p .at) l) in
       apart (bears u k (getD entries (p .at) []))
       (says-bears u k (getD entries (p .at) []) .from (h .writer, h .number))
-      (first-not (bears u k) openOf [] entries e (p .at) (omega (arith, l, length-tab (entryIn (s .desks) (s .cells) (encode s)) (openCount s))))
+      (first-not (bears u k) openOf [] entries e (p .at) (omega (arith, l, length-tab (entryIn (s .setup .desks) (s .setup .cells) (encode s)) (openCount s))))
 
   find-is : (u k : ℕ) (o : Option Open) → findIn entries u k ≡ o → o ≡ s .opens u k
   find-is u k none e = none-is u k e (s .opens u k) refl
   find-is u k (some w) e = found-is u k w (first-is (bears u k) openOf [] entries w e)
 
   -- each open write is found by its name, and no other is
-  pub find-back : (u k : ℕ) → findIn (entriesIn (s .desks) (s .cells) (encode s)) u k ≡ s .opens u k
+  pub find-back : (u k : ℕ) → findIn (entriesIn (s .setup .desks) (s .setup .cells) (encode s)) u k ≡ s .opens u k
   find-back u k = rw count-back (find-is u k (findIn entries u k) refl)
 
-  no-open : (u k : ℕ) → (within (s .desks) u && within (written s u) k) ≡ false → (o : Option Open) → s .opens u k ≡ o → none ≡ o
+  no-open : (u k : ℕ) → (within (s .setup .desks) u && within (written s u) k) ≡ false → (o : Option Open) → s .opens u k ≡ o → none ≡ o
   no-open u k e none q = refl
   no-open u k e (some w) q =
       let o = open-name u k (ap (λ (o : Option Open). not (isNone o)) q) in
-      apart (within (s .desks) u && within (written s u) k)
-      (says-both (within (s .desks) u) (within (written s u) k) (says-within (s .desks) u) (says-within (written s u) k) .from (o .writer-in, o .number-in)) e
+      apart (within (s .setup .desks) u && within (written s u) k)
+      (says-both (within (s .setup .desks) u) (within (written s u) k) (says-within (s .setup .desks) u) (says-within (written s u) k) .from (o .writer-in, o .number-in)) e
 
-  opens-back : opensIn (s .desks) (s .applied) (entriesIn (s .desks) (s .cells) (encode s)) ≡ s .opens
+  opens-back : opensIn (s .setup .desks) (s .applied) (entriesIn (s .setup .desks) (s .setup .cells) (encode s)) ≡ s .opens
   opens-back =
-      fun-ext (λ u. fun-ext (λ k. cases (within (s .desks) u && within (written s u) k) (λ e. rw e (find-back u k)) (λ e. rw e (no-open u k e (s .opens u k) refl))))
+      fun-ext (λ u. fun-ext (λ k. cases (within (s .setup .desks) u && within (written s u) k) (λ e. rw e (find-back u k)) (λ e. rw e (no-open u k e (s .opens u k) refl))))
 
   -- decode undoes encode
   pub decode-encode : decode (encode s) ≡ s

@@ -61,4 +61,4 @@ module _ (n : ℕ) (a : ℕ → Vec) where
       omega (arith, x .place, y .place)
 
 pub names-distinct : (s : State) → Rules s → (p q : ℕ) → p < length (names s) → q < length (names s) → getD (names s) p no-name ≡ getD (names s) q no-name → p ≡ q
-names-distinct s r = rw (names-counted s r) (counted-distinct (s .desks) (s .applied))
+names-distinct s r = rw (names-counted s r) (counted-distinct (s .setup .desks) (s .applied))

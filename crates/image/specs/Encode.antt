@@ -38,7 +38,7 @@ block kind place payload = sealed (body kind place payload)
 
 -- "Kind 1, one: payload n, m, open count, a byte each."
 abbrev pub block1 : State → List ℕ
-block1 s = block 1 0 (s .desks ∷ s .cells ∷ openCount s ∷ [])
+block1 s = block 1 0 (s .setup .desks ∷ s .setup .cells ∷ openCount s ∷ [])
 
 -- "Kind 2, one for each desk: desk number, 3 zeros, 8 applied counts, 8 clock places, 16 bits each."
 unfoldable pub deskBytes : ℕ → Vec → Vec → List ℕ
@@ -60,7 +60,7 @@ unfoldable pub perDesk : ℕ → ℕ
 perDesk m = (m + 24) / 25
 
 abbrev pub block3 : State → ℕ → ℕ → List ℕ
-block3 s i q = block 3 (1 + s .desks + perDesk (s .cells) * i + q) (cat (cellPart s i q) 25)
+block3 s i q = block 3 (1 + s .setup .desks + perDesk (s .setup .cells) * i + q) (cat (cellPart s i q) 25)
 
 -- "28 bytes each: writer, status, cell, zero, 8 vector places, then for each of 8 desks .."
 unfoldable pub openBytes : ℕ → Option Open → List ℕ
@@ -79,14 +79,14 @@ unfoldable pub openBlocks : State → ℕ
 openBlocks s = (openCount s + 17) / 18
 
 abbrev pub block4 : State → ℕ → List ℕ
-block4 s q = block 4 (1 + s .desks + perDesk (s .cells) * s .desks + q) (cat (openPart s q) 18)
+block4 s q = block 4 (1 + s .setup .desks + perDesk (s .setup .cells) * s .setup .desks + q) (cat (openPart s q) 18)
 
 -- "Blocks stand by kind, 1 to 4, and nothing follows them."
 abbrev pub kind2 : State → List ℕ
-kind2 s = cat (block2 s) (s .desks)
+kind2 s = cat (block2 s) (s .setup .desks)
 
 abbrev pub kind3 : State → List ℕ
-kind3 s = cat (λ i. cat (block3 s i) (perDesk (s .cells))) (s .desks)
+kind3 s = cat (λ i. cat (block3 s i) (perDesk (s .setup .cells))) (s .setup .desks)
 
 abbrev pub kind4 : State → List ℕ
 kind4 s = cat (block4 s) (openBlocks s)
@@ -95,4 +95,4 @@ unfoldable pub encode : State → List ℕ
 encode s = block1 s ++ (kind2 s ++ (kind3 s ++ kind4 s))
 
 abbrev pub blocks : State → ℕ
-blocks s = 1 + s .desks + perDesk (s .cells) * s .desks + openBlocks s
+blocks s = 1 + s .setup .desks + perDesk (s .setup .cells) * s .setup .desks + openBlocks s

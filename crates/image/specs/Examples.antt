@@ -11,7 +11,7 @@ use Rattle.laws.specs.Loop.{scan, turns}
 use Rattle.laws.specs.All.{all}
 use Rattle.laws.specs.Tab.{tab, tabFrom}
 use Rattle.laws.specs.Cat.{cat, part}
-use Rattle.machine.specs.Table.{zeros, State, fresh}
+use Rattle.machine.specs.Table.{zeros, sized, State, fresh}
 use Rattle.machine.specs.Answer.{damaged}
 use Rattle.machine.specs.Steps.{openCount, everywhere, failing, write}
 use Rattle.image.specs.Names.{names, namesOf}
@@ -48,10 +48,10 @@ pub one-write-keeps : keeps one-write ≡ true
 unfolding keeps openCount sum upd upd2 everywhere failing all scan turns
 one-write-keeps = refl
 
-pub no-clock : keeps (record { desks = 2; cells = 1; applied = one-write .applied; clock = λ i. zeros; cell = one-write .cell; opens = one-write .opens }) ≡ false
+pub no-clock : keeps (record { setup = sized 2 1; applied = one-write .applied; clock = λ i. zeros; cell = one-write .cell; opens = one-write .opens }) ≡ false
 unfolding keeps openCount sum upd upd2 everywhere failing all scan turns
 no-clock = refl
 
-pub no-open-write : keeps (record { desks = 2; cells = 1; applied = one-write .applied; clock = one-write .clock; cell = one-write .cell; opens = λ u k. none }) ≡ false
+pub no-open-write : keeps (record { setup = sized 2 1; applied = one-write .applied; clock = one-write .clock; cell = one-write .cell; opens = λ u k. none }) ≡ false
 unfolding keeps openCount sum upd upd2 everywhere failing all scan turns
 no-open-write = refl

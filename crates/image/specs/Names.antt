@@ -23,7 +23,7 @@ namesOf s u = cat (λ k. nameIf (isOpen s u (suc k)) u (suc k)) (written s u)
 
 -- of the writers 1, 2, .., n
 unfoldable pub names : State → List Name
-names s = cat (λ u. namesOf s (suc u)) (s .desks)
+names s = cat (λ u. namesOf s (suc u)) (s .setup .desks)
 
 -- where no name stands
 abbrev pub no-name : Name
@@ -44,12 +44,12 @@ module _ (s : State) where
   pub length-names : length (names s) ≡ openCount s
   unfolding names openCount
   length-names =
-      length-cats (namesOf s) (s .desks)
-      ∙ sum-same (s .desks) (λ u. tally (written s u) (isOpen s u)) (λ u. length (namesOf s u)) (λ u _ _. length-of u)
+      length-cats (namesOf s) (s .setup .desks)
+      ∙ sum-same (s .setup .desks) (λ u. tally (written s u) (isOpen s u)) (λ u. length (namesOf s u)) (λ u _ _. length-of u)
 
 -- a name of an open write
 pub record OpenName (s : State) (w : Name) : Type 0 where
-  pub writer-in : In (s .desks) (w .writer)
+  pub writer-in : In (s .setup .desks) (w .writer)
   pub number-in : In (written s (w .writer)) (w .number)
   pub is-open : isOpen s (w .writer) (w .number) ≡ true
 
@@ -62,7 +62,7 @@ module _ (s : State) where
   pub names-open : Each (OpenName s) (names s)
   unfolding names namesOf
   names-open =
-      each-cat (OpenName s) (λ u. namesOf s (suc u)) (s .desks)
+      each-cat (OpenName s) (λ u. namesOf s (suc u)) (s .setup .desks)
       (λ u h. each-cat (OpenName s) (λ k. nameIf (isOpen s (suc u) (suc k)) (suc u) (suc k)) (written s (suc u))
       (λ k g. each-if (suc u) (suc k) (isOpen s (suc u) (suc k))
       (λ e. record { writer-in = (omega arith, h); number-in = (omega arith, g); is-open = e })))
@@ -77,6 +77,6 @@ module _ (s : State) where
   open-named zero k h = absurd (omega (arith, h .writer-in .0))
   open-named (suc u) zero h = absurd (omega (arith, h .number-in .0))
   open-named (suc u) (suc k) h =
-      has-cat (λ u. namesOf s (suc u)) (s .desks) u no-name (name (suc u) (suc k)) (h .writer-in .1)
+      has-cat (λ u. namesOf s (suc u)) (s .setup .desks) u no-name (name (suc u) (suc k)) (h .writer-in .1)
       (has-cat (λ k. nameIf (isOpen s (suc u) (suc k)) (suc u) (suc k)) (written s (suc u)) k no-name (name (suc u) (suc k)) (h .number-in .1)
       (has-if (suc u) (suc k) (isOpen s (suc u) (suc k)) (h .is-open)))

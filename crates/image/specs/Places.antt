@@ -33,7 +33,7 @@ part-block kind place l p w h =
 
 module _ (s : State) where
   pub length-1 : length (block1 s) ≡ 512
-  length-1 = length-block 1 0 (s .desks ∷ s .cells ∷ openCount s ∷ []) (omega arith)
+  length-1 = length-block 1 0 (s .setup .desks ∷ s .setup .cells ∷ openCount s ∷ []) (omega arith)
 
   pub length-2 : (i : ℕ) → length (block2 s i) ≡ 512
   length-2 i =
@@ -48,10 +48,10 @@ module _ (s : State) where
   length-cells i q n = length-cat (cellPart s i q) 20 (length-in i q) n
 
   length-3 : (i q : ℕ) → length (block3 s i q) ≡ 512
-  length-3 i q = length-block 3 (1 + s .desks + perDesk (s .cells) * i + q) (cat (cellPart s i q) 25) (omega (arith, length-cells i q 25))
+  length-3 i q = length-block 3 (1 + s .setup .desks + perDesk (s .setup .cells) * i + q) (cat (cellPart s i q) 25) (omega (arith, length-cells i q 25))
 
-  pub length-3s : (i : ℕ) → length (cat (block3 s i) (perDesk (s .cells))) ≡ 512 * perDesk (s .cells)
-  length-3s i = length-cat (block3 s i) 512 (length-3 i) (perDesk (s .cells))
+  pub length-3s : (i : ℕ) → length (cat (block3 s i) (perDesk (s .setup .cells))) ≡ 512 * perDesk (s .setup .cells)
+  length-3s i = length-cat (block3 s i) 512 (length-3 i) (perDesk (s .setup .cells))
 
   length-entry : (q j : ℕ) → length (openPart s q j) ≡ 28
   unfolding openPart
@@ -64,7 +64,7 @@ module _ (s : State) where
   length-opens q n = length-cat (openPart s q) 28 (length-entry q) n
 
   pub length-4 : (q : ℕ) → length (block4 s q) ≡ 512
-  length-4 q = length-block 4 (1 + s .desks + perDesk (s .cells) * s .desks + q) (cat (openPart s q) 18) (omega (arith, length-opens q 18))
+  length-4 q = length-block 4 (1 + s .setup .desks + perDesk (s .setup .cells) * s .setup .desks + q) (cat (openPart s q) 18) (omega (arith, length-opens q 18))
 
   -- the length of the image
   pub length-encode : length (encode s) ≡ 512 * blocks s
@@ -75,28 +75,28 @@ module _ (s : State) where
         length-append (kind2 s),
         length-append (kind3 s),
         length-1,
-        length-cat (block2 s) 512 length-2 (s .desks),
-        length-cat (λ i. cat (block3 s i) (perDesk (s .cells))) (512 * perDesk (s .cells)) length-3s (s .desks),
+        length-cat (block2 s) 512 length-2 (s .setup .desks),
+        length-cat (λ i. cat (block3 s i) (perDesk (s .setup .cells))) (512 * perDesk (s .setup .cells)) length-3s (s .setup .desks),
         length-cat (block4 s) 512 length-4 (openBlocks s),
       )
       (omega arith)
 
   -- w bytes of a desk's part, from p on
-  pub part-2 : (i p w : ℕ) → i < s .desks → p + w ≤ 36 → part (512 + (512 * i + (4 + p))) w (encode s) ≡ part p w (deskBytes (suc i) (s .applied (suc i)) (s .clock (suc i)))
+  pub part-2 : (i p w : ℕ) → i < s .setup .desks → p + w ≤ 36 → part (512 + (512 * i + (4 + p))) w (encode s) ≡ part p w (deskBytes (suc i) (s .applied (suc i)) (s .clock (suc i)))
   unfolding encode
   part-2 i p w h g =
       let l = length-desk (suc i) (s .applied (suc i)) (s .clock (suc i)) in
       part-right (block1 s) (kind2 s ++ (kind3 s ++ kind4 s)) 512 (512 * i + (4 + p)) w length-1
-      ∙ part-in (block2 s) (kind3 s ++ kind4 s) (s .desks) i (512 * i) (4 + p) w h (length-cat (block2 s) 512 length-2 i) (omega (arith, length-2 i))
+      ∙ part-in (block2 s) (kind3 s ++ kind4 s) (s .setup .desks) i (512 * i) (4 + p) w h (length-cat (block2 s) 512 length-2 i) (omega (arith, length-2 i))
       ∙ part-block 2 (1 + i) (deskBytes (suc i) (s .applied (suc i)) (s .clock (suc i))) p w (omega arith)
 
   -- a cell
-  pub part-3 : (i q j : ℕ) → i < s .desks → q < perDesk (s .cells) → j < 25
-      → part (512 + (512 * s .desks + (512 * perDesk (s .cells) * i + (512 * q + (4 + 20 * j))))) 20 (encode s) ≡ cellPart s i q j
+  pub part-3 : (i q j : ℕ) → i < s .setup .desks → q < perDesk (s .setup .cells) → j < 25
+      → part (512 + (512 * s .setup .desks + (512 * perDesk (s .setup .cells) * i + (512 * q + (4 + 20 * j))))) 20 (encode s) ≡ cellPart s i q j
   unfolding encode
   part-3 i q j hi hq hj =
-      let n = s .desks in
-      let c = perDesk (s .cells) in
+      let n = s .setup .desks in
+      let c = perDesk (s .setup .cells) in
       let f : ℕ → List ℕ = λ i. cat (block3 s i) c in
       let before = length-cat (block3 s i) 512 (length-3 i) q in
       part-right (block1 s) (kind2 s ++ (kind3 s ++ kind4 s)) 512 (512 * n + (512 * c * i + (512 * q + (4 + 20 * j)))) 20 length-1
@@ -109,11 +109,11 @@ module _ (s : State) where
 
   -- an open write
   pub part-4 : (q j : ℕ) → q < openBlocks s → j < 18
-      → part (512 + (512 * s .desks + (512 * perDesk (s .cells) * s .desks + (512 * q + (4 + 28 * j))))) 28 (encode s) ≡ openPart s q j
+      → part (512 + (512 * s .setup .desks + (512 * perDesk (s .setup .cells) * s .setup .desks + (512 * q + (4 + 28 * j))))) 28 (encode s) ≡ openPart s q j
   unfolding encode
   part-4 q j hq hj =
-      let n = s .desks in
-      let c = perDesk (s .cells) in
+      let n = s .setup .desks in
+      let c = perDesk (s .setup .cells) in
       let f : ℕ → List ℕ = λ i. cat (block3 s i) c in
       part-right (block1 s) (kind2 s ++ (kind3 s ++ kind4 s)) 512 (512 * n + (512 * c * n + (512 * q + (4 + 28 * j)))) 28 length-1
       ∙ part-right (kind2 s) (kind3 s ++ kind4 s) (512 * n) (512 * c * n + (512 * q + (4 + 28 * j))) 28 (length-cat (block2 s) 512 length-2 n)

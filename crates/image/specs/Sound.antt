@@ -73,16 +73,16 @@ module _ (s : State) where
   chunked : Chunked Right 512 (encode s)
   unfolding encode
   chunked =
-      chunk-append Right 512 (block1 s) (kind2 s ++ (kind3 s ++ kind4 s)) (one-block 1 0 (s .desks ∷ s .cells ∷ openCount s ∷ []) (omega arith))
+      chunk-append Right 512 (block1 s) (kind2 s ++ (kind3 s ++ kind4 s)) (one-block 1 0 (s .setup .desks ∷ s .setup .cells ∷ openCount s ∷ []) (omega arith))
       (chunk-append Right 512 (kind2 s) (kind3 s ++ kind4 s)
-      (chunk-cat Right 512 (block2 s) (s .desks)
+      (chunk-cat Right 512 (block2 s) (s .setup .desks)
       (λ i _. one-block 2 (1 + i) (deskBytes (suc i) (s .applied (suc i)) (s .clock (suc i))) (omega (arith, length-desk (suc i) (s .applied (suc i)) (s .clock (suc i))))))
       (chunk-append Right 512 (kind3 s) (kind4 s)
-      (chunk-cat Right 512 (λ i. cat (block3 s i) (perDesk (s .cells))) (s .desks)
-      (λ i _. chunk-cat Right 512 (block3 s i) (perDesk (s .cells))
-      (λ q _. one-block 3 (1 + s .desks + perDesk (s .cells) * i + q) (cat (cellPart s i q) 25) (omega (arith, length-cells s i q 25)))))
+      (chunk-cat Right 512 (λ i. cat (block3 s i) (perDesk (s .setup .cells))) (s .setup .desks)
+      (λ i _. chunk-cat Right 512 (block3 s i) (perDesk (s .setup .cells))
+      (λ q _. one-block 3 (1 + s .setup .desks + perDesk (s .setup .cells) * i + q) (cat (cellPart s i q) 25) (omega (arith, length-cells s i q 25)))))
       (chunk-cat Right 512 (block4 s) (openBlocks s)
-      (λ q _. one-block 4 (1 + s .desks + perDesk (s .cells) * s .desks + q) (cat (openPart s q) 18) (omega (arith, length-opens s q 18))))))
+      (λ q _. one-block 4 (1 + s .setup .desks + perDesk (s .setup .cells) * s .setup .desks + q) (cat (openPart s q) 18) (omega (arith, length-opens s q 18))))))
 
   -- a saved image has a length that is a nonzero multiple of 512, and every block's check is right
   pub sound-encode : Sound (encode s)

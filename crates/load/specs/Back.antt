@@ -160,24 +160,24 @@ module _ (s : State) (ok : Rules s) where
   is-open : (p : ℕ) → p < openCount s → OpenName s (at p)
   is-open p h = each-in (OpenName s) (names s) no-name (names-open s) p (omega (arith, length-names s))
 
-  shows : (p : ℕ) → p < openCount s → Shows s (at p .writer) (at p .number) (part (openPlace (s .desks) (s .cells) p) 28 (encode s))
+  shows : (p : ℕ) → p < openCount s → Shows s (at p .writer) (at p .number) (part (openPlace (s .setup .desks) (s .setup .cells) p) 28 (encode s))
   shows p h = shows-at s ok p h
 
   abbrev from : ℕ → Open
-  from p = openFrom (encode s) (openPlace (s .desks) (s .cells) p)
+  from p = openFrom (encode s) (openPlace (s .setup .desks) (s .setup .cells) p)
 
   writer-from : (p : ℕ) → p < openCount s → from p .writer ≡ at p .writer
-  writer-from p h = writer-read (encode s) (s .desks) (s .cells) p ∙ shows p h .writer
+  writer-from p h = writer-read (encode s) (s .setup .desks) (s .setup .cells) p ∙ shows p h .writer
 
   number-from : (p : ℕ) → p < openCount s → number (from p) ≡ at p .number
-  number-from p h = number-read (encode s) (s .desks) (s .cells) p ∙ shows p h .number
+  number-from p h = number-read (encode s) (s .setup .desks) (s .setup .cells) p ∙ shows p h .number
 
   has-writer : (p : ℕ) → p < openCount s → from p .writer ≡ 0 → ⊥
   has-writer p h e = let w = writer-from p h in let i = is-open p h .writer-in .0 in omega arith
 
   -- the entries, wherever they stand
-  module _ (os : List ℕ) (read : OpensRead (encode s) (s .desks) (s .cells) (openCount s) os) where
-    spread : Spread (encode s) (s .desks) (s .cells) (openCount s) os
+  module _ (os : List ℕ) (read : OpensRead (encode s) (s .setup .desks) (s .setup .cells) (openCount s) os) where
+    spread : Spread (encode s) (s .setup .desks) (s .setup .cells) (openCount s) os
     spread = read has-writer
 
     writer-is : (p : ℕ) → p < openCount s → openAt os (spread .at p) .writer ≡ at p .writer
@@ -230,9 +230,9 @@ module _ (s : State) (ok : Rules s) where
         let w1 : at p .writer ≡ u = ap (λ (x : Name). x .writer) (g .is) in
         let w2 : at p .number ≡ k = ap (λ (x : Name). x .number) (g .is) in
         let t : namedAt os u k (spread .at p) ≡ true = rw (w1, w2) at (named-so p c) in
-        let sh : some (openOf (part (openPlace (s .desks) (s .cells) p) 28 (encode s))) ≡ s .opens u k = rw (w1, w2) at (shows p c .whole) in
+        let sh : some (openOf (part (openPlace (s .setup .desks) (s .setup .cells) p) 28 (encode s))) ≡ s .opens u k = rw (w1, w2) at (shows p c .whole) in
         opens-at os (spread .at p) u k unique-read (spread .inside p c) t
-        ∙ ap some (ap openM (spread .there p c) ∙ open-read (encode s) (openPlace (s .desks) (s .cells) p)) ∙ sh ∙ e
+        ∙ ap some (ap openM (spread .there p c) ∙ open-read (encode s) (openPlace (s .setup .desks) (s .setup .cells) p)) ∙ sh ∙ e
 
     pub opens-read : opensM os ≡ s .opens
     opens-read = fun-ext (λ u. fun-ext (λ k. opens-is u k (s .opens u k) refl))
@@ -261,9 +261,9 @@ module _ (s : State) (ok : Rules s) where
       let c : u ≡ 0 = sym (ap (λ (l : List ℕ). getD l 0 0) e) ∙ a in
       absurd (omega (arith, ok .frame .cell i x v u y q .writer-in .0))
 
-  pub blanks-read : (cs : List ℕ) → CellsRead (encode s) (s .desks) (s .cells) cs → (t : ℕ) → t < all-cells → cellAt cs t .writer ≡ 0 → AllZero (cellAt cs t)
+  pub blanks-read : (cs : List ℕ) → CellsRead (encode s) (s .setup .desks) (s .setup .cells) cs → (t : ℕ) → t < all-cells → cellAt cs t .writer ≡ 0 → AllZero (cellAt cs t)
   unfolding cellFor cellPart perDesk
-  blanks-read cs read t h w = go (decLt (t / desk-cells) (s .desks)) (decLt (t % desk-cells) (s .cells))
+  blanks-read cs read t h w = go (decLt (t / desk-cells) (s .setup .desks)) (decLt (t % desk-cells) (s .setup .cells))
     where
       i : ℕ
       i = t / desk-cells
@@ -271,18 +271,18 @@ module _ (s : State) (ok : Rules s) where
       x : ℕ
       x = t % desk-cells
 
-      none-there : cellFor (encode s) (s .desks) (s .cells) t ≡ noCell → AllZero (cellAt cs t)
+      none-there : cellFor (encode s) (s .setup .desks) (s .setup .cells) t ≡ noCell → AllZero (cellAt cs t)
       none-there e = rw (read t h ∙ e) (record { status = refl; vector = λ k. ap (λ (v : Vec). v k) (place-zeros places) })
 
-      go : Dec (t / desk-cells < s .desks) → Dec (t % desk-cells < s .cells) → AllZero (cellAt cs t)
+      go : Dec (t / desk-cells < s .setup .desks) → Dec (t % desk-cells < s .setup .cells) → AllZero (cellAt cs t)
       go (yes a) (yes c) =
-          let p : ℕ = cellPlace (s .desks) (s .cells) (t / desk-cells) (t % desk-cells) in
-          let f : cellAt cs t ≡ cellFrom (encode s) p = read t h ∙ rw (lt-ltb (t / desk-cells) (s .desks) a, lt-ltb (t % desk-cells) (s .cells) c) in
+          let p : ℕ = cellPlace (s .setup .desks) (s .setup .cells) (t / desk-cells) (t % desk-cells) in
+          let f : cellAt cs t ≡ cellFrom (encode s) p = read t h ∙ rw (lt-ltb (t / desk-cells) (s .setup .desks) a, lt-ltb (t % desk-cells) (s .setup .cells) c) in
           let e : part p 20 (encode s) ≡ cellBytes (s .cell (suc (t / desk-cells)) (suc (t % desk-cells))) =
           rw (div-add-mod (t % desk-cells) 25) at (part-3 s (t / desk-cells) (t % desk-cells / 25) (t % desk-cells % 25) a (omega arith) (omega arith)) in
           rw f (blank-cell (suc (t / desk-cells)) (suc (t % desk-cells)) p (s .cell (suc (t / desk-cells)) (suc (t % desk-cells))) refl e (rw f at w))
-      go (yes a) (no c) = let l : s .cells ≤ t % desk-cells = omega arith in none-there (rw (lt-ltb (t / desk-cells) (s .desks) a, le-ltb (t % desk-cells) (s .cells) l))
-      go (no a) c = let l : s .desks ≤ t / desk-cells = omega arith in none-there (rw (le-ltb (t / desk-cells) (s .desks) l))
+      go (yes a) (no c) = let l : s .setup .cells ≤ t % desk-cells = omega arith in none-there (rw (lt-ltb (t / desk-cells) (s .setup .desks) a, le-ltb (t % desk-cells) (s .setup .cells) l))
+      go (no a) c = let l : s .setup .desks ≤ t / desk-cells = omega arith in none-there (rw (le-ltb (t / desk-cells) (s .setup .desks) l))
 
   -- its sizes fit
   pub fits-image : Fits (encode s)
@@ -311,15 +311,15 @@ pub read-image : (s : State) → Rules s → (t : Table) → ReadAs (encode s) t
 read-image s ok t h =
     let n8 = ok .frame .ranges .desks .1 in
     let m64 = ok .frame .ranges .cells .1 in
-    let en : t .core .n ≡ s .desks = h .n-is ∙ n-back s ok in
-    let em : t .core .m ≡ s .cells = h .m-is ∙ m-back s ok in
-    let ed : t .core .desks ≡ tab places (deskFor (encode s) (s .desks)) = rw (n-back s ok) at (h .desks) in
-    let rc : CellsRead (encode s) (s .desks) (s .cells) (t .cells) = rw (n-back s ok, m-back s ok) at (h .cells) in
-    let ro : OpensRead (encode s) (s .desks) (s .cells) (openCount s) (t .opens) = rw (n-back s ok, m-back s ok, count-back s ok) at (h .opens) in
-    let e : modelOf t ≡ s = state-path (modelOf t) s en em
-    (ap appliedM ed ∙ applied-read (encode s) (s .desks) n8 ∙ applied-back s ok)
-    (ap clockM ed ∙ clock-read (encode s) (s .desks) n8 ∙ clock-back s ok)
-    (cells-read (encode s) (s .desks) (s .cells) n8 m64 (t .cells) rc ∙ cell-back s ok)
+    let en : t .core .n ≡ s .setup .desks = h .n-is ∙ n-back s ok in
+    let em : t .core .m ≡ s .setup .cells = h .m-is ∙ m-back s ok in
+    let ed : t .core .desks ≡ tab places (deskFor (encode s) (s .setup .desks)) = rw (n-back s ok) at (h .desks) in
+    let rc : CellsRead (encode s) (s .setup .desks) (s .setup .cells) (t .cells) = rw (n-back s ok, m-back s ok) at (h .cells) in
+    let ro : OpensRead (encode s) (s .setup .desks) (s .setup .cells) (openCount s) (t .opens) = rw (n-back s ok, m-back s ok, count-back s ok) at (h .opens) in
+    let e : modelOf t ≡ s = state-path (modelOf t) s (λ j. machine.sized (en j) (em j))
+    (ap appliedM ed ∙ applied-read (encode s) (s .setup .desks) n8 ∙ applied-back s ok)
+    (ap clockM ed ∙ clock-read (encode s) (s .setup .desks) n8 ∙ clock-back s ok)
+    (cells-read (encode s) (s .setup .desks) (s .setup .cells) n8 m64 (t .cells) rc ∙ cell-back s ok)
     (opens-read s ok (t .opens) ro) in
     (e, record { rules = rw e ok; blanks = blanks-read s ok (t .cells) rc; unique = unique-read s ok (t .opens) ro })
 

@@ -65,13 +65,13 @@ pub data Received (h : List Event) (i u k : ℕ) : Type 0 where
 
 -- "a received write is held exactly if some causal predecessor is unapplied there"
 abbrev pub HeldIffCauseMissing : State → List Event → Type 0
-HeldIffCauseMissing s h = (i u k q : ℕ) → In (s .desks) i → WriteAt h q u k → Received h i u k
+HeldIffCauseMissing s h = (i u k q : ℕ) → In (s .setup .desks) i → WriteAt h q u k → Received h i u k
     → (place s i u k ≡ held) ↔ CauseMissing h i q
 
 -- the machine's places are those of the history
 pub record PlacesObserved (s : State) (h : List Event) : Type 0 where
-  pub unreceived : (i u k q : ℕ) → In (s .desks) i → WriteAt h q u k → (place s i u k ≡ away) ↔ (Received h i u k → ⊥)
-  pub applied : (i u k q : ℕ) → In (s .desks) i → WriteAt h q u k → (place s i u k ≡ done) ↔ Has (deskList i h) u k
+  pub unreceived : (i u k q : ℕ) → In (s .setup .desks) i → WriteAt h q u k → (place s i u k ≡ away) ↔ (Received h i u k → ⊥)
+  pub applied : (i u k q : ℕ) → In (s .setup .desks) i → WriteAt h q u k → (place s i u k ≡ done) ↔ Has (deskList i h) u k
 
 -- "t.j precedes or is that write"
 pub record UpTo (h : List Event) (q t j : ℕ) : Type 0 where
@@ -96,7 +96,7 @@ pub record NamesObserved (s : State) (h : List Event) : Type 0 where
 
 -- and so does the open count
 abbrev pub OpenObserved : State → List Event → Type 0
-OpenObserved s h = openCount s ≡ openWrites (s .desks) h
+OpenObserved s h = openCount s ≡ openWrites (s .setup .desks) h
 
 pub record Demand3 (s : State) (h : List Event) : Type 0 where
   pub lists-accepted : ListsAccepted h

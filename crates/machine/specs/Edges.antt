@@ -10,7 +10,7 @@ use Rattle.laws.specs.All.{all}
 use Rattle.laws.specs.Update.{upd, upd2}
 use Rattle.laws.specs.Sum.{sum}
 use Rattle.laws.specs.Lists.{any, every}
-use Rattle.machine.specs.Table.{Vec, zeros, name, blank, State, fresh}
+use Rattle.machine.specs.Table.{Vec, zeros, name, blank, sized, State, fresh}
 use Rattle.machine.specs.Answer.{shown, no-step, damaged, broken, short, numberOf, Yes, Answer, began, shows, wrote, holds, applies, judged, refused}
 use Rattle.machine.specs.Steps.{Step, Read, Write, Deliver, Trip, begin, step, answers, failing, everywhere, openCount, firstDue, settle, reads, verdict}
 use Rattle.machine.specs.History.{take-step, run}
@@ -53,7 +53,7 @@ edge-of-trip = refl
 abbrev pub writtenTimes : ℕ → State
 writtenTimes k =
     let once : ℕ → Vec = upd2 (λ i. zeros) 1 1 k in
-    record { desks = 1; cells = 1; applied = once; clock = once; cell = λ i x. blank; opens = λ u k. none }
+    record { setup = sized 1 1; applied = once; clock = once; cell = λ i x. blank; opens = λ u k. none }
 
 -- "write 65,535 and the next"
 pub edge-of-writes : replies (writtenTimes 65534) (Write 1 1 0 ∷ Write 1 1 0 ∷ []) ≡ given (wrote (name 1 65535)) ∷ E 4 ∷ []

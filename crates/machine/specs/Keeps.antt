@@ -16,20 +16,20 @@ use Rattle.machine.specs.Within.{says-within}
 
 -- "ranges as above"
 abbrev pub Sizes : State → Type 0
-Sizes s = In most-desks (s .desks) × (In most-cells (s .cells) × (openCount s ≤ most-open))
+Sizes s = In most-desks (s .setup .desks) × (In most-cells (s .setup .cells) × (openCount s ≤ most-open))
 
 abbrev pub sizes : State → Bool
-sizes s = within most-desks (s .desks) && (within most-cells (s .cells) && leb (openCount s) most-open)
+sizes s = within most-desks (s .setup .desks) && (within most-cells (s .setup .cells) && leb (openCount s) most-open)
 
 says-sizes : (s : State) → Says (sizes s) (Sizes s)
 says-sizes s = says-both _ _ (says-within _ _) (says-both _ _ (says-within _ _) (says-leb _ _))
 
 -- the count of t at i, and the clock there
 abbrev pub CountAt : State → ℕ → ℕ → Type 0
-CountAt s i t = (1 ≤ s .applied i t → t ≤ s .desks) × ((s .applied i t ≤ written s t) × (s .clock i t ≤ s .applied i t))
+CountAt s i t = (1 ≤ s .applied i t → t ≤ s .setup .desks) × ((s .applied i t ≤ written s t) × (s .clock i t ≤ s .applied i t))
 
 abbrev pub countAt : State → ℕ → ℕ → Bool
-countAt s i t = where? (leb 1 (s .applied i t)) (leb t (s .desks)) && (leb (s .applied i t) (written s t) && leb (s .clock i t) (s .applied i t))
+countAt s i t = where? (leb 1 (s .applied i t)) (leb t (s .setup .desks)) && (leb (s .applied i t) (written s t) && leb (s .clock i t) (s .applied i t))
 
 says-count : (s : State) (i t : ℕ) → Says (countAt s i t) (CountAt s i t)
 says-count s i t = says-both _ _ (says-where _ _ (says-leb _ _) (says-leb _ _)) (says-both _ _ (says-leb _ _) (says-leb _ _))
@@ -57,11 +57,11 @@ says-below v w = says-each (λ t. leb (v t) (w t)) 8 (λ t. says-leb (v t) (w t)
 -- a cell
 abbrev pub CellAt : State → ℕ → Cell → Type 0
 CellAt s i blank = Unit
-CellAt s i (set v u w) = (v ≤ most-status) × (In (s .desks) u × ((1 ≤ w u) × BelowAt w (s .applied i)))
+CellAt s i (set v u w) = (v ≤ most-status) × (In (s .setup .desks) u × ((1 ≤ w u) × BelowAt w (s .applied i)))
 
 abbrev pub cellAt : State → ℕ → Cell → Bool
 cellAt s i blank = true
-cellAt s i (set v u w) = leb v most-status && (within (s .desks) u && (leb 1 (w u) && belowAt w (s .applied i)))
+cellAt s i (set v u w) = leb v most-status && (within (s .setup .desks) u && (leb 1 (w u) && belowAt w (s .applied i)))
 
 says-cell : (s : State) (i : ℕ) (c : Cell) → Says (cellAt s i c) (CellAt s i c)
 says-cell s i blank = says-yes
@@ -69,16 +69,16 @@ says-cell s i (set v u w) = says-both _ _ (says-leb _ _) (says-both _ _ (says-wi
 
 -- some desk has not applied u.k
 abbrev pub lacks : State → ℕ → ℕ → Bool
-lacks s u k = not (all (λ i. leb k (s .applied i u)) (s .desks) 1)
+lacks s u k = not (all (λ i. leb k (s .applied i u)) (s .setup .desks) 1)
 
 pub says-lacks : (s : State) (u k : ℕ) → Says (lacks s u k) (Lacks s u k)
 says-lacks s u k =
     record {
       to = λ e.
-          let r = all-not (λ i. leb k (s .applied i u)) (s .desks) 1 (not-true _ e) in
+          let r = all-not (λ i. leb k (s .applied i u)) (s .setup .desks) 1 (not-true _ e) in
           record { desk = r .0; desk-in = (r .1, omega (arith, r .2)); lower = leb-false k (s .applied (r .0) u) (r .3) };
       from = λ l.
-          says-not _ (says-each (λ i. leb k (s .applied i u)) (s .desks) (λ i. says-leb k (s .applied i u))) .from
+          says-not _ (says-each (λ i. leb k (s .applied i u)) (s .setup .desks) (λ i. says-leb k (s .applied i u))) .from
           (λ f. omega (arith, f (l .desk) (l .desk-in .0) (l .desk-in .1), l .lower));
     }
 
@@ -86,18 +86,18 @@ says-lacks s u k =
 abbrev pub MarkAt : State → ℕ → ℕ → Open → ℕ → Type 0
 MarkAt s u k w i =
     (w .marks i ≤ done)
-    × ((1 ≤ w .marks i → i ≤ s .desks)
-    × ((i ≤ s .desks → ((w .marks i ≡ done → k ≤ s .applied i u) × (k ≤ s .applied i u → w .marks i ≡ done)))
+    × ((1 ≤ w .marks i → i ≤ s .setup .desks)
+    × ((i ≤ s .setup .desks → ((w .marks i ≡ done → k ≤ s .applied i u) × (k ≤ s .applied i u → w .marks i ≡ done)))
     × ((w .marks i ≡ done → BelowAt (w .vector) (s .applied i))
-    × (w .marks i ≡ held → ready (s .desks) (s .applied i) u (w .vector) ≡ false))))
+    × (w .marks i ≡ held → ready (s .setup .desks) (s .applied i) u (w .vector) ≡ false))))
 
 abbrev pub markAt : State → ℕ → ℕ → Open → ℕ → Bool
 markAt s u k w i =
     leb (w .marks i) done
-    && (where? (leb 1 (w .marks i)) (leb i (s .desks))
-    && (where? (leb i (s .desks)) (alike (eqb (w .marks i) done) (leb k (s .applied i u)))
+    && (where? (leb 1 (w .marks i)) (leb i (s .setup .desks))
+    && (where? (leb i (s .setup .desks)) (alike (eqb (w .marks i) done) (leb k (s .applied i u)))
     && (where? (eqb (w .marks i) done) (belowAt (w .vector) (s .applied i))
-    && where? (eqb (w .marks i) held) (not (ready (s .desks) (s .applied i) u (w .vector))))))
+    && where? (eqb (w .marks i) held) (not (ready (s .setup .desks) (s .applied i) u (w .vector))))))
 
 says-mark : (s : State) (u k : ℕ) (w : Open) (i : ℕ) → Says (markAt s u k w i) (MarkAt s u k w i)
 says-mark s u k w i =
@@ -108,13 +108,13 @@ says-mark s u k w i =
 -- an open write
 abbrev pub WriteAt : State → ℕ → ℕ → Open → Type 0
 WriteAt s u k w =
-    In (s .cells) (w .cell)
+    In (s .setup .cells) (w .cell)
     × ((w .status ≤ most-status)
     × ((w .vector u ≡ k) × (BelowAt (w .vector) (written s) × ((i : ℕ) → 1 ≤ i → i ≤ most-desks → MarkAt s u k w i))))
 
 abbrev pub writeAt : State → ℕ → ℕ → Open → Bool
 writeAt s u k w =
-    within (s .cells) (w .cell)
+    within (s .setup .cells) (w .cell)
     && (leb (w .status) most-status && (eqb (w .vector u) k && (belowAt (w .vector) (written s) && all (markAt s u k w) most-desks 1)))
 
 says-write : (s : State) (u k : ℕ) (w : Open) → Says (writeAt s u k w) (WriteAt s u k w)
@@ -138,31 +138,31 @@ says-open s u k (some w) = says-both _ _ (says-lacks s u k) (says-write s u k w)
 -- the whole
 pub record Kept (s : State) : Type 0 where
   pub sizes : Sizes s
-  pub desk : (i : ℕ) → 1 ≤ i → i ≤ s .desks → DeskAt s i
-  pub cell : (i : ℕ) → 1 ≤ i → i ≤ s .desks → (x : ℕ) → 1 ≤ x → x ≤ s .cells → CellAt s i (s .cell i x)
-  pub opens : (u : ℕ) → 1 ≤ u → u ≤ s .desks → (k : ℕ) → 1 ≤ k → k ≤ written s u → OpenAt s u k (s .opens u k)
+  pub desk : (i : ℕ) → 1 ≤ i → i ≤ s .setup .desks → DeskAt s i
+  pub cell : (i : ℕ) → 1 ≤ i → i ≤ s .setup .desks → (x : ℕ) → 1 ≤ x → x ≤ s .setup .cells → CellAt s i (s .cell i x)
+  pub opens : (u : ℕ) → 1 ≤ u → u ≤ s .setup .desks → (k : ℕ) → 1 ≤ k → k ≤ written s u → OpenAt s u k (s .opens u k)
 
 unfoldable pub keeps : State → Bool
 keeps s =
     sizes s
-    && (all (deskAt s) (s .desks) 1
-    && (all (λ i. all (λ x. cellAt s i (s .cell i x)) (s .cells) 1) (s .desks) 1
-    && all (λ u. all (λ k. openAt s u k (s .opens u k)) (written s u) 1) (s .desks) 1))
+    && (all (deskAt s) (s .setup .desks) 1
+    && (all (λ i. all (λ x. cellAt s i (s .cell i x)) (s .setup .cells) 1) (s .setup .desks) 1
+    && all (λ u. all (λ k. openAt s u k (s .opens u k)) (written s u) 1) (s .setup .desks) 1))
 
 pub says-keeps : (s : State) → Says (keeps s) (Kept s)
 unfolding keeps
 says-keeps s =
     says-as (keeps s)
-    (says-both _ _ (says-sizes s) (says-both _ _ (says-each (deskAt s) (s .desks) (says-desk s))
+    (says-both _ _ (says-sizes s) (says-both _ _ (says-each (deskAt s) (s .setup .desks) (says-desk s))
     (says-both _ _
-    (says-each _ (s .desks) (λ i. says-each (λ x. cellAt s i (s .cell i x)) (s .cells) (λ x. says-cell s i (s .cell i x))))
-    (says-each _ (s .desks) (λ u. says-each (λ k. openAt s u k (s .opens u k)) (written s u) (λ k. says-open s u k (s .opens u k)))))))
+    (says-each _ (s .setup .desks) (λ i. says-each (λ x. cellAt s i (s .cell i x)) (s .setup .cells) (λ x. says-cell s i (s .cell i x))))
+    (says-each _ (s .setup .desks) (λ u. says-each (λ k. openAt s u k (s .opens u k)) (written s u) (λ k. says-open s u k (s .opens u k)))))))
     (λ h. record { sizes = h .0; desk = h .1 .0; cell = h .1 .1 .0; opens = h .1 .1 .1 })
     (λ h. (h .sizes, (h .desk, (h .cell, h .opens))))
 
 -- what holds of every table that was read: nothing stands past the desks, the 8 places, the cells, the writes made
 pub record Shaped (s : State) : Type 0 where
-  pub counts : (i t : ℕ) → 1 ≤ s .applied i t → In (s .desks) i × In most-desks t
-  pub clocks : (i t : ℕ) → 1 ≤ s .clock i t → In (s .desks) i × In most-desks t
-  pub cell : (i x v u : ℕ) (w : Vec) → s .cell i x ≡ set v u w → In (s .desks) i × (In (s .cells) x × Flat most-desks w)
-  pub opens : (u k : ℕ) (w : Open) → s .opens u k ≡ some w → In (s .desks) u × (In (written s u) k × (Flat most-desks (w .vector) × Flat most-desks (w .marks)))
+  pub counts : (i t : ℕ) → 1 ≤ s .applied i t → In (s .setup .desks) i × In most-desks t
+  pub clocks : (i t : ℕ) → 1 ≤ s .clock i t → In (s .setup .desks) i × In most-desks t
+  pub cell : (i x v u : ℕ) (w : Vec) → s .cell i x ≡ set v u w → In (s .setup .desks) i × (In (s .setup .cells) x × Flat most-desks w)
+  pub opens : (u k : ℕ) (w : Open) → s .opens u k ≡ some w → In (s .setup .desks) u × (In (written s u) k × (Flat most-desks (w .vector) × Flat most-desks (w .marks)))

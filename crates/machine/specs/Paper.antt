@@ -193,9 +193,9 @@ actor (Trip i xs) = i
 
 -- "every accepted step of the machine is a sequence of such actions, and after it no waiting thread is enabled"
 pub record PaperRun (s : State) (a : Step) (o : Out) : Type 0 where
-  pub runs : Runs (s .desks) (actor a) (desk s (actor a)) (actionsOf s a (o .answer)) (desk (o .state) (actor a))
+  pub runs : Runs (s .setup .desks) (actor a) (desk s (actor a)) (actionsOf s a (o .answer)) (desk (o .state) (actor a))
   pub others : (j : ℕ) → j ≢ actor a → desk (o .state) j ≡ desk s j
-  pub idle : (j : ℕ) → Idle (s .desks) (desk (o .state) j)
+  pub idle : (j : ℕ) → Idle (s .setup .desks) (desk (o .state) j)
 
 -- What is delivered is what was sent, and what a read answers is what figure 5 returns --
 

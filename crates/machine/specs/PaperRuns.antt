@@ -63,7 +63,7 @@ pub data SystemRun (n : ℕ) : System → List Deed → System → Type 0 where
 
 -- not received is on its way
 abbrev pub waysOf : State → Ways
-waysOf s j = elim (within (s .desks) j) [ true ↦ λ u k. markedOf away j u (s .opens u k) | false ↦ λ u k. none ]
+waysOf s j = elim (within (s .setup .desks) j) [ true ↦ λ u k. markedOf away j u (s .opens u k) | false ↦ λ u k. none ]
 
 abbrev pub system : State → System
 system s = record { process = desk s; ways = waysOf s }

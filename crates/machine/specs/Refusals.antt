@@ -20,23 +20,23 @@ P or r = record { asked = P; else = r }
 
 abbrev pub rowsOf : State → Step → List Row
 rowsOf s (Read i x) =
-    (In (s .desks) i or no-desk) ∷
-    (In (s .cells) x or no-cell) ∷ []
+    (In (s .setup .desks) i or no-desk) ∷
+    (In (s .setup .cells) x or no-cell) ∷ []
 rowsOf s (Write i x v) =
-    (In (s .desks) i or no-desk) ∷
-    (In (s .cells) x or no-cell) ∷
+    (In (s .setup .desks) i or no-desk) ∷
+    (In (s .setup .cells) x or no-cell) ∷
     (v ≤ most-status or no-status) ∷
     (written s i < most-writes or spent) ∷
     (openCount s < most-open or full) ∷ []
 rowsOf s (Deliver i u k) =
-    (In (s .desks) i × In (s .desks) u or no-desk) ∷
+    (In (s .setup .desks) i × In (s .setup .desks) u or no-desk) ∷
     (i ≢ u or own-write) ∷
     (In (written s u) k or no-write) ∷
     (place s i u k ≡ away or received) ∷ []
 rowsOf s (Trip i xs) =
-    (In (s .desks) i or no-desk) ∷
+    (In (s .setup .desks) i or no-desk) ∷
     (In most-trip (length xs) or trip-size) ∷
-    (((x : ℕ) → List·Memᴰ x xs → In (s .cells) x) or no-cell) ∷ []
+    (((x : ℕ) → List·Memᴰ x xs → In (s .setup .cells) x) or no-cell) ∷ []
 
 abbrev pub rowsOfBegin : ℕ → ℕ → List Row
 rowsOfBegin n m = (In most-desks n × In most-cells m or no-size) ∷ []

@@ -21,15 +21,15 @@ Below v w = (t : ℕ) → v t ≤ w t
 
 -- "ranges as above"; "at most 64 are open"
 pub record Ranges (s : State) : Type 0 where
-  pub desks : In most-desks (s .desks)
-  pub cells : In most-cells (s .cells)
+  pub desks : In most-desks (s .setup .desks)
+  pub cells : In most-cells (s .setup .cells)
   pub written : (u : ℕ) → written s u ≤ most-writes
   pub few : openCount s ≤ most-open
 
 -- "places, marks and desks past n, and cells past m, zero" (the counts; what follows says it of clocks, cells and open writes)
 -- "a count of u at any desk is at most u's count at u"
 pub record Counts (s : State) : Type 0 where
-  pub inside : (i u : ℕ) → 1 ≤ s .applied i u → In (s .desks) i × In (s .desks) u
+  pub inside : (i u : ℕ) → 1 ≤ s .applied i u → In (s .setup .desks) i × In (s .setup .desks) u
   pub most : (i u : ℕ) → s .applied i u ≤ written s u
 
 -- "a clock is at most its desk's applied counts, and equal at its own place"
@@ -43,10 +43,10 @@ Issued s v = (t : ℕ) → v t ≤ written s t
 
 -- "a set cell's vector is at most its desk's counts, with its writer's place at least 1"
 pub record SetCell (s : State) (i x status writer : ℕ) (vector : Vec) : Type 0 where
-  pub desk : In (s .desks) i
-  pub cell : In (s .cells) x
+  pub desk : In (s .setup .desks) i
+  pub cell : In (s .setup .cells) x
   pub status-in : status ≤ most-status
-  pub writer-in : In (s .desks) writer
+  pub writer-in : In (s .setup .desks) writer
   pub below : Below vector (s .applied i)
   pub first : 1 ≤ vector writer
   pub issued : Issued s vector
@@ -54,31 +54,31 @@ pub record SetCell (s : State) (i x status writer : ℕ) (vector : Vec) : Type 0
 -- some desk has not applied u.k
 pub record Lacks (s : State) (u k : ℕ) : Type 0 where
   pub desk : ℕ
-  pub desk-in : In (s .desks) desk
+  pub desk-in : In (s .setup .desks) desk
   pub lower : s .applied desk u < k
 
 -- "those u.k with k at most u's own count and above some desk's count of u"
 pub record ToBeOpen (s : State) (u k : ℕ) : Type 0 where
-  pub writer : In (s .desks) u
+  pub writer : In (s .setup .desks) u
   pub number : In (written s u) k
   pub lacks : Lacks s u k
 
 -- an open write: its ranges, its vector ("its vector has k at place u"), its marks
 pub record OpenWrite (s : State) (u k : ℕ) (w : Open) : Type 0 where
-  pub cell : In (s .cells) (w .cell)
+  pub cell : In (s .setup .cells) (w .cell)
   pub status-in : w .status ≤ most-status
   pub number : w .vector u ≡ k
   pub issued : Issued s (w .vector)
   pub marks-in : (i : ℕ) → w .marks i ≤ done
-  pub marks-flat : Flat (s .desks) (w .marks)
+  pub marks-flat : Flat (s .setup .desks) (w .marks)
   -- "marked 2 at a desk exactly if its number is at most that desk's count of its writer"
-  pub marked : (i : ℕ) → In (s .desks) i → (w .marks i ≡ done) ↔ (k ≤ s .applied i u)
+  pub marked : (i : ℕ) → In (s .setup .desks) i → (w .marks i ≡ done) ↔ (k ≤ s .applied i u)
   -- "and its vector is then at most that desk's counts"
   pub below : (i : ℕ) → w .marks i ≡ done → Below (w .vector) (s .applied i)
 
 -- "it is marked 1 only if not ready": of one desk
 abbrev pub Quiet : State → ℕ → Type 0
-Quiet s i = (u k : ℕ) (w : Open) → s .opens u k ≡ some w → w .marks i ≡ held → ready (s .desks) (s .applied i) u (w .vector) ≡ false
+Quiet s i = (u k : ℕ) (w : Open) → s .opens u k ≡ some w → w .marks i ≡ held → ready (s .setup .desks) (s .applied i) u (w .vector) ≡ false
 
 -- the rules but the last
 pub record Frame (s : State) : Type 0 where

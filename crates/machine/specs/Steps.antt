@@ -27,10 +27,10 @@ need false r s o = refuse r s
 
 -- the state with another clock at desk i, or with other open writes
 abbrev pub withClock : State → ℕ → Vec → State
-withClock t i c = record { desks = t .desks; cells = t .cells; applied = t .applied; clock = upd (t .clock) i c; cell = t .cell; opens = t .opens }
+withClock t i c = record { setup = t .setup; applied = t .applied; clock = upd (t .clock) i c; cell = t .cell; opens = t .opens }
 
 abbrev pub withOpens : State → (ℕ → ℕ → Option Open) → State
-withOpens t o = record { desks = t .desks; cells = t .cells; applied = t .applied; clock = t .clock; cell = t .cell; opens = o }
+withOpens t o = record { setup = t .setup; applied = t .applied; clock = t .clock; cell = t .cell; opens = o }
 
 -- 1 to n
 abbrev pub within : ℕ → ℕ → Bool
@@ -87,12 +87,11 @@ mark w i p = record { cell = w .cell; status = w .status; vector = w .vector; ma
 -- "it is applied: the cell takes status, writer and vector, and the count of u at i rises. Applying does not touch the clock."
 abbrev pub apply : State → ℕ → ℕ → ℕ → Open → State
 apply s i u k w = record {
-  desks = s .desks;
-  cells = s .cells;
+  setup = s .setup;
   applied = upd2 (s .applied) i u (suc (s .applied i u));
   clock = s .clock;
   cell = upd2 (s .cell) i (w .cell) (set (w .status) u (w .vector));
-  opens = upd2 (s .opens) u k (stillOpen (s .desks) (mark w i done));
+  opens = upd2 (s .opens) u k (stillOpen (s .setup .desks) (mark w i done));
 }
 
 -- "If not ready it is held"
@@ -124,14 +123,14 @@ abbrev pub isOpen : State → ℕ → ℕ → Bool
 isOpen s u k = not (isNone (s .opens u k))
 
 unfoldable pub openCount : State → ℕ
-openCount s = sum (s .desks) (λ u. tally (written s u) (isOpen s u))
+openCount s = sum (s .setup .desks) (λ u. tally (written s u) (isOpen s u))
 
 -- Deliver --
 
 -- held at i and ready there
 abbrev pub dueOpen : State → ℕ → ℕ → Option Open → Bool
 dueOpen s i u none = false
-dueOpen s i u (some w) = eqb (w .marks i) held && ready (s .desks) (s .applied i) u (w .vector)
+dueOpen s i u (some w) = eqb (w .marks i) held && ready (s .setup .desks) (s .applied i) u (w .vector)
 
 -- of one writer only the write after those applied can be ready: it takes exactly k-1
 abbrev pub due : State → ℕ → ℕ → Bool
@@ -139,7 +138,7 @@ due s i u = dueOpen s i u (s .opens u (suc (s .applied i u)))
 
 -- "while any held write at i is ready, the one with the smallest writer"
 unfoldable pub firstDue : State → ℕ → Option ℕ
-firstDue s i = scan (due s i) some none (s .desks) 1
+firstDue s i = scan (due s i) some none (s .setup .desks) 1
 
 pub record Settled : Type 0 where
   pub names : List Name
@@ -172,7 +171,7 @@ deliverBy s i u k w none =
 abbrev pub deliverOpen : State → ℕ → ℕ → ℕ → Option Open → Out
 deliverOpen s i u k none = refuse received s
 deliverOpen s i u k (some w) =
-    let o : Out = deliverBy s i u k w (failing (s .desks) (s .applied i) u (w .vector)) in
+    let o : Out = deliverBy s i u k w (failing (s .setup .desks) (s .applied i) u (w .vector)) in
     need (eqb (w .marks i) away) received s o
 
 -- Trip --
@@ -208,29 +207,29 @@ unfoldable pub step : State → Step → Out
 -- Read: 1, 2
 step s (Read i x) =
     let o : Out = record { answer = shows (shownAt s i x); state = read s i x } in
-    let o2 : Out = need (within (s .cells) x) no-cell s o in
-    need (within (s .desks) i) no-desk s o2
+    let o2 : Out = need (within (s .setup .cells) x) no-cell s o in
+    need (within (s .setup .desks) i) no-desk s o2
 -- Write: 1, 2, 3, 4, 5
 step s (Write i x v) =
     let o : Out = record { answer = wrote (name i (nextNumber s i)); state = write s i x v } in
     let o5 : Out = need (ltb (openCount s) most-open) full s o in
     let o4 : Out = need (ltb (written s i) most-writes) spent s o5 in
     let o3 : Out = need (leb v most-status) no-status s o4 in
-    let o2 : Out = need (within (s .cells) x) no-cell s o3 in
-    need (within (s .desks) i) no-desk s o2
+    let o2 : Out = need (within (s .setup .cells) x) no-cell s o3 in
+    need (within (s .setup .desks) i) no-desk s o2
 -- Deliver: 1 (either desk), 6, 7, 8
 step s (Deliver i u k) =
     let o8 : Out = deliverOpen s i u k (s .opens u k) in
     let o7 : Out = need (within (written s u) k) no-write s o8 in
     let o6 : Out = need (not (eqb i u)) own-write s o7 in
-    need (within (s .desks) i && within (s .desks) u) no-desk s o6
+    need (within (s .setup .desks) i && within (s .setup .desks) u) no-desk s o6
 -- Trip: 1, 9, 2
 step s (Trip i xs) =
     let r : Reads = reads s i xs in
     let o : Out = record { answer = judged (verdict (r .shown)); state = r .state } in
-    let o2 : Out = need (every (within (s .cells)) xs) no-cell s o in
+    let o2 : Out = need (every (within (s .setup .cells)) xs) no-cell s o in
     let o9 : Out = need (within most-trip (length xs)) trip-size s o2 in
-    need (within (s .desks) i) no-desk s o9
+    need (within (s .setup .desks) i) no-desk s o9
 
 -- The beginning: "n desks (1 to 8) and m records (1 to 64)", else 11 and still no table --
 

@@ -60,11 +60,18 @@ pub record Open : Type 0 where
   pub vector : Vec
   pub marks : Vec
 
--- "A table has n desks and m records, called cells." Per desk i: applied counts, causal clock, cells. An open write is found by
--- its name: no entry has a place of its own, so open writes count as a set.
-pub record State : Type 0 where
+-- what the beginning settles, and no step changes (`setup-stays`): "A table has n desks and m records, called cells."
+pub record Setup : Type 0 where
   pub desks : ℕ
   pub cells : ℕ
+
+abbrev pub sized : ℕ → ℕ → Setup
+sized n m = record { desks = n; cells = m }
+
+-- Per desk i: applied counts, causal clock, cells. An open write is found by its name: no entry has a place of its own, so open
+-- writes count as a set.
+pub record State : Type 0 where
+  pub setup : Setup
   pub applied : ℕ → Vec
   pub clock : ℕ → Vec
   pub cell : ℕ → ℕ → Cell
@@ -73,8 +80,7 @@ pub record State : Type 0 where
 -- "Everything starts at zero and unset."
 abbrev pub fresh : ℕ → ℕ → State
 fresh n m = record {
-  desks = n;
-  cells = m;
+  setup = sized n m;
   applied = λ i. zeros;
   clock = λ i. zeros;
   cell = λ i x. blank;

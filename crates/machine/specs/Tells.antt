@@ -122,7 +122,7 @@ module _ (s : State) (r : Rules s) where
   kept-cell i x (set v u w) e =
       let h = r .frame .cell i x v u w e in (h .status-in, (h .writer-in, (h .first, λ t _ _. h .below t)))
 
-  kept-open : (u k : ℕ) (o : Option Open) → s .opens u k ≡ o → In (s .desks) u → In (written s u) k → OpenAt s u k o
+  kept-open : (u k : ℕ) (o : Option Open) → s .opens u k ≡ o → In (s .setup .desks) u → In (written s u) k → OpenAt s u k o
   kept-open u k none e a b =
       λ l. clash (sym (ap (λ (o : Option Open). not (isNone o)) e) ∙ r .frame .open-exactly u k .1 (record { writer = a; number = b; lacks = l }))
   kept-open u k (some w) e a b =

@@ -59,7 +59,7 @@ abbrev pub Acts : (n m : ℕ) (d : Desk) (own cs os list : List ℕ) (s : Line) 
 Acts n m d own cs os list s r cs′ os′ names′ =
     (ds : List Desk) → Placed n m ds cs os own (actor s) d → Acted n m ds cs os (actor s) d (lineIn s list) (r .desk) cs′ os′ (answerOf (r .answer) names′)
 
-outside-refused : (s : State) (a : Step) → within (s .desks) (deskOf a) ≡ false → step s a .answer ≡ machine.refused machine.no-desk
+outside-refused : (s : State) (a : Step) → within (s .setup .desks) (deskOf a) ≡ false → step s a .answer ≡ machine.refused machine.no-desk
 unfolding step
 outside-refused s (steps.Read i x) e = rw e
 outside-refused s (steps.Write i x v) e = rw e

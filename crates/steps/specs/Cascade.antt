@@ -37,8 +37,7 @@ use Rattle.table.specs.Sound.{AllZero}
 -- b with other counts at desk i, other cells and other open writes
 abbrev pub midst : State → ℕ → ℕ → List ℕ → List ℕ → List ℕ → State
 midst b n i a cs os = record {
-  desks = n;
-  cells = b .cells;
+  setup = machine.sized n (b .setup .cells);
   applied = upd (b .applied) i (place a);
   clock = b .clock;
   cell = cellsM cs;
@@ -187,8 +186,7 @@ module _ {b : State} {n i : ℕ} {a own cs os : List ℕ} (r : Running b n i a o
 
       pub apply-is : midst b n i (raised a u) cs′ os′ ≡ apply s i u k w
       apply-is = λ j. record {
-        desks = n;
-        cells = b .cells;
+        setup = machine.sized n (b .setup .cells);
         applied = counted j;
         clock = b .clock;
         cell = celled j;

@@ -172,8 +172,7 @@ module _ {n m : ℕ} {ds : List Desk} {cs os own : List ℕ} {i : ℕ} {d : Desk
 
     pub midst-is : midst s n i (d .applied) cs os ≡ s
     midst-is = λ j. record {
-      desks = n;
-      cells = m;
+      setup = machine.sized n m;
       applied = sym (upd-is (appliedM ds) i (place (d .applied)) (appliedM ds) counts-here (λ j ne. refl)) j;
       clock = s .clock;
       cell = s .cell;
@@ -184,8 +183,7 @@ module _ {n m : ℕ} {ds : List Desk} {cs os own : List ℕ} {i : ℕ} {d : Desk
     model-is d′ cs′ os′ q =
         rw (says-within n i .from hi)
         (λ j. record {
-          desks = n;
-          cells = m;
+          setup = machine.sized n m;
           applied = applied-put ds i in-list d′ j;
           clock = clock-keep ds i in-list d′ (rw (q, p .desk hi)) j;
           cell = model n m ds cs′ os′ .cell;

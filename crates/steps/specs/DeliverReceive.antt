@@ -40,7 +40,7 @@ pub record Arrival (b : State) (n i u k e : ℕ) (a own cs os : List ℕ) : Type
 
 -- what the machine does with it
 abbrev pub effect : State → ℕ → ℕ → ℕ → machine.Open → Out
-effect s i u k w = deliverBy s i u k w (failing (s .desks) (s .applied i) u (w .vector))
+effect s i u k w = deliverBy s i u k w (failing (s .setup .desks) (s .applied i) u (w .vector))
 
 pub record Receives (b : State) (n i u k e : ℕ) (d : Desk) (cs os names : List ℕ) (r : Turn) (cs′ os′ names′ : List ℕ) : Type 0 where
   pub answer-is : answerOf (r .answer) names′ ≡ effect (midst b n i (d .applied) cs os) i u k (openM (openAt os e)) .answer

@@ -62,8 +62,7 @@ module _ {n m : ℕ} {ds : List Desk} {cs os own : List ℕ} {i : ℕ} {d : Desk
     where
       moved : model n m (set ds (i - 1) (clocked d k)) cs os ≡ withClock (model n m ds cs os) i (place (k .at))
       moved = λ j. record {
-        desks = n;
-        cells = m;
+        setup = states.sized n m;
         applied = applied-keep ds i (in-desks p hi) (clocked d k) (ap (λ (b : Desk). place (b .applied)) (sym (p .desk hi))) j;
         clock = clock-put ds i (in-desks p hi) (clocked d k) j;
         cell = cellsM cs;

@@ -36,12 +36,12 @@ clockAfter f c (x ∷ xs) = clockAfter f (readClock c (f x)) xs
 module _ (i : ℕ) where
   clock-same : (s : State) → withClock s i (s .clock i) ≡ s
   clock-same s =
-      ap (λ (f : ℕ → Vec). record { desks = s .desks; cells = s .cells; applied = s .applied; clock = f; cell = s .cell; opens = s .opens })
+      ap (λ (f : ℕ → Vec). record { setup = s .setup; applied = s .applied; clock = f; cell = s .cell; opens = s .opens })
       (sym (upd-is (s .clock) i (s .clock i) (s .clock) refl (λ j ne. refl)))
 
   clock-again : (s : State) (a b : Vec) → withClock (withClock s i a) i b ≡ withClock s i b
   clock-again s a b =
-      ap (λ (f : ℕ → Vec). record { desks = s .desks; cells = s .cells; applied = s .applied; clock = f; cell = s .cell; opens = s .opens })
+      ap (λ (f : ℕ → Vec). record { setup = s .setup; applied = s .applied; clock = f; cell = s .cell; opens = s .opens })
       (upd-is (s .clock) i b (upd (upd (s .clock) i a) i b) (upd-same (upd (s .clock) i a) i b)
       (λ j ne. upd-other (upd (s .clock) i a) i b j ne ∙ upd-other (s .clock) i a j ne))
 

@@ -36,7 +36,7 @@ use Rattle.steps.specs.LookTurn.{SomeLook, Looks}
 use Rattle.steps.specs.WriteTurn.{SomeTable, Writes}
 use Rattle.steps.specs.Deliver.{Part, Delivers}
 
-outside : (s : State) (a : Step) → (In (s .desks) (actor a) → ⊥) → step s a .answer ≡ machine.refused machine.no-desk
+outside : (s : State) (a : Step) → (In (s .setup .desks) (actor a) → ⊥) → step s a .answer ≡ machine.refused machine.no-desk
 outside s (Read i x) f = refusal-exactly s (Read i x) machine.no-desk .1 (inl (f, refl))
 outside s (Write i x v) f = refusal-exactly s (Write i x v) machine.no-desk .1 (inl (f, refl))
 outside s (Deliver i u k) f = refusal-exactly s (Deliver i u k) machine.no-desk .1 (inl (λ h. f (h .0), refl))

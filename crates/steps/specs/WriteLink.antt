@@ -166,5 +166,5 @@ module _ {n m : ℕ} {ds : List Desk} {cs os own : List ℕ} {i : ℕ} {d : Desk
           let o = opens-new s h ne in
           taken-stepped p (Write i x v) hi (hi, (hx, (hv, (rw written-start hw, (few-open s h ne, tt)))))
           (ap (λ (k : ℕ). machine.wrote (states.name i k)) (sym number-new))
-          (λ j. record { desks = n; cells = m; applied = applied-new j; clock = clock-new j; cell = cell-new j; opens = o .0 j })
+          (λ j. record { setup = states.sized n m; applied = applied-new j; clock = clock-new j; cell = cell-new j; opens = o .0 j })
           blanks-new (o .1)

@@ -101,7 +101,7 @@ unique-zeros n e j he hj ne u k t s = apart (namedAt (replicate n 0) u k e) t (f
 pub fresh-model : (n m : ℕ) → modelOf (freshTable n m) ≡ machine.fresh n m
 unfolding freshTable appliedM clockM
 fresh-model n m =
-    state-path (modelOf (freshTable n m)) (machine.fresh n m) refl refl
+    state-path (modelOf (freshTable n m)) (machine.fresh n m) refl
     (fresh-vec appliedVec refl refl places)
     (fresh-vec clockVec refl refl places)
     (fresh-cells (all-cells * cell-width))

@@ -53,8 +53,7 @@ opensM l u k = firstOf (named u k) openM (entriesOf l)
 
 abbrev pub model : ℕ → ℕ → List Desk → List ℕ → List ℕ → machine.State
 model n m ds cs os = record {
-  desks = n;
-  cells = m;
+  setup = machine.sized n m;
   applied = appliedM ds;
   clock = clockM ds;
   cell = cellsM cs;
@@ -65,8 +64,8 @@ abbrev pub modelOf : Table → machine.State
 modelOf t = model (t .core .n) (t .core .m) (t .core .desks) (t .cells) (t .opens)
 
 -- two states with the same parts
-pub state-path : (a b : machine.State) → a .desks ≡ b .desks → a .cells ≡ b .cells → a .applied ≡ b .applied → a .clock ≡ b .clock → a .cell ≡ b .cell → a .opens ≡ b .opens → a ≡ b
-state-path a b en em ea ec el eo = λ j. record { desks = en j; cells = em j; applied = ea j; clock = ec j; cell = el j; opens = eo j }
+pub state-path : (a b : machine.State) → a .setup ≡ b .setup → a .applied ≡ b .applied → a .clock ≡ b .clock → a .cell ≡ b .cell → a .opens ≡ b .opens → a ≡ b
+state-path a b es ea ec el eo = λ j. record { setup = es j; applied = ea j; clock = ec j; cell = el j; opens = eo j }
 
 -- Desks --
 
@@ -157,8 +156,7 @@ module _ (l : List ℕ) (i x : ℕ) (c : Cell) (hi : In places i) (hx : In desk-
 
 abbrev pub withDesk : machine.State → ℕ → machine.Vec → machine.Vec → machine.State
 withDesk s i a k = record {
-  desks = s .desks;
-  cells = s .cells;
+  setup = s .setup;
   applied = upd (s .applied) i a;
   clock = upd (s .clock) i k;
   cell = s .cell;
@@ -167,8 +165,7 @@ withDesk s i a k = record {
 
 abbrev pub withCell : machine.State → ℕ → ℕ → machine.Cell → machine.State
 withCell s i x c = record {
-  desks = s .desks;
-  cells = s .cells;
+  setup = s .setup;
   applied = s .applied;
   clock = s .clock;
   cell = upd2 (s .cell) i x c;
@@ -177,8 +174,7 @@ withCell s i x c = record {
 
 abbrev pub withOpens : machine.State → (ℕ → ℕ → Option machine.Open) → machine.State
 withOpens s f = record {
-  desks = s .desks;
-  cells = s .cells;
+  setup = s .setup;
   applied = s .applied;
   clock = s .clock;
   cell = s .cell;
@@ -188,8 +184,7 @@ withOpens s f = record {
 module _ (n m : ℕ) (ds : List Desk) (cs os : List ℕ) where
   pub model-desk : (i : ℕ) (d : Desk) → In (length ds) i → model n m (set ds (i - 1) d) cs os ≡ withDesk (model n m ds cs os) i (appliedVec d) (clockVec d)
   model-desk i d h = λ j. record {
-    desks = n;
-    cells = m;
+    setup = machine.sized n m;
     applied = applied-put ds i h d j;
     clock = clock-put ds i h d j;
     cell = cellsM cs;
@@ -198,8 +193,7 @@ module _ (n m : ℕ) (ds : List Desk) (cs os : List ℕ) where
 
   pub model-cell : (i x : ℕ) (c : Cell) → In places i → In desk-cells x → FullCell c → length cs ≡ all-cells * cell-width → model n m ds (putCell cs (slot i x) c) os ≡ withCell (model n m ds cs os) i x (cellM c)
   model-cell i x c hi hx full size = λ j. record {
-    desks = n;
-    cells = m;
+    setup = machine.sized n m;
     applied = appliedM ds;
     clock = clockM ds;
     cell = cell-put cs i x c hi hx full size j;

@@ -110,7 +110,7 @@ module _ (a b : Table) (sa : Shaped a) (sb : Shaped b) (ka : SoundTable a) (kb :
       (ap (λ (s : machine.State). s .clock (suc i)) e))
 
   pub same-core : a .core ≡ b .core
-  same-core = λ j. record { n = e j .desks; m = e j .cells; desks = desks-same j }
+  same-core = λ j. record { n = e j .setup .desks; m = e j .setup .cells; desks = desks-same j }
 
   cell-shown : (s : ℕ) → s < all-cells → cellM (cellAt (a .cells) s) ≡ cellM (cellAt (b .cells) s)
   cell-shown s h =

@@ -14,7 +14,7 @@ use Rattle.machine.specs.Rules.{Rules}
 use Rattle.machine.specs.Refusals.{rowsOf, FirstFails}
 use Rattle.machine.specs.Proofs.Refusals.{refusal-exactly}
 
-module _ {s : State} (r : Rules s) (alone : s .desks ≡ 1) where
+module _ {s : State} (r : Rules s) (alone : s .setup .desks ≡ 1) where
   pub alone-closed : (u k : ℕ) → isOpen s u k ≡ false
   alone-closed u k =
       cases (isOpen s u k)
@@ -27,9 +27,9 @@ module _ {s : State} (r : Rules s) (alone : s .desks ≡ 1) where
   pub alone-none-open : openCount s ≡ 0
   unfolding openCount
   alone-none-open =
-      sum-same (s .desks) (λ u. 0) (λ u. tally (written s u) (isOpen s u))
+      sum-same (s .setup .desks) (λ u. 0) (λ u. tally (written s u) (isOpen s u))
       (λ u _ _. sum-same (written s u) (λ k. 0) (λ k. one (isOpen s u k)) (λ k _ _. ap one (alone-closed u k)) ∙ sum-zero (written s u))
-      ∙ sum-zero (s .desks)
+      ∙ sum-zero (s .setup .desks)
 
   pub alone-not-full : (i x v : ℕ) → step s (Write i x v) .answer ≡ refused full → ⊥
   alone-not-full i x v e = go (refusal-exactly s (Write i x v) full .0 e)

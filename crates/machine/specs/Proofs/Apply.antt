@@ -17,11 +17,11 @@ use Rattle.machine.specs.Proofs.Grown.{Waits, MarkAt, marks-of, open-of,
 
 -- a write that may be applied at i: u's next there, sent before or written at i now
 pub record Arrives (s : State) (i u k : ℕ) (w : Open) : Type 0 where
-  pub desk : In (s .desks) i
-  pub writer : In (s .desks) u
+  pub desk : In (s .setup .desks) i
+  pub writer : In (s .setup .desks) u
   pub next : suc (s .applied i u) ≡ k
   pub known : u ≢ i → k ≤ written s u
-  pub cell : In (s .cells) (w .cell)
+  pub cell : In (s .setup .cells) (w .cell)
   pub status-in : w .status ≤ most-status
   pub number : w .vector u ≡ k
   pub rest : (t : ℕ) → t ≢ u → w .vector t ≤ s .applied i t
@@ -43,8 +43,7 @@ module _ {s : State} (f : Frame s) (c : ℕ → Vec) {i u k : ℕ} {w : Open} (a
 
   pub grown : Grown s after
   grown = record {
-    desks = refl;
-    cells = refl;
+    setup = refl;
     more = λ j t. same-pair-or j t i u (λ p q. rw (p, q) (omega (arith, here, a .next))) (λ ne. omega (arith, same j t ne));
   }
 
@@ -97,35 +96,35 @@ module _ {s : State} (f : Frame s) (c : ℕ → Vec) {i u k : ℕ} {w : Open} (a
       (λ p. rw p (record { small = omega arith; flat = λ h. a .desk; marked = λ h. (λ e. omega (arith, here), λ l. refl); below = λ e. vector-below }))
       (λ p. mark-grown grown (λ l. omega (arith, same j u (λ q r. p q))) (a .marks j p))
 
-  is-this : (z : Open) → stillOpen (s .desks) (mark w i done) ≡ some z → mark w i done ≡ z
-  is-this z e = still-open (s .desks) (mark w i done) z e .1
+  is-this : (z : Open) → stillOpen (s .setup .desks) (mark w i done) ≡ some z → mark w i done ≡ z
+  is-this z e = still-open (s .setup .desks) (mark w i done) z e .1
 
   open-kept : (b d : ℕ) (z : Open) → after .opens b d ≡ some z → OpenWrite after b d z
   open-kept =
-      upd2-some (OpenWrite after) (s .opens) u k (stillOpen (s .desks) (mark w i done))
+      upd2-some (OpenWrite after) (s .opens) u k (stillOpen (s .setup .desks) (mark w i done))
       (λ z e. rw (← is-this z e) (open-of (a .cell) (a .status-in) (a .number) vector-issued mark-here))
       (λ b d z ne e. open-grown grown b d (down b d ne) (f .open-write b d z e))
 
   -- freed exactly if no desk lacks it
-  this-exactly : (not (everywhere (s .desks) (mark w i done)) ≡ true) ↔ ToBeOpen after u k
+  this-exactly : (not (everywhere (s .setup .desks) (mark w i done)) ≡ true) ↔ ToBeOpen after u k
   this-exactly = (
-    (λ e. let r = not-everywhere (s .desks) (mark w i done) (not-true _ e) in
+    (λ e. let r = not-everywhere (s .setup .desks) (mark w i done) (not-true _ e) in
         let n : ¬ (k ≤ after .applied (r .0) u) = (λ l. r .2 (mark-here (r .0) .marked (r .1) .1 l)) in
         record { writer = a .writer; number = (omega (arith, a .next), known-now); lacks = record { desk = r .0; desk-in = r .1; lower = omega arith } }),
     (λ o. let l = o .lacks in
-        cases (everywhere (s .desks) (mark w i done))
-        (λ e. absurd (omega (arith, l .lower, mark-here (l .desk) .marked (l .desk-in) .0 (done-everywhere (s .desks) (mark w i done) e (l .desk) (l .desk-in)))))
+        cases (everywhere (s .setup .desks) (mark w i done))
+        (λ e. absurd (omega (arith, l .lower, mark-here (l .desk) .marked (l .desk-in) .0 (done-everywhere (s .setup .desks) (mark w i done) e (l .desk) (l .desk-in)))))
         (λ e. rw e)),
   )
 
   exactly-kept : (b d : ℕ) → (isOpen after b d ≡ true) ↔ ToBeOpen after b d
   exactly-kept b d =
-      upd2-all (s .opens) u k (stillOpen (s .desks) (mark w i done)) (λ (b d : ℕ) (o : Option Open). (not (isNone o) ≡ true) ↔ ToBeOpen after b d) b d
-      (λ p q. rw (p, q, none-still (s .desks) (mark w i done)) this-exactly)
+      upd2-all (s .opens) u k (stillOpen (s .setup .desks) (mark w i done)) (λ (b d : ℕ) (o : Option Open). (not (isNone o) ≡ true) ↔ ToBeOpen after b d) b d
+      (λ p q. rw (p, q, none-still (s .setup .desks) (mark w i done)) this-exactly)
       (λ ne. Iff·trans (f .open-exactly b d) (exactly-grown grown b d (down b d ne)))
 
   pub open-same : (b d : ℕ) → (b ≡ u → d ≡ k → ⊥) → isOpen after b d ≡ isOpen s b d
-  open-same b d ne = rw (upd2-other (s .opens) u k (stillOpen (s .desks) (mark w i done)) b d ne)
+  open-same b d ne = rw (upd2-other (s .opens) u k (stillOpen (s .setup .desks) (mark w i done)) b d ne)
 
   pub frame-kept : Ranges after → Clocks after → Frame after
   frame-kept r q = record { ranges = r; counts = counts; clocks = q; cell = cell-kept; open-exactly = exactly-kept; open-write = open-kept }
@@ -133,7 +132,7 @@ module _ {s : State} (f : Frame s) (c : ℕ → Vec) {i u k : ℕ} {w : Open} (a
   -- nothing changes at another desk
   pub quiet-kept : (j : ℕ) → j ≢ i → Quiet s j → Waits s j u w → Quiet after j
   quiet-kept j ne q h =
-      upd2-some (λ b d z. Waits after j b z) (s .opens) u k (stillOpen (s .desks) (mark w i done))
+      upd2-some (λ b d z. Waits after j b z) (s .opens) u k (stillOpen (s .setup .desks) (mark w i done))
       (λ z e m. let n = is-this z e in
       let o : upd (w .marks) i done j ≡ held = rw (← n) at m in
       rw (← n, row j ne) (h (sym (upd-other (w .marks) i done j ne) ∙ o)))
@@ -155,13 +154,13 @@ pub record Midway (s : State) (i : ℕ) : Type 0 where
 
 -- an open write that is ready at i
 pub record ReadyAt (s : State) (i u k : ℕ) (w : Open) : Type 0 where
-  pub desk : In (s .desks) i
+  pub desk : In (s .setup .desks) i
   pub is : s .opens u k ≡ some w
-  pub ready : ready (s .desks) (s .applied i) u (w .vector) ≡ true
+  pub ready : ready (s .setup .desks) (s .applied i) u (w .vector) ≡ true
 
 -- what is ready is the writer's next, of another desk, and its vector is covered
 pub record Next (s : State) (i u k : ℕ) (w : Open) : Type 0 where
-  pub writer : In (s .desks) u
+  pub writer : In (s .setup .desks) u
   pub other : u ≢ i
   pub next : suc (s .applied i u) ≡ k
   pub known : k ≤ written s u
@@ -184,8 +183,8 @@ ready-next {s} {i} {u} {k} {w} f r = record {
     o : OpenWrite s u k w
     o = f .open-write u k w (r .is)
 
-    at : (t : ℕ) → In (s .desks) t → fails (s .applied i) u (w .vector) t ≡ false
-    at = ready-at (s .desks) (s .applied i) u (w .vector) (r .ready)
+    at : (t : ℕ) → In (s .setup .desks) t → fails (s .applied i) u (w .vector) t ≡ false
+    at = ready-at (s .setup .desks) (s .applied i) u (w .vector) (r .ready)
 
     next : suc (s .applied i u) ≡ k
     next = passes-own (s .applied i) u (w .vector) (at u (b .writer)) ∙ o .number
@@ -213,7 +212,7 @@ module _ {s : State} {i u k : ℕ} {w : Open} (f : Frame s) (r : ReadyAt s i u k
 
   apply-few : openCount (apply s i u k w) ≤ openCount s
   unfolding openCount
-  apply-few = sum-le (s .desks) _ _ (λ b _ _. rw (apply-written b) (sum-le (written s b) _ _ (λ d _ _. at b d)))
+  apply-few = sum-le (s .setup .desks) _ _ (λ b _ _. rw (apply-written b) (sum-le (written s b) _ _ (λ d _ _. at b d)))
     where
       at : (b d : ℕ) → one (isOpen (apply s i u k w) b d) ≤ one (isOpen s b d)
       at b d =
@@ -240,7 +239,7 @@ apply-midway {s} {i} {u} {k} {w} m r =
 
 -- a write of the desk itself --
 
-module _ {s : State} (f : Frame s) (i x v : ℕ) (hi : In (s .desks) i) (hx : In (s .cells) x) (hv : v ≤ most-status) where
+module _ {s : State} (f : Frame s) (i x v : ℕ) (hi : In (s .setup .desks) i) (hx : In (s .setup .cells) x) (hv : v ≤ most-status) where
   pub issues : Arrives s i i (nextNumber s i) (newWrite s i x v)
   issues = record {
     desk = hi;
@@ -270,7 +269,7 @@ module _ {s : State} (f : Frame s) (i x v : ℕ) (hi : In (s .desks) i) (hx : In
 
   few-after : openCount (write s i x v) ≤ suc (openCount s)
   unfolding openCount sum
-  few-after = sum-one-le (s .desks) _ _ i own-row (λ j ne. rw (same f rose issues j j (λ p q. ne p)) (old-rows j (λ d l p q. ne p)))
+  few-after = sum-one-le (s .setup .desks) _ _ i own-row (λ j ne. rw (same f rose issues j j (λ p q. ne p)) (old-rows j (λ d l p q. ne p)))
     where
       old-rows : (j : ℕ) → ((d : ℕ) → d ≤ written s j → j ≡ i → d ≡ nextNumber s i → ⊥)
           → tally (written s j) (isOpen (write s i x v) j) ≤ tally (written s j) (isOpen s j)
@@ -298,19 +297,19 @@ module _ {s : State} (f : Frame s) (i x v : ℕ) (hi : In (s .desks) i) (hx : In
   -- what is held at i has had enough of i's own writes
   own-quiet : Quiet s i → Quiet (write s i x v) i
   own-quiet q =
-      upd2-some (λ b d z. Waits (write s i x v) i b z) (s .opens) i (nextNumber s i) (stillOpen (s .desks) (mark (newWrite s i x v) i done))
+      upd2-some (λ b d z. Waits (write s i x v) i b z) (s .opens) i (nextNumber s i) (stillOpen (s .setup .desks) (mark (newWrite s i x v) i done))
       (λ z e m. let n = is-this f rose issues z e in
       let o : upd (newWrite s i x v .marks) i done i ≡ held = rw (← n) at m in
       absurd (omega (arith, upd-same (newWrite s i x v .marks) i done)))
       (λ b d z ne e m. rw (upd2-here (s .applied) i i (suc (s .applied i i)))
-      (still (s .desks) (s .applied i) b (z .vector) i (not-own b d z e m) (f .open-write b d z e .issued i) ∙ q b d z e m))
+      (still (s .setup .desks) (s .applied i) b (z .vector) i (not-own b d z e m) (f .open-write b d z e .issued i) ∙ q b d z e m))
     where
       not-own : (b d : ℕ) (z : Open) → s .opens b d ≡ some z → z .marks i ≡ held → b ≢ i
       not-own b d z e m p =
           let l : d ≤ s .applied i b = omega (arith, to-be-open f b d e .number .1, ap (λ (j : ℕ). s .applied j b) p) in
           omega (arith, f .open-write b d z e .marked i hi .1 l)
 
-pub write-rules : {s : State} → Rules s → (i x v : ℕ) → In (s .desks) i → In (s .cells) x → v ≤ most-status
+pub write-rules : {s : State} → Rules s → (i x v : ℕ) → In (s .setup .desks) i → In (s .setup .cells) x → v ≤ most-status
     → written s i < most-writes → openCount s < most-open → Rules (write s i x v)
 write-rules {s} r i x v hi hx hv hw ho = record {
   frame = frame-after (r .frame) i x v hi hx hv hw ho;

@@ -39,7 +39,7 @@ module _ (x : ℕ) where
       record {
         cell = λ j. upd2-other (s .cell) i (w .cell) (set (w .status) u (w .vector)) j x (λ p q. h (sym q)) ∙ b .cell j;
         opens = λ v l. upd2-all (s .opens) u k _ (λ v l o. Elsewhere x o) v l
-            (λ p q. still-cases (Elsewhere x) (s .desks) (mark w i done) (λ e. tt) (λ e. h)) (λ n. b .opens v l);
+            (λ p q. still-cases (Elsewhere x) (s .setup .desks) (mark w i done) (λ e. tt) (λ e. h)) (λ n. b .opens v l);
       }
 
   hold-blank : (s : State) (i u k : ℕ) (w : Open) → w .cell ≢ x → Blank s x → Blank (hold s i u k w) x
@@ -175,7 +175,7 @@ module _ (s : State) (i : ℕ) (xs : List ℕ) where
 -- A trip is its reads --
 
 module _ (i : ℕ) where
-  reads-run : (xs : List ℕ) (s : State) → In (s .desks) i → ((x : ℕ) → List·Memᴰ x xs → In (s .cells) x)
+  reads-run : (xs : List ℕ) (s : State) → In (s .setup .desks) i → ((x : ℕ) → List·Memᴰ x xs → In (s .setup .cells) x)
       → (reads s i xs .state ≡ run (λ s. s) s (map (λ x. take-step (Read i x)) xs)) × (answers s (map (Read i) xs) ≡ map (λ x. shows (shownAt s i x)) xs)
   unfolding reads run answers
   reads-run [] s hi hx = (refl, refl)

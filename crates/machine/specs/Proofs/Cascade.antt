@@ -16,22 +16,22 @@ use Rattle.machine.specs.Proofs.Apply.{Midway, ReadyAt, ready-next, arri
 
 -- the writes that desk i has yet to apply
 unfoldable pub left : State → ℕ → ℕ
-left s i = sum (s .desks) (λ u. written s u - s .applied i u)
+left s i = sum (s .setup .desks) (λ u. written s u - s .applied i u)
 
 pub apply-left : {s : State} {i u k : ℕ} {w : Open} → Frame s → ReadyAt s i u k w → suc (left (apply s i u k w) i) ≡ left s i
 unfolding left
 apply-left {s} {i} {u} {k} {w} f r =
     let n = ready-next f r in
     let a = arrives f r in
-    sym (sum-one (s .desks) (λ t. written (apply s i u k w) t - apply s i u k w .applied i t) (λ t. written s t - s .applied i t) u (n .writer .0) (n .writer .1)
+    sym (sum-one (s .setup .desks) (λ t. written (apply s i u k w) t - apply s i u k w .applied i t) (λ t. written s t - s .applied i t) u (n .writer .0) (n .writer .1)
     (omega (arith, apply-written f r u, here f (s .clock) a, n .next, n .known))
     (λ j ne. omega (arith, apply-written f r j, same f (s .clock) a i j (λ p q. ne q))))
 
 -- what a desk has yet to apply is open
-pub left-few : {s : State} → Frame s → (i : ℕ) → In (s .desks) i → left s i ≤ openCount s
+pub left-few : {s : State} → Frame s → (i : ℕ) → In (s .setup .desks) i → left s i ≤ openCount s
 unfolding left openCount
 left-few {s} f i hi =
-    sum-le (s .desks) _ _
+    sum-le (s .setup .desks) _ _
     (λ u a b. tally-above (written s u) (s .applied i u) (isOpen s u)
     (λ k l m. f .open-exactly u k .1 (record { writer = (a, b); number = (omega arith, m); lacks = record { desk = i; desk-in = hi; lower = l } })))
 
@@ -41,25 +41,25 @@ pub record Found (s : State) (i u : ℕ) : Type 0 where
   pub is-held : entry .marks i ≡ held
   pub at : ReadyAt s i u (suc (s .applied i u)) entry
 
-due-found : {s : State} {i u : ℕ} → In (s .desks) i → (o : Option Open) → s .opens u (suc (s .applied i u)) ≡ o → dueOpen s i u o ≡ true → Found s i u
+due-found : {s : State} {i u : ℕ} → In (s .setup .desks) i → (o : Option Open) → s .opens u (suc (s .applied i u)) ≡ o → dueOpen s i u o ≡ true → Found s i u
 due-found hi none e d = apart true refl (sym d)
 due-found {s} {i} {u} hi (some w) e d =
     let h = says-both _ _ (says-eqb (w .marks i) held) (record { to = λ e. e; from = λ e. e }) .to d in
     record { entry = w; is-held = h .0; at = record { desk = hi; is = e; ready = h .1 } }
 
-pub first-due : {s : State} {i u : ℕ} → In (s .desks) i → firstDue s i ≡ some u → In (s .desks) u × Found s i u
+pub first-due : {s : State} {i u : ℕ} → In (s .setup .desks) i → firstDue s i ≡ some u → In (s .setup .desks) u × Found s i u
 unfolding firstDue
 first-due {s} {i} {u} hi e =
-    let r = scan-found (due s i) (s .desks) 1 u e in
+    let r = scan-found (due s i) (s .setup .desks) 1 u e in
     (omega arith, due-found hi (s .opens u (suc (s .applied i u))) refl (r .2))
 
-pub none-due : {s : State} {i : ℕ} → Frame s → In (s .desks) i → firstDue s i ≡ none → Quiet s i
+pub none-due : {s : State} {i : ℕ} → Frame s → In (s .setup .desks) i → firstDue s i ≡ none → Quiet s i
 unfolding firstDue
 none-due {s} {i} f hi e u k w is m =
-    cases (ready (s .desks) (s .applied i) u (w .vector))
+    cases (ready (s .setup .desks) (s .applied i) u (w .vector))
     (λ y. let n = ready-next f (record { desk = hi; is = is; ready = y }) in
     let d : due s i u ≡ true = rw (n .next, is, m, y) in
-    apart (due s i u) d (scan-none (due s i) (s .desks) 1 e u (n .writer .0) (omega (arith, n .writer .1))))
+    apart (due s i u) d (scan-none (due s i) (s .setup .desks) 1 e u (n .writer .0) (omega (arith, n .writer .1))))
     (λ y. y)
 
 -- the end of the cascade: all the rules hold again
@@ -71,16 +71,16 @@ record Ends (f : ℕ) (s : State) (i : ℕ) (r : Settled) : Type 0 where
   pub rules : left s i ≤ f → Rules (r .state)
   pub names : length (r .names) ≤ left s i
 
-settle-ends : (f : ℕ) {s : State} {i : ℕ} → Midway s i → In (s .desks) i → Ends f s i (settle f s i)
+settle-ends : (f : ℕ) {s : State} {i : ℕ} → Midway s i → In (s .setup .desks) i → Ends f s i (settle f s i)
 unfolding settle
 settle-ends zero {s} {i} m hi = record {
   rules = λ l. quiet-rules m (λ u k w is h.
-      cases (ready (s .desks) (s .applied i) u (w .vector)) (λ y. absurd (omega (arith, apply-left (m .frame) (record { desk = hi; is = is; ready = y })))) (λ y. y));
+      cases (ready (s .setup .desks) (s .applied i) u (w .vector)) (λ y. absurd (omega (arith, apply-left (m .frame) (record { desk = hi; is = is; ready = y })))) (λ y. y));
   names = omega arith;
 }
 settle-ends (suc f) {s} {i} m hi = go (λ s′ m′ h′. settle-ends f {s = s′} m′ h′) (firstDue s i) refl
   where
-    go : ((s′ : State) → Midway s′ i → In (s′ .desks) i → Ends f s′ i (settle f s′ i))
+    go : ((s′ : State) → Midway s′ i → In (s′ .setup .desks) i → Ends f s′ i (settle f s′ i))
         → (r : Option ℕ) → firstDue s i ≡ r → Ends (suc f) s i (settleBy (λ s′. settle f s′ i) s i r)
     go ih none e = record { rules = λ l. quiet-rules m (none-due (m .frame) hi e); names = omega arith }
     go ih (some u) e =
@@ -89,8 +89,8 @@ settle-ends (suc f) {s} {i} m hi = go (λ s′ m′ h′. settle-ends f {s = s�
         let a = apply-left (m .frame) d in
         rw (d .is) (record { rules = λ l. t .rules (omega arith); names = omega (arith, t .names) })
 
-pub settle-rules : (f : ℕ) {s : State} {i : ℕ} → Midway s i → In (s .desks) i → left s i ≤ f → Rules (settle f s i .state)
+pub settle-rules : (f : ℕ) {s : State} {i : ℕ} → Midway s i → In (s .setup .desks) i → left s i ≤ f → Rules (settle f s i .state)
 settle-rules f m hi l = settle-ends f m hi .rules l
 
-pub settle-names : (f : ℕ) {s : State} {i : ℕ} → Midway s i → In (s .desks) i → length (settle f s i .names) ≤ left s i
+pub settle-names : (f : ℕ) {s : State} {i : ℕ} → Midway s i → In (s .setup .desks) i → length (settle f s i .names) ≤ left s i
 settle-names f m hi = settle-ends f m hi .names

@@ -1,4 +1,4 @@
--- The cases of a delivery, of a write that may close, of the cascade and of a trip.
+-- The cases of a delivery, of a write that may close, of the cascade, of a trip and of a step.
 use mathlib.Core.Path.{_≡_, refl}
 use mathlib.Core.Logic.{_≢_}
 use mathlib.Core.Bool.{true, false}
@@ -7,37 +7,37 @@ use mathlib.Core.Option.{Option, none, some}
 use Prim.Native.Nat.{ℕ, zero, suc}
 use native.Mathlib.Omega.{arith}
 use Rattle.laws.specs.Loop.{cases}
-use Rattle.machine.specs.Table.{most-open, name, placeOf, away, Open, State, written}
+use Rattle.machine.specs.Table.{most-open, Vec, name, placeOf, away, Open, Setup, State, written}
 use Rattle.machine.specs.Answer.{Refusal, holds, applies}
-use Rattle.machine.specs.Steps.{Out, refuse, failing, read, everywhere, stillOpen, apply, hold, firstDue, Settled, applyNext, settleBy, settle, deliverBy, reads, Deliver, step}
+use Rattle.machine.specs.Steps.{Out, refuse, failing, read, everywhere, stillOpen, apply, hold, firstDue, Settled, applyNext, settleBy, settle, deliverBy, reads, Step, Read, Write, Deliver, Trip, step}
 use Rattle.machine.specs.Rules.{In}
 use Rattle.machine.specs.Proofs.Refusals.{deliverEffect, step-cases}
 
 -- a delivery that is accepted
 pub record Delivery (s : State) (i u k : ℕ) (w : Open) : Type 0 where
-  pub desk : In (s .desks) i
-  pub writer : In (s .desks) u
+  pub desk : In (s .setup .desks) i
+  pub writer : In (s .setup .desks) u
   pub other : i ≢ u
   pub number : In (written s u) k
   pub is : s .opens u k ≡ some w
   pub is-away : w .marks i ≡ away
 
 pub deliver-cases : (s : State) (i u k : ℕ) (Q : Out → Type 0) → ((r : Refusal) → Q (refuse r s))
-    → ((w : Open) → Delivery s i u k w → (t : ℕ) → failing (s .desks) (s .applied i) u (w .vector) ≡ some t
+    → ((w : Open) → Delivery s i u k w → (t : ℕ) → failing (s .setup .desks) (s .applied i) u (w .vector) ≡ some t
     → Q (record { answer = holds t; state = hold s i u k w }))
-    → ((w : Open) → Delivery s i u k w → failing (s .desks) (s .applied i) u (w .vector) ≡ none
+    → ((w : Open) → Delivery s i u k w → failing (s .setup .desks) (s .applied i) u (w .vector) ≡ none
     → Q (let r : Settled = settle most-open (apply s i u k w) i in record { answer = applies (name u k ∷ r .names); state = r .state }))
     → Q (step s (Deliver i u k))
 deliver-cases s i u k Q refusal f g = step-cases s (Deliver i u k) Q refusal (λ h. at-open (h .0) (h .1 .0) (h .1 .1 .0) (s .opens u k) refl (h .1 .1 .1 .0))
   where
-    by : (w : Open) → Delivery s i u k w → (o : Option ℕ) → failing (s .desks) (s .applied i) u (w .vector) ≡ o → Q (deliverBy s i u k w o)
+    by : (w : Open) → Delivery s i u k w → (o : Option ℕ) → failing (s .setup .desks) (s .applied i) u (w .vector) ≡ o → Q (deliverBy s i u k w o)
     by w d none e = g w d e
     by w d (some t) e = f w d t e
 
-    at-open : In (s .desks) i × In (s .desks) u → i ≢ u → In (written s u) k → (o : Option Open) → s .opens u k ≡ o → placeOf o i ≡ away → Q (deliverEffect s i u k o)
+    at-open : In (s .setup .desks) i × In (s .setup .desks) u → i ≢ u → In (written s u) k → (o : Option Open) → s .opens u k ≡ o → placeOf o i ≡ away → Q (deliverEffect s i u k o)
     at-open hd ho hk none e ha = absurd (omega arith)
     at-open hd ho hk (some w) e ha =
-        by w (record { desk = hd .0; writer = hd .1; other = ho; number = hk; is = e; is-away = ha }) (failing (s .desks) (s .applied i) u (w .vector)) refl
+        by w (record { desk = hd .0; writer = hd .1; other = ho; number = hk; is = e; is-away = ha }) (failing (s .setup .desks) (s .applied i) u (w .vector)) refl
 
 -- a write closes or stays open
 pub still-cases : (P : Option Open → Type 0) (n : ℕ) (w : Open) → (everywhere n w ≡ true → P none) → (everywhere n w ≡ false → P (some w)) → P (stillOpen n w)
@@ -64,3 +64,18 @@ pub reads-keep : (P : State → Type 0) (i : ℕ) → ((s : State) (x : ℕ) →
 unfolding reads
 reads-keep P i h [] s p = p
 reads-keep P i h (x ∷ xs) s p = reads-keep P i h xs (read s i x) (h s x p)
+
+-- what other clocks and open writes keep, and each application, a step keeps
+module _ (P : State → Type 0)
+    (rest : (s : State) (c : ℕ → Vec) (o : ℕ → ℕ → Option Open) → P s → P (record { setup = s .setup; applied = s .applied; clock = c; cell = s .cell; opens = o }))
+    (one : (s : State) (i u k : ℕ) (w : Open) → P s → P (apply s i u k w)) (s : State) (p : P s) where
+  pub step-keeps : (a : Step) → P (step s a .state)
+  step-keeps (Read i x) = step-cases s (Read i x) (λ o. P (o .state)) (λ r. p) (λ h. rest _ _ _ p)
+  step-keeps (Write i x v) = step-cases s (Write i x v) (λ o. P (o .state)) (λ r. p) (λ h. one _ _ _ _ _ (rest _ _ _ p))
+  step-keeps (Deliver i u k) =
+      deliver-cases s i u k (λ o. P (o .state)) (λ r. p) (λ w d t e. rest _ _ _ p)
+      (λ w d e. settle-keeps P i (λ s u k w e q. one s i u k w q) most-open (apply s i u k w) (one s i u k w p))
+  step-keeps (Trip i xs) = step-cases s (Trip i xs) (λ o. P (o .state)) (λ r. p) (λ h. reads-keep P i (λ s x q. rest _ _ _ q) xs s p)
+
+pub setup-stays : (s : State) (a : Step) → step s a .state .setup ≡ s .setup
+setup-stays s = step-keeps (λ z. z .setup ≡ s .setup) (λ z c o e. e) (λ z i u k w e. e) s refl

@@ -82,7 +82,7 @@ says-applied u k (applied w) = record {
 }
 
 module _ {s : State} {h : List Event} (r : Rules s) (b : Traced s h) where
-  pub write-in : {q u k : ℕ} → WriteAt h q u k → In (s .desks) u × In (written s u) k
+  pub write-in : {q u k : ℕ} → WriteAt h q u k → In (s .setup .desks) u × In (written s u) k
   write-in {u = u} w =
       let n = own-known b w in
       let own = r .frame .clocks .own u in
@@ -106,18 +106,18 @@ module _ {s : State} {h : List Event} (r : Rules s) (b : Traced s h) where
       (λ m. b .counts i u k .0 (subst (λ (b : Entry). List·Memᴰ b (deskList i h)) (m .has) (m .among)) .1)
       (λ le. record { element = applied (name u k); among = b .counts i u k .1 (pos, le); has = refl })
 
-  open-lacked : (u k : ℕ) → In (s .desks) u → In (written s u) k → isOpen s u k ≡ someLacks (s .desks) h u k
+  open-lacked : (u k : ℕ) → In (s .setup .desks) u → In (written s u) k → isOpen s u k ≡ someLacks (s .setup .desks) h u k
   open-lacked u k hu hk =
       says-one (isOpen s u k) (lacks s u k)
       (record { to = λ e. r .frame .open-exactly u k .0 e .lacks; from = λ l. r .frame .open-exactly u k .1 (record { writer = hu; number = hk; lacks = l }) }) (says-lacks s u k)
-      ∙ ap not (all-same (λ i. leb k (s .applied i u)) (λ i. any (isApplied u k) (deskList i h)) (s .desks) 1
+      ∙ ap not (all-same (λ i. leb k (s .applied i u)) (λ i. any (isApplied u k) (deskList i h)) (s .setup .desks) 1
       (λ i _ _. says-one _ _ (says-leb k (s .applied i u)) (says-listed i u k (hk .0))))
 
   pub open-observed : OpenObserved s h
   unfolding openCount
   open-observed =
-      sum-same (s .desks) (λ u. tally (writesOf u h) (someLacks (s .desks) h u)) (λ u. tally (written s u) (isOpen s u))
+      sum-same (s .setup .desks) (λ u. tally (writesOf u h) (someLacks (s .setup .desks) h u)) (λ u. tally (written s u) (isOpen s u))
       (λ u a c.
-      sum-same (written s u) (λ k. one (someLacks (s .desks) h u k)) (λ k. one (isOpen s u k)) (λ k d e. ap one (open-lacked u k (a, c) (d, e)))
-      ∙ ap (λ (m : ℕ). tally m (someLacks (s .desks) h u)) (counted u))
-      ∙ sym (writes-by-desk (b .story .ordered .numbered) (s .desks) (λ q u k w. write-in w .0) (someLacks (s .desks) h))
+      sum-same (written s u) (λ k. one (someLacks (s .setup .desks) h u k)) (λ k. one (isOpen s u k)) (λ k d e. ap one (open-lacked u k (a, c) (d, e)))
+      ∙ ap (λ (m : ℕ). tally m (someLacks (s .setup .desks) h u)) (counted u))
+      ∙ sym (writes-by-desk (b .story .ordered .numbered) (s .setup .desks) (λ q u k w. write-in w .0) (someLacks (s .setup .desks) h))

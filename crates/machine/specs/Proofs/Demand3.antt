@@ -48,12 +48,12 @@ module _ {s : State} {h : List Event} (r : Rules s) (b : Observed s h) where
   ordered : Ordered h
   ordered = b .traced .story .ordered
 
-  applied-observed : (i u k q : ℕ) → In (s .desks) i → WriteAt h q u k → (place s i u k ≡ done) ↔ Has (deskList i h) u k
+  applied-observed : (i u k q : ℕ) → In (s .setup .desks) i → WriteAt h q u k → (place s i u k ≡ done) ↔ Has (deskList i h) u k
   applied-observed i u k q hi w =
       let c = write-in r (b .traced) w in
       Iff·trans (done-counted (r .frame) i u k hi (c .0) (c .1)) (λ le. b .traced .counts i u k .1 (c .1 .0, le), λ m. b .traced .counts i u k .0 m .1)
 
-  unreceived : (i u k q : ℕ) → In (s .desks) i → WriteAt h q u k → (place s i u k ≡ away) ↔ (Received h i u k → ⊥)
+  unreceived : (i u k q : ℕ) → In (s .setup .desks) i → WriteAt h q u k → (place s i u k ≡ away) ↔ (Received h i u k → ⊥)
   unreceived i u k q hi w = go (s .opens u k) refl
     where
       go : (o : Option Open) → s .opens u k ≡ o → (place s i u k ≡ away) ↔ (Received h i u k → ⊥)
@@ -90,8 +90,8 @@ module _ {s : State} {h : List Event} (r : Rules s) (b : Observed s h) where
         unapplied = λ m. let y = b .traced .counts i t j .0 m .1 in omega arith;
       }
 
-  held-lacks : (i u k q : ℕ) (x : Open) → In (s .desks) i → WriteAt h q u k → s .opens u k ≡ some x → x .marks i ≡ held → CauseMissing h i q
-  held-lacks i u k q x hi w e m = go (unready (s .desks) (s .applied i) u (x .vector) (r .quiet i u k x e m))
+  held-lacks : (i u k q : ℕ) (x : Open) → In (s .setup .desks) i → WriteAt h q u k → s .opens u k ≡ some x → x .marks i ≡ held → CauseMissing h i q
+  held-lacks i u k q x hi w e m = go (unready (s .setup .desks) (s .applied i) u (x .vector) (r .quiet i u k x e m))
     where
       number : x .vector u ≡ k
       number = r .frame .open-write u k x e .number

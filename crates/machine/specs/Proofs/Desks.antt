@@ -90,11 +90,11 @@ enabled-ready n a u w rest own = ap isNone (scan-empty (fails a u w) some none n
         (λ e. rw (eq-eqb t u e, fails) (rw (eq-eqb (suc (a u)) (w u) own)))
         (λ e. rw (ne-eqb t u e, fails) (le-ltb (a t) (w t) (rest t h e)))
 
-pub quiet-idle : (s : State) (j : ℕ) → Quiet s j → Idle (s .desks) (desk s j)
+pub quiet-idle : (s : State) (j : ℕ) → Quiet s j → Idle (s .setup .desks) (desk s j)
 quiet-idle s j q u k m e en =
     let w = waits (s .opens u k) e in
-    apart (ready (s .desks) (s .applied j) u (w .entry .vector))
-    (enabled-ready (s .desks) (s .applied j) u (w .entry .vector) (rw (w .message) at (en .others)) (rw (w .message) at (en .own)))
+    apart (ready (s .setup .desks) (s .applied j) u (w .entry .vector))
+    (enabled-ready (s .setup .desks) (s .applied j) u (w .entry .vector) (rw (w .message) at (en .others)) (rw (w .message) at (en .own)))
     (q u k (w .entry) (w .is) (w .is-held))
 
 -- Read --
@@ -170,12 +170,12 @@ module _ (s : State) (i u k : ℕ) (w : Open) where
       → resume u (messageOf u w) (set-all q (desk s i)) ≡ desk (apply s i u k w) i
   resume-here q e same =
       process-is count-here refl (cell-here vectorOf) (cell-here valueOf)
-      (rw e (marked-set held (s .opens) u k _ i q none (applied-here (s .desks) held i u w (omega arith)) same))
+      (rw e (marked-set held (s .opens) u k _ i q none (applied-here (s .setup .desks) held i u w (omega arith)) same))
 
-  pub apply-there : Flat (s .desks) (w .marks) → (j : ℕ) → j ≢ i → waitingOf j u (some w) ≡ waitingOf j u (s .opens u k) → desk (apply s i u k w) j ≡ desk s j
+  pub apply-there : Flat (s .setup .desks) (w .marks) → (j : ℕ) → j ≢ i → waitingOf j u (some w) ≡ waitingOf j u (s .opens u k) → desk (apply s i u k w) j ≡ desk s j
   apply-there flat j ne was =
       process-is (upd2-row (s .applied) i u _ j ne) refl (cell-there vectorOf j ne) (cell-there valueOf j ne)
-      (marked-kept held (s .opens) u k _ j (applied-there (s .desks) held i u w (omega arith) j (λ h. flat j (omega (arith, h))) ne ∙ was))
+      (marked-kept held (s .opens) u k _ j (applied-there (s .setup .desks) held i u w (omega arith) j (λ h. flat j (omega (arith, h))) ne ∙ was))
 
 -- Write --
 
@@ -184,7 +184,7 @@ module _ (s : State) (i x v : ℕ) (new : s .opens i (nextNumber s i) ≡ none) 
   write-here =
       process-is (count-here (raise s i) i i (nextNumber s i) (newWrite s i x v)) (sym (upd-same (s .clock) i _))
       (cell-here (raise s i) i i (nextNumber s i) (newWrite s i x v) vectorOf) (cell-here (raise s i) i i (nextNumber s i) (newWrite s i x v) valueOf)
-      (sym (marked-kept held (s .opens) i (nextNumber s i) _ i (applied-here (s .desks) held i i (newWrite s i x v) (omega arith) ∙ ap (waitingOf i i) (sym new))))
+      (sym (marked-kept held (s .opens) i (nextNumber s i) _ i (applied-here (s .setup .desks) held i i (newWrite s i x v) (omega arith) ∙ ap (waitingOf i i) (sym new))))
 
   pub write-there : (j : ℕ) → j ≢ i → desk (write s i x v) j ≡ desk s j
   write-there j ne =

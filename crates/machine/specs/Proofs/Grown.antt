@@ -15,19 +15,19 @@ use Rattle.machine.specs.Proofs.Ready.{not-both}
 
 -- of one write: "it is marked 1 only if not ready"
 abbrev pub Waits : State → ℕ → ℕ → Open → Type 0
-Waits s j u w = w .marks j ≡ held → ready (s .desks) (s .applied j) u (w .vector) ≡ false
+Waits s j u w = w .marks j ≡ held → ready (s .setup .desks) (s .applied j) u (w .vector) ≡ false
 
 -- the rules for the mark p of the write u.k with vector v at desk j
 pub record MarkAt (s : State) (u k : ℕ) (v : Vec) (j p : ℕ) : Type 0 where
   pub small : p ≤ done
-  pub flat : 1 ≤ p → In (s .desks) j
-  pub marked : In (s .desks) j → (p ≡ done) ↔ (k ≤ s .applied j u)
+  pub flat : 1 ≤ p → In (s .setup .desks) j
+  pub marked : In (s .setup .desks) j → (p ≡ done) ↔ (k ≤ s .applied j u)
   pub below : p ≡ done → Below v (s .applied j)
 
 pub marks-of : {s : State} {u k : ℕ} {w : Open} → OpenWrite s u k w → (j : ℕ) → MarkAt s u k (w .vector) j (w .marks j)
 marks-of o j = record { small = o .marks-in j; flat = o .marks-flat j; marked = o .marked j; below = o .below j }
 
-pub open-of : {s : State} {u k : ℕ} {w : Open} → In (s .cells) (w .cell) → w .status ≤ most-status → w .vector u ≡ k → Issued s (w .vector)
+pub open-of : {s : State} {u k : ℕ} {w : Open} → In (s .setup .cells) (w .cell) → w .status ≤ most-status → w .vector u ≡ k → Issued s (w .vector)
     → ((j : ℕ) → MarkAt s u k (w .vector) j (w .marks j)) → OpenWrite s u k w
 open-of c v n i m = record {
   cell = c;
@@ -41,17 +41,16 @@ open-of c v n i m = record {
 }
 
 pub record Grown (s s′ : State) : Type 0 where
-  pub desks : s′ .desks ≡ s .desks
-  pub cells : s′ .cells ≡ s .cells
+  pub setup : s′ .setup ≡ s .setup
   pub more : (j t : ℕ) → s .applied j t ≤ s′ .applied j t
 
 module _ {s s′ : State} (g : Grown s s′) where
   pub cell-grown : {i x v u : ℕ} {w : Vec} → SetCell s i x v u w → SetCell s′ i x v u w
   cell-grown {i} {x} {v} {u} {w} c = record {
-    desk = rw (g .desks) (c .desk);
-    cell = rw (g .cells) (c .cell);
+    desk = rw (g .setup) (c .desk);
+    cell = rw (g .setup) (c .cell);
     status-in = c .status-in;
-    writer-in = rw (g .desks) (c .writer-in);
+    writer-in = rw (g .setup) (c .writer-in);
     below = λ t. omega (arith, c .below t, g .more i t);
     first = c .first;
     issued = λ t. omega (arith, c .issued t, g .more t t);
@@ -61,8 +60,8 @@ module _ {s s′ : State} (g : Grown s s′) where
   pub mark-grown : {a c j p : ℕ} {v : Vec} → (c ≤ s′ .applied j a → c ≤ s .applied j a) → MarkAt s a c v j p → MarkAt s′ a c v j p
   mark-grown {a} {c} {j} {p} down m = record {
     small = m .small;
-    flat = λ h. rw (g .desks) (m .flat h);
-    marked = λ h. (let b = m .marked (rw (g .desks) at h) in (λ e. omega (arith, b .0 e, g .more j a), λ l. b .1 (down l)));
+    flat = λ h. rw (g .setup) (m .flat h);
+    marked = λ h. (let b = m .marked (rw (g .setup) at h) in (λ e. omega (arith, b .0 e, g .more j a), λ l. b .1 (down l)));
     below = λ e t. omega (arith, m .below e t, g .more j t);
   }
 
@@ -73,19 +72,19 @@ module _ {s s′ : State} (g : Grown s s′) where
 
     pub open-grown : {w : Open} → OpenWrite s a c w → OpenWrite s′ a c w
     open-grown {w} o =
-        open-of (rw (g .cells) (o .cell)) (o .status-in) (o .number) (λ t. omega (arith, o .issued t, g .more t t)) (λ j. mark-grown (down j) (marks-of o j))
+        open-of (rw (g .setup) (o .cell)) (o .status-in) (o .number) (λ t. omega (arith, o .issued t, g .more t t)) (λ j. mark-grown (down j) (marks-of o j))
 
     pub exactly-grown : ToBeOpen s a c ↔ ToBeOpen s′ a c
     exactly-grown = (
       (λ o. let l = o .lacks in record {
-        writer = rw (g .desks) (o .writer);
+        writer = rw (g .setup) (o .writer);
         number = (o .number .0, omega (arith, o .number .1, g .more a a));
-        lacks = record { desk = l .desk; desk-in = rw (g .desks) (l .desk-in); lower = up (l .desk) (l .lower) };
+        lacks = record { desk = l .desk; desk-in = rw (g .setup) (l .desk-in); lower = up (l .desk) (l .lower) };
       }),
       (λ o. let l = o .lacks in record {
-        writer = rw (g .desks) at (o .writer);
+        writer = rw (g .setup) at (o .writer);
         number = (o .number .0, down a (o .number .1));
-        lacks = record { desk = l .desk; desk-in = rw (g .desks) at (l .desk-in); lower = omega (arith, l .lower, g .more (l .desk) a) };
+        lacks = record { desk = l .desk; desk-in = rw (g .setup) at (l .desk-in); lower = omega (arith, l .lower, g .more (l .desk) a) };
       }),
     )
 
@@ -108,12 +107,12 @@ fresh-rules n m hn hm = record {
 -- a read --
 
 abbrev pub clocked : State → (ℕ → Vec) → State
-clocked s c = record { desks = s .desks; cells = s .cells; applied = s .applied; clock = c; cell = s .cell; opens = s .opens }
+clocked s c = record { setup = s .setup; applied = s .applied; clock = c; cell = s .cell; opens = s .opens }
 
 clocked-frame : {s : State} → Frame s → (c : ℕ → Vec) → Clocks (clocked s c) → Frame (clocked s c)
 unfolding openCount
 clocked-frame {s} f c h =
-    let g : Grown s (clocked s c) = record { desks = refl; cells = refl; more = λ j t. omega arith } in
+    let g : Grown s (clocked s c) = record { setup = refl; more = λ j t. omega arith } in
     record {
       ranges = record { desks = f .ranges .desks; cells = f .ranges .cells; written = f .ranges .written; few = f .ranges .few };
       counts = record { inside = f .counts .inside; most = f .counts .most };
@@ -148,8 +147,8 @@ read-rules {s} r i x = record {
 
 -- a hold --
 
-pub hold-rules : {s : State} → Rules s → (i u k : ℕ) (w : Open) → In (s .desks) i → s .opens u k ≡ some w → w .marks i ≡ away
-    → ready (s .desks) (s .applied i) u (w .vector) ≡ false → Rules (hold s i u k w)
+pub hold-rules : {s : State} → Rules s → (i u k : ℕ) (w : Open) → In (s .setup .desks) i → s .opens u k ≡ some w → w .marks i ≡ away
+    → ready (s .setup .desks) (s .applied i) u (w .vector) ≡ false → Rules (hold s i u k w)
 unfolding openCount
 hold-rules {s} r i u k w hi e ma nr = record {
   frame = record {
@@ -157,7 +156,7 @@ hold-rules {s} r i u k w hi e ma nr = record {
       desks = f .ranges .desks;
       cells = f .ranges .cells;
       written = f .ranges .written;
-      few = rw (ap (λ (p : ℕ → ℕ → Bool). sum (s .desks) (λ u. tally (written s u) (p u))) (fun-ext (λ a. fun-ext (same-open a)))) (f .ranges .few);
+      few = rw (ap (λ (p : ℕ → ℕ → Bool). sum (s .setup .desks) (λ u. tally (written s u) (p u))) (fun-ext (λ a. fun-ext (same-open a)))) (f .ranges .few);
     };
     counts = record { inside = f .counts .inside; most = f .counts .most };
     clocks = record { below = f .clocks .below; own = f .clocks .own };
@@ -178,7 +177,7 @@ hold-rules {s} r i u k w hi e ma nr = record {
     f = r .frame
 
     g : Grown s (hold s i u k w)
-    g = record { desks = refl; cells = refl; more = λ j t. omega arith }
+    g = record { setup = refl; more = λ j t. omega arith }
 
     same-open : (a c : ℕ) → isOpen (hold s i u k w) a c ≡ isOpen s a c
     same-open a c =
@@ -201,6 +200,6 @@ hold-rules {s} r i u k w hi e ma nr = record {
 
     quiet-this : (j : ℕ) → Waits s j u (mark w i held)
     quiet-this j =
-        upd-all (w .marks) i held (λ j m. m ≡ held → ready (s .desks) (s .applied j) u (w .vector) ≡ false) j
+        upd-all (w .marks) i held (λ j m. m ≡ held → ready (s .setup .desks) (s .applied j) u (w .vector) ≡ false) j
         (λ p q. rw p nr)
         (λ p q. r .quiet j u k w e q)

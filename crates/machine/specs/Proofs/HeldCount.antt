@@ -23,42 +23,42 @@ use Rattle.machine.specs.Proofs.Refusals.{step-cases}
 
 -- at how many desks u.k is held
 abbrev pub heldAt : State → ℕ → ℕ → ℕ
-heldAt s u k = tally (s .desks) (λ i. eqb (place s i u k) held)
+heldAt s u k = tally (s .setup .desks) (λ i. eqb (place s i u k) held)
 
 -- the same of all accepted writes together: how many deliveries were received and wait
 unfoldable pub heldCount : State → ℕ
-heldCount s = sum (s .desks) (λ u. sum (written s u) (heldAt s u))
+heldCount s = sum (s .setup .desks) (λ u. sum (written s u) (heldAt s u))
 
 -- a write is held at most where it is open, and not at its writer --
 
-held-open : {s : State} → Frame s → (u k : ℕ) → In (s .desks) u → In (written s u) k → heldAt s u k ≤ (most-desks - 1) * one (isOpen s u k)
+held-open : {s : State} → Frame s → (u k : ℕ) → In (s .setup .desks) u → In (written s u) k → heldAt s u k ≤ (most-desks - 1) * one (isOpen s u k)
 held-open {s} f u k hu hk = go (s .opens u k) refl
   where
     go : (o : Option Open) → s .opens u k ≡ o → heldAt s u k ≤ (most-desks - 1) * one (isOpen s u k)
-    go none e = rw (e, tally-none (s .desks) (λ i. eqb done held) (λ i. refl)) (omega arith)
+    go none e = rw (e, tally-none (s .setup .desks) (λ i. eqb done held) (λ i. refl)) (omega arith)
     go (some w) e =
         let m : w .marks u ≡ done = f .open-write u k w e .marked u hu .1 (hk .1) in
-        rw e (omega (arith, tally-miss (s .desks) (λ i. eqb (w .marks i) held) u (hu .0) (hu .1) (rw m), f .ranges .desks .1))
+        rw e (omega (arith, tally-miss (s .setup .desks) (λ i. eqb (w .marks i) held) u (hu .0) (hu .1) (rw m), f .ranges .desks .1))
 
 pub held-few : {s : State} → Frame s → heldCount s ≤ (most-desks - 1) * most-open
 unfolding heldCount openCount
 held-few {s} f =
     let d : ℕ = most-desks - 1 in
-    let a : heldCount s ≤ sum (s .desks) (λ u. d * tally (written s u) (isOpen s u)) =
-    sum-le (s .desks) _ _ (λ u x y. rw (← sum-times (written s u) d (λ k. one (isOpen s u k)))
+    let a : heldCount s ≤ sum (s .setup .desks) (λ u. d * tally (written s u) (isOpen s u)) =
+    sum-le (s .setup .desks) _ _ (λ u x y. rw (← sum-times (written s u) d (λ k. one (isOpen s u k)))
     (sum-le (written s u) _ _ (λ k v w. held-open f u k (x, y) (v, w)))) in
-    omega (arith, sum-times (s .desks) d (λ u. tally (written s u) (isOpen s u)), f .ranges .few)
+    omega (arith, sum-times (s .setup .desks) d (λ u. tally (written s u) (isOpen s u)), f .ranges .few)
 
 pub fresh-held : (n m : ℕ) → heldCount (fresh n m) ≡ 0
 unfolding heldCount sum
 fresh-held n m = sum-zero n
 
 -- one write is held at d desks more, and no other is touched
-held-one : (s s′ : State) (u k d : ℕ) → s′ .desks ≡ s .desks → ((t : ℕ) → written s′ t ≡ written s t) → In (s .desks) u → In (written s u) k
+held-one : (s s′ : State) (u k d : ℕ) → s′ .setup .desks ≡ s .setup .desks → ((t : ℕ) → written s′ t ≡ written s t) → In (s .setup .desks) u → In (written s u) k
     → ((t j : ℕ) → (t ≡ u → j ≡ k → ⊥) → s .opens t j ≡ s′ .opens t j) → heldAt s u k ≡ d + heldAt s′ u k → heldCount s ≡ d + heldCount s′
 unfolding heldCount
 held-one s s′ u k d es ew hu hk eo e =
-    sum-more (s .desks) (λ t. sum (written s′ t) (heldAt s′ t)) (λ t. sum (written s t) (heldAt s t)) u d (hu .0) (hu .1)
+    sum-more (s .setup .desks) (λ t. sum (written s′ t) (heldAt s′ t)) (λ t. sum (written s t) (heldAt s t)) u d (hu .0) (hu .1)
     (rw (ew u) (sum-more (written s u) (heldAt s′ u) (heldAt s u) k d (hk .0) (hk .1) e (λ j n. other u j (λ _ q. n q))))
     (λ t n. rw (ew t) (sum-same (written s t) (heldAt s′ t) (heldAt s t) (λ j _ _. other t j (λ q _. n q))))
     ∙ ap (λ (n : ℕ). d + sum n (λ t. sum (written s′ t) (heldAt s′ t))) (sym es)
@@ -81,10 +81,10 @@ pub apply-held : {s : State} {i u k : ℕ} {w : Open} → Frame s → ReadyAt s 
 apply-held {s} {i} {u} {k} {w} f r =
     let b = to-be-open f u k (r .is) in
     held-one s (apply s i u k w) u k (one (eqb (w .marks i) held)) refl (apply-written f r) (b .writer) (b .number)
-    (λ t j n. sym (upd2-other (s .opens) u k (stillOpen (s .desks) (mark w i done)) t j n))
-    (rw (r .is, upd2-same (s .opens) u k (stillOpen (s .desks) (mark w i done)))
-    (marks-one (s .desks) i done (w .marks) (r .desk) (λ e. omega arith)
-    ∙ ap (λ (x : ℕ). one (eqb (w .marks i) held) + x) (sum-same (s .desks) _ _ (λ j x y. rw (still-place (s .desks) (mark w i done) j (x, y))))))
+    (λ t j n. sym (upd2-other (s .opens) u k (stillOpen (s .setup .desks) (mark w i done)) t j n))
+    (rw (r .is, upd2-same (s .opens) u k (stillOpen (s .setup .desks) (mark w i done)))
+    (marks-one (s .setup .desks) i done (w .marks) (r .desk) (λ e. omega arith)
+    ∙ ap (λ (x : ℕ). one (eqb (w .marks i) held) + x) (sum-same (s .setup .desks) _ _ (λ j x y. rw (still-place (s .setup .desks) (mark w i done) j (x, y))))))
 
 hold-held : {s : State} {i u k : ℕ} {w : Open} → Delivery s i u k w → heldCount (hold s i u k w) ≡ suc (heldCount s)
 hold-held {s} {i} {u} {k} {w} d =
@@ -95,20 +95,20 @@ hold-held {s} {i} {u} {k} {w} d =
           (rw (d .is, upd2-same (s .opens) u k (some (mark w i held))) more),
     )
   where
-    more : tally (s .desks) (λ j. eqb (upd (w .marks) i held j) held) ≡ 1 + tally (s .desks) (λ j. eqb (w .marks j) held)
+    more : tally (s .setup .desks) (λ j. eqb (upd (w .marks) i held j) held) ≡ 1 + tally (s .setup .desks) (λ j. eqb (w .marks j) held)
     more =
-        sum-more (s .desks) _ _ i 1 (d .desk .0) (d .desk .1)
+        sum-more (s .setup .desks) _ _ i 1 (d .desk .0) (d .desk .1)
         (rw (upd-same (w .marks) i held, d .is-away))
         (λ j q. rw (upd-other (w .marks) i held j q))
 
 -- a write is held nowhere at first
-write-held : {s : State} → Frame s → (i x v : ℕ) → In (s .desks) i → In (s .cells) x → v ≤ most-status → heldCount (write s i x v) ≡ heldCount s
+write-held : {s : State} → Frame s → (i x v : ℕ) → In (s .setup .desks) i → In (s .setup .cells) x → v ≤ most-status → heldCount (write s i x v) ≡ heldCount s
 unfolding heldCount sum
 write-held {s} f i x v hi hx hv =
-    sum-same (s .desks) (λ u. sum (written s u) (heldAt s u)) (λ u. sum (written (write s i x v) u) (heldAt (write s i x v) u)) (λ u _ _. row u)
+    sum-same (s .setup .desks) (λ u. sum (written s u) (heldAt s u)) (λ u. sum (written (write s i x v) u) (heldAt (write s i x v) u)) (λ u _ _. row u)
   where
     new : Option Open
-    new = stillOpen (s .desks) (mark (newWrite s i x v) i done)
+    new = stillOpen (s .setup .desks) (mark (newWrite s i x v) i done)
 
     old-row : (u : ℕ) → ((j : ℕ) → j ≤ written s u → u ≡ i → j ≡ nextNumber s i → ⊥) → sum (written s u) (heldAt (write s i x v) u) ≡ sum (written s u) (heldAt s u)
     old-row u ne = sum-same (written s u) (heldAt s u) (heldAt (write s i x v) u) (λ j _ l. rw (upd2-other (s .opens) i (nextNumber s i) new u j (ne j l)))
@@ -116,9 +116,9 @@ write-held {s} f i x v hi hx hv =
     first : heldAt (write s i x v) i (nextNumber s i) ≡ 0
     first =
         rw (upd2-same (s .opens) i (nextNumber s i) new)
-        (sum-same (s .desks) (λ j. 0) _ (λ j a b. rw (still-place (s .desks) (mark (newWrite s i x v) i done) j (a, b))
+        (sum-same (s .setup .desks) (λ j. 0) _ (λ j a b. rw (still-place (s .setup .desks) (mark (newWrite s i x v) i done) j (a, b))
         (same-or j i (λ e. rw (e, upd-same (newWrite s i x v .marks) i done)) (λ e. rw (upd-other (newWrite s i x v .marks) i done j e))))
-        ∙ sum-zero (s .desks))
+        ∙ sum-zero (s .setup .desks))
 
     row : (u : ℕ) → sum (written (write s i x v) u) (heldAt (write s i x v) u) ≡ sum (written s u) (heldAt s u)
     row u =
@@ -143,19 +143,19 @@ reads-held s i xs = reads-keep (λ t. heldCount t ≡ heldCount s) i (λ t x e. 
 
 -- u.k was written
 abbrev pub Made : State → Name → Type 0
-Made s w = In (s .desks) (w .writer) × In (written s (w .writer)) (w .number)
+Made s w = In (s .setup .desks) (w .writer) × In (written s (w .writer)) (w .number)
 
 -- the cascade: each name is that of a write that was held
 record Freed (s : State) (r : Settled) : Type 0 where
   names : Each (Made s) (r .names)
   count : heldCount s ≡ length (r .names) + heldCount (r .state)
 
-settle-held : (f : ℕ) {s : State} {i : ℕ} → Midway s i → In (s .desks) i → Freed s (settle f s i)
+settle-held : (f : ℕ) {s : State} {i : ℕ} → Midway s i → In (s .setup .desks) i → Freed s (settle f s i)
 unfolding settle
 settle-held zero m hi = record { names = no; count = omega arith }
 settle-held (suc f) {s} {i} m hi = go (λ s′ m′ h′. settle-held f {s = s′} m′ h′) (firstDue s i) refl
   where
-    go : ((s′ : State) → Midway s′ i → In (s′ .desks) i → Freed s′ (settle f s′ i)) → (r : Option ℕ) → firstDue s i ≡ r → Freed s (settleBy (λ s′. settle f s′ i) s i r)
+    go : ((s′ : State) → Midway s′ i → In (s′ .setup .desks) i → Freed s′ (settle f s′ i)) → (r : Option ℕ) → firstDue s i ≡ r → Freed s (settleBy (λ s′. settle f s′ i) s i r)
     go ih none e = record { names = no; count = omega arith }
     go ih (some u) e =
         let d = first-due hi e .1 in
@@ -174,7 +174,7 @@ Counted s began s′ = heldCount s′ ≡ heldCount s
 Counted s (shows unset) s′ = heldCount s′ ≡ heldCount s
 Counted s (shows (shown v u k)) s′ = (v ≤ most-status) × (Made s (name u k) × (heldCount s′ ≡ heldCount s))
 Counted s (wrote w) s′ = Made s′ w × (heldCount s′ ≡ heldCount s)
-Counted s (holds t) s′ = In (s .desks) t × (heldCount s′ ≡ suc (heldCount s))
+Counted s (holds t) s′ = In (s .setup .desks) t × (heldCount s′ ≡ suc (heldCount s))
 Counted s (applies l) s′ = Each (Made s) l × (heldCount s′ + length l ≡ suc (heldCount s))
 Counted s (judged v) s′ = heldCount s′ ≡ heldCount s
 Counted s (refused r) s′ = heldCount s′ ≡ heldCount s
@@ -193,7 +193,7 @@ step-counted {s} r (Write i x v) =
     ((h .0, omega (arith, here (r .frame) (raise s i .clock) a)), write-held (r .frame) i x v (h .0) (h .1 .0) (h .1 .1 .0)))
 step-counted {s} r (Deliver i u k) =
     deliver-cases s i u k (λ o. Counted s (o .answer) (o .state)) (λ _. refl)
-    (λ w d t e. (failing-at (s .desks) (s .applied i) u (w .vector) t e .0, hold-held d))
+    (λ w d t e. (failing-at (s .setup .desks) (s .applied i) u (w .vector) t e .0, hold-held d))
     (λ w d e. let at : ReadyAt s i u k w = record { desk = d .desk; is = d .is; ready = rw e } in
     let t = settle-held most-open (apply-midway (record { frame = r .frame; quiet = λ j _. r .quiet j }) at) (d .desk) in
     let a : heldCount s ≡ 0 + heldCount (apply s i u k w) = rw (d .is-away) at (apply-held (r .frame) at) in (

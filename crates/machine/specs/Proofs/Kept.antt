@@ -46,8 +46,8 @@ need-kept : {s : State} {o : Out} (b : Bool) (n : Refusal) → Rules s → (b �
 need-kept true n r h = h refl
 need-kept false n r h = record { rules = r; few = omega arith }
 
-module _ {s : State} (r : Rules s) (i u k : ℕ) (hi : In (s .desks) i) where
-  deliver-by : (w : Open) → s .opens u k ≡ some w → w .marks i ≡ away → (t : Option ℕ) → failing (s .desks) (s .applied i) u (w .vector) ≡ t
+module _ {s : State} (r : Rules s) (i u k : ℕ) (hi : In (s .setup .desks) i) where
+  deliver-by : (w : Open) → s .opens u k ≡ some w → w .marks i ≡ away → (t : Option ℕ) → failing (s .setup .desks) (s .applied i) u (w .vector) ≡ t
       → Kept (deliverBy s i u k w t)
   deliver-by w is m (some t) e = record { rules = hold-rules r i u k w hi is m (rw e); few = omega arith }
   deliver-by w is m none e =
@@ -62,36 +62,36 @@ module _ {s : State} (r : Rules s) (i u k : ℕ) (hi : In (s .desks) i) where
 
   deliver-open : (o : Option Open) → s .opens u k ≡ o → Kept (deliverOpen s i u k o)
   deliver-open none e = record { rules = r; few = omega arith }
-  deliver-open (some w) e = need-kept _ _ r (λ m. deliver-by w e (eqb-true _ _ m) (failing (s .desks) (s .applied i) u (w .vector)) refl)
+  deliver-open (some w) e = need-kept _ _ r (λ m. deliver-by w e (eqb-true _ _ m) (failing (s .setup .desks) (s .applied i) u (w .vector)) refl)
 
 step-kept : {s : State} → Rules s → (a : Step) → Kept (step s a)
 unfolding step
 step-kept {s} r (Read i x) =
-    need-kept (within (s .desks) i) _ r (λ hi.
-    need-kept (within (s .cells) x) _ r (λ hx.
+    need-kept (within (s .setup .desks) i) _ r (λ hi.
+    need-kept (within (s .setup .cells) x) _ r (λ hx.
     record { rules = read-rules r i x; few = omega arith }))
 step-kept {s} r (Write i x v) =
-    need-kept (within (s .desks) i) _ r (λ hi.
-    need-kept (within (s .cells) x) _ r (λ hx.
+    need-kept (within (s .setup .desks) i) _ r (λ hi.
+    need-kept (within (s .setup .cells) x) _ r (λ hx.
     need-kept (leb v most-status) _ r (λ hv.
     need-kept (ltb (written s i) most-writes) _ r (λ hw.
     need-kept (ltb (openCount s) most-open) _ r (λ ho.
     record {
       rules =
-          write-rules r i x v (says-within (s .desks) i .to hi) (says-within (s .cells) x .to hx) (leb-true v most-status hv)
+          write-rules r i x v (says-within (s .setup .desks) i .to hi) (says-within (s .setup .cells) x .to hx) (leb-true v most-status hv)
           (ltb-true (written s i) most-writes hw) (ltb-true (openCount s) most-open ho);
       few = omega arith;
     })))))
 step-kept {s} r (Deliver i u k) =
-    need-kept (within (s .desks) i && within (s .desks) u) _ r (λ hd.
+    need-kept (within (s .setup .desks) i && within (s .setup .desks) u) _ r (λ hd.
     need-kept (not (eqb i u)) _ r (λ ho.
     need-kept (within (written s u) k) _ r (λ hk.
-    let h = says-both (within (s .desks) i) (within (s .desks) u) (says-within (s .desks) i) (says-within (s .desks) u) .to hd in
+    let h = says-both (within (s .setup .desks) i) (within (s .setup .desks) u) (says-within (s .setup .desks) i) (says-within (s .setup .desks) u) .to hd in
     deliver-open r i u k (h .0) (s .opens u k) refl)))
 step-kept {s} r (Trip i xs) =
-    need-kept (within (s .desks) i) _ r (λ hi.
+    need-kept (within (s .setup .desks) i) _ r (λ hi.
     need-kept (within most-trip (length xs)) _ r (λ h9.
-    need-kept (every (within (s .cells)) xs) _ r (λ hx.
+    need-kept (every (within (s .setup .cells)) xs) _ r (λ hx.
     record { rules = reads-rules r i xs; few = omega arith })))
 
 -- the theorems --
@@ -102,7 +102,7 @@ step-keeps-rules r a = step-kept r a .rules
 pub at-most-64-applied : {s : State} → Rules s → (a : Step) (l : List Name) → step s a .answer ≡ applies l → length l ≤ most-open
 at-most-64-applied {s} r a l e = let h : length (named (step s a .answer)) ≤ most-open = step-kept r a .few in rw e at h
 
-pub done-counted : {s : State} → Frame s → (i u k : ℕ) → In (s .desks) i → In (s .desks) u → In (written s u) k
+pub done-counted : {s : State} → Frame s → (i u k : ℕ) → In (s .setup .desks) i → In (s .setup .desks) u → In (written s u) k
     → (place s i u k ≡ done) ↔ (k ≤ s .applied i u)
 done-counted {s} f i u k hi hu hk = go (s .opens u k) refl
   where
@@ -116,7 +116,7 @@ done-counted {s} f i u k hi hu hk = go (s .opens u k) refl
     go (some w) e = rw e (f .open-write u k w e .marked i hi)
 
 -- "At each desk every accepted write is in exactly one place": the places are three different numbers
-pub one-place : {s : State} → Rules s → (i u k : ℕ) → In (s .desks) i → In (s .desks) u → In (written s u) k
+pub one-place : {s : State} → Rules s → (i u k : ℕ) → In (s .setup .desks) i → In (s .setup .desks) u → In (written s u) k
     → (place s i u k ≡ away) ⊎ ((place s i u k ≡ held) ⊎ (place s i u k ≡ done))
 one-place {s} r i u k hi hu hk = go (s .opens u k) refl
   where

@@ -65,12 +65,12 @@ module _ {s : State} {h : List Event} (f : Frame s) (b : Observed s h) (i x v : 
     rest = λ t ne. rw (upd-other (s .clock i) i (nextNumber s i) t ne) (f .clocks .below i t);
   }
 
-  write-marked : Marked (upd2 (s .opens) i (nextNumber s i) (stillOpen (s .desks) (mark (newWrite s i x v) i done))) (add h (writeOf s i x v))
+  write-marked : Marked (upd2 (s .opens) i (nextNumber s i) (stillOpen (s .setup .desks) (mark (newWrite s i x v) i done))) (add h (writeOf s i x v))
   write-marked = record {
     sent = m .sent;
     got = m .got;
-    marks = marks-put i i (nextNumber s i) done (newWrite s i x v) (its-own refl) (λ z. omega arith) (stillOpen (s .desks) (mark (newWrite s i x v) i done))
-        (still-is (s .desks) (mark (newWrite s i x v) i done)) (λ u′ k′ w′ _ q. m .marks u′ k′ w′ q)
+    marks = marks-put i i (nextNumber s i) done (newWrite s i x v) (its-own refl) (λ z. omega arith) (stillOpen (s .setup .desks) (mark (newWrite s i x v) i done))
+        (still-is (s .setup .desks) (mark (newWrite s i x v) i done)) (λ u′ k′ w′ _ q. m .marks u′ k′ w′ q)
         (λ j ne. record { not-yet = λ _ a. unsent j ne (received-less h (writeOf s i x v) (λ q. clash (cc)) a); came = λ z. absurd (z refl) });
   }
     where
@@ -112,7 +112,7 @@ module _ {s : State} {h : List Event} {i u k : ℕ} {w : Open} (f : Frame s) (b 
       record {
         traced = traced-apply t i u k w (t .opens u k w (y .is)) ready-due;
         marked = marked-add (add h (receive-at i (name u k))) (apply-at i (name u k))
-            (marked-receive i u k done w (λ z. omega arith) (stillOpen (s .desks) (mark w i done)) (still-is (s .desks) (mark w i done)) (b .marked) (y .is) (g .place) (origin-write g))
+            (marked-receive i u k done w (λ z. omega arith) (stillOpen (s .setup .desks) (mark w i done)) (still-is (s .setup .desks) (mark w i done)) (b .marked) (y .is) (g .place) (origin-write g))
             (λ j u k q. clash (cc))
             (λ j u′ k′ q. delivered (length h) (let z : receive-at i (name u k) ≡ receive-at j (name u′ k′) = cc in rw (← z) (at-new h (receive-at i (name u k)))));
       }
@@ -124,7 +124,7 @@ module _ {s : State} {h : List Event} {i u k : ℕ} {w : Open} (f : Frame s) (b 
       record {
         traced = traced-apply (b .traced) i u k w (b .traced .opens u k w (y .is)) ready-due;
         marked = marked-add h (apply-at i (name u k))
-            (marked-put i u k done w got (λ z. omega arith) (stillOpen (s .desks) (mark w i done)) (still-is (s .desks) (mark w i done)) (b .marked) (y .is))
+            (marked-put i u k done w got (λ z. omega arith) (stillOpen (s .setup .desks) (mark w i done)) (still-is (s .setup .desks) (mark w i done)) (b .marked) (y .is))
             (λ j u k q. clash (cc))
             (λ j u′ k′ q.
             let ej : i ≡ j = cc in

@@ -7,7 +7,7 @@ use mathlib.Core.Option.{Option, none, some}
 use Prim.Native.Nat.{ℕ, zero, suc, _≤_}
 use native.Mathlib.Omega.{arith}
 use Rattle.laws.specs.Update.{upd2, same-or, upd-other, upd2-same, upd2-other, upd2-all}
-use Rattle.machine.specs.Table.{most-open, Vec, Name, name, Cell, blank, set, held, done, Open, State}
+use Rattle.machine.specs.Table.{most-open, Vec, Name, name, Cell, blank, set, held, done, Open, Setup, State}
 use Rattle.machine.specs.Answer.{Shown, unset, shown, shownOf, shows, wrote}
 use Rattle.machine.specs.Steps.{Out, failing, ready, isNone, read, everywhere, mark, apply, hold, nextNumber, newWrite, raise, write, firstDue, Settled, applyNext, settleBy, settle, reads, Step, Read, Write, Deliver, Trip, step}
 use Rattle.machine.specs.Rules.{In, Frame, Rules}
@@ -15,27 +15,26 @@ use Rattle.machine.specs.Refusals.{Accepted}
 use Rattle.machine.specs.Paper.{Value, Message, Process, READ, sent, returned, a-write, a-read, a-receipt, a-thread, Action, Does, does-write, does-read, does-receipt, does-thread, Runs, ends, then, Idle, vectorOf, valueOf, messageOf, waitingOf, desk, receiptOf, actionsOf, actor, PaperRun, KeepsMessage, OpenAs, shownBy}
 use Rattle.machine.specs.Proofs.Kept.{Midway, ReadyAt, ready-next, apply-midway, first-due, step-keeps-rules}
 use Rattle.machine.specs.Proofs.Refusals.{not-refused, step-cases}
-use Rattle.machine.specs.Proofs.Cases.{Delivery, deliver-cases, still-cases, settle-keeps, reads-keep}
+use Rattle.machine.specs.Proofs.Cases.{Delivery, deliver-cases, still-cases, settle-keeps, reads-keep, setup-stays}
 use Rattle.machine.specs.Proofs.Desks.{Waiting, waitingAt, set-all, marked-is, everywhere-at, quiet-idle, read-here, read-there, receipt-here, hold-there, resume-here, apply-there, write-here, write-there}
 
 -- a waiting message that is ready goes on, whatever else waits
 thread : {s : State} {i u k : ℕ} {w : Open} → Frame s → ReadyAt s i u k w → (q : Waiting)
     → ((v l : ℕ) → (v ≡ u → l ≡ k → ⊥) → q v l ≡ waitingAt i (s .opens) v l) → q u k ≡ some (messageOf u w)
-    → Does (s .desks) i (set-all q (desk s i)) (a-thread (name u k)) (desk (apply s i u k w) i)
+    → Does (s .setup .desks) i (set-all q (desk s i)) (a-thread (name u k)) (desk (apply s i u k w) i)
 thread {s} {i} {u} {k} {w} f r q same e =
     let next = ready-next f r in
     let number = f .open-write u k w (r .is) .number in
-    subst (λ (p : Process). Does (s .desks) i (set-all q (desk s i)) (a-thread (name u k)) p)
+    subst (λ (p : Process). Does (s .setup .desks) i (set-all q (desk s i)) (a-thread (name u k)) p)
     (resume-here s i u k w q number same)
     (does-thread (messageOf u w) e (record { others = λ t h ne. next .rest t ne; own = next .next ∙ sym number }))
 
-reads-as : (s : State) (i x : ℕ) → Does (s .desks) i (desk s i) (a-read x) (desk (read s i x) i)
-reads-as s i x = subst (λ (p : Process). Does (s .desks) i (desk s i) (a-read x) p) (read-here s i x) does-read
+reads-as : (s : State) (i x : ℕ) → Does (s .setup .desks) i (desk s i) (a-read x) (desk (read s i x) i)
+reads-as s i x = subst (λ (p : Process). Does (s .setup .desks) i (desk s i) (a-read x) p) (read-here s i x) does-read
 
 -- from s to s′: actions at i, nothing elsewhere
 pub record Moves (s : State) (i : ℕ) (l : List Action) (s′ : State) : Type 0 where
-  pub desks : s′ .desks ≡ s .desks
-  pub runs : Runs (s .desks) i (desk s i) l (desk s′ i)
+  pub runs : Runs (s .setup .desks) i (desk s i) l (desk s′ i)
   pub others : (j : ℕ) → j ≢ i → desk s′ j ≡ desk s j
 
 -- one application, then the rest
@@ -43,23 +42,22 @@ apply-then : {s : State} {i u k : ℕ} {w : Open} {l : List Action} {s′ : Stat
     → Moves (apply s i u k w) i l s′ → Moves s i (a-thread (name u k) ∷ l) s′
 apply-then {s} {i} {u} {k} {w} f r h m =
     record {
-      desks = m .desks;
       runs = then (thread f r (waitingAt i (s .opens)) (λ v l n. refl) (ap (waitingOf i u) (r .is) ∙ marked-is held i u w h)) (m .runs);
       others = λ j ne. m .others j ne ∙ apply-there s i u k w (f .open-write u k w (r .is) .marks-flat) j ne (ap (waitingOf j u) (sym (r .is)));
     }
 
 stays : {s : State} {i : ℕ} → Moves s i [] s
-stays = record { desks = refl; runs = ends; others = λ j ne. refl }
+stays = record { runs = ends; others = λ j ne. refl }
 
 abbrev pub Cascades : State → ℕ → Settled → Type 0
 Cascades s i r = Moves s i (map a-thread (r .names)) (r .state)
 
-pub cascade : (f : ℕ) {s : State} {i : ℕ} → Midway s i → In (s .desks) i → Cascades s i (settle f s i)
+pub cascade : (f : ℕ) {s : State} {i : ℕ} → Midway s i → In (s .setup .desks) i → Cascades s i (settle f s i)
 unfolding settle
 cascade zero m hi = stays
 cascade (suc f) {s} {i} m hi = by (λ s m hi. cascade f m hi) (firstDue s i) refl
   where
-    by : ((s : State) → Midway s i → In (s .desks) i → Cascades s i (settle f s i)) → (o : Option ℕ) → firstDue s i ≡ o
+    by : ((s : State) → Midway s i → In (s .setup .desks) i → Cascades s i (settle f s i)) → (o : Option ℕ) → firstDue s i ≡ o
         → Cascades s i (settleBy (λ s′. settle f s′ i) s i o)
     by again none e = stays
     by again (some u) e =
@@ -71,7 +69,7 @@ cascade (suc f) {s} {i} m hi = by (λ s m hi. cascade f m hi) (firstDue s i) ref
 -- Read and trip --
 
 pub read-moves : (s : State) (i x : ℕ) → Moves s i (a-read x ∷ []) (read s i x)
-read-moves s i x = record { desks = refl; runs = then (reads-as s i x) ends; others = read-there s i x }
+read-moves s i x = record { runs = then (reads-as s i x) ends; others = read-there s i x }
 
 pub trip-reads : (i : ℕ) (xs : List ℕ) (s : State) → Moves s i (map a-read xs) (reads s i xs .state)
 unfolding reads
@@ -79,7 +77,6 @@ trip-reads i [] s = stays
 trip-reads i (x ∷ xs) s =
     let m = trip-reads i xs (read s i x) in
     record {
-      desks = m .desks;
       runs = then (reads-as s i x) (m .runs);
       others = λ j ne. m .others j ne ∙ read-there s i x j ne;
     }
@@ -96,15 +93,6 @@ new-number {s} i f = by (s .opens i (nextNumber s i)) refl
         let t = f .open-exactly i (nextNumber s i) .0 (rw e) in
         absurd (omega (arith, t .number .1, f .clocks .own i))
 
--- the effects at the desk are the actions; with the rules after them, nothing enabled waits
-paper-run-of : {s : State} {a : Step} {o : Out} → Rules (o .state) → Moves s (actor a) (actionsOf s a (o .answer)) (o .state) → PaperRun s a o
-paper-run-of {s} {a} {o} r m =
-    record {
-      runs = m .runs;
-      others = m .others;
-      idle = λ j. subst (λ (n : ℕ). Idle n (desk (o .state) j)) (m .desks) (quiet-idle (o .state) j (r .quiet j));
-    }
-
 -- an outcome that, if accepted, is its actions
 abbrev IsRun : State → Step → Out → Type 0
 IsRun s a o = Accepted (o .answer) → Moves s (actor a) (actionsOf s a (o .answer)) (o .state)
@@ -114,8 +102,7 @@ module _ {s : State} (r : Rules s) where
   write-moves i x v =
       let new = new-number i (r .frame) in
       record {
-        desks = refl;
-        runs = then (subst (λ (p : Process). Does (s .desks) i (desk s i) (a-write x (record { status = v; writer = i })) p) (write-here s i x v new) does-write) ends;
+        runs = then (subst (λ (p : Process). Does (s .setup .desks) i (desk s i) (a-write x (record { status = v; writer = i })) p) (write-here s i x v new) does-write) ends;
         others = write-there s i x v new;
       }
 
@@ -126,12 +113,11 @@ module _ {s : State} (r : Rules s) where
     pub hold-moves : Moves s i (a-receipt u (messageOf u w) ∷ []) (hold s i u k w)
     hold-moves =
         record {
-          desks = refl;
-          runs = then (subst (λ (p : Process). Does (s .desks) i (desk s i) (a-receipt u (messageOf u w)) p) (receipt-here s i u k w (r .frame .open-write u k w (d .is) .number)) does-receipt) ends;
+          runs = then (subst (λ (p : Process). Does (s .setup .desks) i (desk s i) (a-receipt u (messageOf u w)) p) (receipt-here s i u k w (r .frame .open-write u k w (d .is) .number)) does-receipt) ends;
           others = hold-there s i u k w (d .is);
         }
 
-    pub apply-moves : failing (s .desks) (s .applied i) u (w .vector) ≡ none
+    pub apply-moves : failing (s .setup .desks) (s .applied i) u (w .vector) ≡ none
         → Moves s i (a-receipt u (messageOf u w) ∷ a-thread (name u k) ∷ map a-thread (settle most-open (apply s i u k w) i .names)) (settle most-open (apply s i u k w) i .state)
     apply-moves e =
         let o = r .frame .open-write u k w (d .is) in
@@ -139,7 +125,6 @@ module _ {s : State} (r : Rules s) where
         let midway : Midway s i = record { frame = r .frame; quiet = λ j ne. r .quiet j } in
         let rest = cascade most-open (apply-midway midway at) (d .desk) in
         record {
-          desks = rest .desks;
           runs =
               then does-receipt
               (then (thread (r .frame) at (upd2 (waitingAt i (s .opens)) u (w .vector u) (some (messageOf u w)))
@@ -158,8 +143,16 @@ module _ {s : State} (r : Rules s) where
       deliver-cases s i u k (IsRun s (Deliver i u k)) (λ r a. absurd (a r refl)) (λ w d t e a. of-open d (hold-moves d)) (λ w d e a. of-open d (apply-moves d e))
   moves (Trip i xs) = step-cases s (Trip i xs) (IsRun s (Trip i xs)) (λ r a. absurd (a r refl)) (λ h a. trip-reads i xs s)
 
+-- the effects at the desk are the actions; with the rules after them, nothing enabled waits
 pub paper-run : {s : State} → Rules s → (a : Step) → Accepted (step s a .answer) → PaperRun s a (step s a)
-paper-run r a ok = paper-run-of (step-keeps-rules r a) (moves r a ok)
+paper-run {s} r a ok =
+    let m = moves r a ok in
+    let after = step-keeps-rules r a in
+    record {
+      runs = m .runs;
+      others = m .others;
+      idle = λ j. subst (λ (z : Setup). Idle (z .desks) (desk (step s a .state) j)) (setup-stays s a) (quiet-idle (step s a .state) j (after .quiet j));
+    }
 
 -- Messages --
 
@@ -184,7 +177,7 @@ module _ (s₀ : State) where
   apply-keeps : (i : ℕ) (s : State) (u k : ℕ) (w : Open) → KeepsMessage u (s₀ .opens u k) (some w) → KeepsAll s → KeepsAll (apply s i u k w)
   apply-keeps i s u k w h f =
       one-keeps s u k _
-      (still-cases (KeepsMessage u (s₀ .opens u k)) (s .desks) (mark w i done) (λ t w w′ e e′. none-some e′) (λ t. keeps-mark u i done h)) f
+      (still-cases (KeepsMessage u (s₀ .opens u k)) (s .setup .desks) (mark w i done) (λ t w w′ e e′. none-some e′) (λ t. keeps-mark u i done h)) f
 
 pub message-kept : {s : State} → Rules s → (a : Step) (u k : ℕ) → KeepsMessage u (s .opens u k) (step s a .state .opens u k)
 message-kept {s} r a = by a
@@ -208,15 +201,15 @@ message-kept {s} r a = by a
     by (Trip i xs) = step-cases s (Trip i xs) (λ o. KeepsAll s (o .state)) (λ r. same) (λ h. reads-keep (KeepsAll s) i (λ s′ x f. f) xs s same)
 
 -- where there is another desk, a new write is not yet applied everywhere
-not-everywhere : (s : State) (i x v : ℕ) → 2 ≤ s .desks → everywhere (s .desks) (mark (newWrite s i x v) i done) ≡ true → ⊥
+not-everywhere : (s : State) (i x v : ℕ) → 2 ≤ s .setup .desks → everywhere (s .setup .desks) (mark (newWrite s i x v) i done) ≡ true → ⊥
 not-everywhere s i x v two e = same-or i 1 (λ p. lacks 2 (omega arith) (λ q. omega arith)) (λ p. lacks 1 (omega arith) (λ q. p (sym q)))
   where
-    lacks : (t : ℕ) → In (s .desks) t → t ≢ i → ⊥
+    lacks : (t : ℕ) → In (s .setup .desks) t → t ≢ i → ⊥
     lacks t h ne =
-        omega (arith, everywhere-at (s .desks) (mark (newWrite s i x v) i done) e t h, upd-other (newWrite s i x v .marks) i done t ne)
+        omega (arith, everywhere-at (s .setup .desks) (mark (newWrite s i x v) i done) e t h, upd-other (newWrite s i x v .marks) i done t ne)
 
 -- where there is a desk to send it to, the new open write has the message that figure 4, line 2 sends
-pub message-sent : (s : State) (i x v k : ℕ) → 2 ≤ s .desks → step s (Write i x v) .answer ≡ wrote (name i k)
+pub message-sent : (s : State) (i x v k : ℕ) → 2 ≤ s .setup .desks → step s (Write i x v) .answer ≡ wrote (name i k)
     → OpenAs i (sent i x (record { status = v; writer = i }) (desk s i)) (step s (Write i x v) .state .opens i k)
 message-sent s i x v k two =
     step-cases s (Write i x v) (λ o. o .answer ≡ wrote (name i k) → OpenAs i m (o .state .opens i k))
@@ -224,7 +217,7 @@ message-sent s i x v k two =
     (λ h e. (
     let same : name i (nextNumber s i) ≡ name i k = cc in
     rw (← ap (λ (n : Name). n .number) same, upd2-same)
-    (still-cases (OpenAs i m) (s .desks) (mark (newWrite s i x v) i done) (λ e. absurd (not-everywhere s i x v two e)) (λ e. record { entry = mark (newWrite s i x v) i done; is = refl; message = refl }))))
+    (still-cases (OpenAs i m) (s .setup .desks) (mark (newWrite s i x v) i done) (λ e. absurd (not-everywhere s i x v two e)) (λ e. record { entry = mark (newWrite s i x v) i done; is = refl; message = refl }))))
   where
     m : Message
     m = sent i x (record { status = v; writer = i }) (desk s i)

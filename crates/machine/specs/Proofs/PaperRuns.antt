@@ -8,7 +8,7 @@ use native.Mathlib.Omega.{arith}
 use native.Mathlib.Decide.{decLe}
 use Rattle.laws.specs.Says.{apart}
 use Rattle.laws.specs.Update.{upd, same-or, upd-same, upd-other, upd-is, upd2-all, upd2-same, upd2-other}
-use Rattle.machine.specs.Table.{most-desks, most-cells, most-open, Vec, Name, name, held, Open, State, fresh, written}
+use Rattle.machine.specs.Table.{most-desks, most-cells, most-open, Vec, Name, name, held, Open, Setup, State, fresh, written}
 use Rattle.machine.specs.Answer.{wrote}
 use Rattle.machine.specs.Steps.{Out, isNone, isOpen, failing, apply, hold, nextNumber, raise, newWrite, write, firstDue, applyNext, settleBy, settle, Step, Read, Write, Deliver, Trip, step}
 use Rattle.machine.specs.Rules.{In, Frame, Rules}
@@ -20,7 +20,7 @@ use Rattle.machine.specs.Proofs.Grown.{Grown}
 use Rattle.machine.specs.Proofs.Apply.{to-be-open, apply-written}
 use Rattle.machine.specs.Proofs.Kept.{Midway, ReadyAt, apply-midway, first-due, fresh-rules, step-keeps-rules}
 use Rattle.machine.specs.Proofs.Refusals.{accepted-exactly, step-cases}
-use Rattle.machine.specs.Proofs.Cases.{Delivery, deliver-cases, settle-keeps, reads-keep}
+use Rattle.machine.specs.Proofs.Cases.{Delivery, deliver-cases, settle-keeps, reads-keep, step-keeps, setup-stays}
 use Rattle.machine.specs.Proofs.Paper.{Moves, trip-reads, new-number, read-moves, write-moves, hold-moves, apply-moves, none-some, message-kept, message-sent}
 use Rattle.machine.specs.Proofs.Ways.{ways-fresh, hold-takes, apply-takes, on-its-way, held-off, write-sends, nothing-under}
 use Rattle.machine.specs.Proofs.Runs.{rules-kept}
@@ -69,30 +69,30 @@ module _ (n i : ℕ) (hi : In n i) (f : ℕ → Process) where
   first (then d r) c u = and-then (one d c) (quietly r u)
 
 -- between two tables
-module _ {s : State} {i : ℕ} (hi : In (s .desks) i) {l : List Action} {s′ : State} (m : Moves s i l s′) where
-  between : {ds : List Deed} → SystemRun (s .desks) (at (s .desks) i hi (desk s) (waysOf s) (desk s i)) ds (at (s .desks) i hi (desk s) (waysOf s′) (desk s′ i))
-      → SystemRun (s .desks) (system s) ds (system s′)
+module _ {s : State} {i : ℕ} (hi : In (s .setup .desks) i) {l : List Action} {s′ : State} (m : Moves s i l s′) where
+  between : {ds : List Deed} → SystemRun (s .setup .desks) (at (s .setup .desks) i hi (desk s) (waysOf s) (desk s i)) ds (at (s .setup .desks) i hi (desk s) (waysOf s′) (desk s′ i))
+      → SystemRun (s .setup .desks) (system s) ds (system s′)
   between {ds} r =
-      subst (λ (f : ℕ → Process). SystemRun (s .desks) (record { process = f; ways = waysOf s }) ds (system s′))
+      subst (λ (f : ℕ → Process). SystemRun (s .setup .desks) (record { process = f; ways = waysOf s }) ds (system s′))
       (sym (upd-is (desk s) i (desk s i) (desk s) refl (λ j ne. refl)))
-      (subst (λ (f : ℕ → Process). SystemRun (s .desks) (at (s .desks) i hi (desk s) (waysOf s) (desk s i)) ds (record { process = f; ways = waysOf s′ }))
+      (subst (λ (f : ℕ → Process). SystemRun (s .setup .desks) (at (s .setup .desks) i hi (desk s) (waysOf s) (desk s i)) ds (record { process = f; ways = waysOf s′ }))
       (sym (upd-is (desk s) i (desk s′ i) (desk s′) refl (m .others))) r)
 
-  by-leaving : Leave (s .desks) i hi (desk s) l → waysOf s′ ≡ waysOf s → SystemRun (s .desks) (system s) (map (deed i) l) (system s′)
-  by-leaving u e = between (rw e (quietly (s .desks) i hi (desk s) (m .runs) u))
+  by-leaving : Leave (s .setup .desks) i hi (desk s) l → waysOf s′ ≡ waysOf s → SystemRun (s .setup .desks) (system s) (map (deed i) l) (system s′)
+  by-leaving u e = between (rw e (quietly (s .setup .desks) i hi (desk s) (m .runs) u))
 
-by-first : {s : State} {i : ℕ} (hi : In (s .desks) i) {a : Action} {l : List Action} {s′ : State} → Moves s i (a ∷ l) s′
-    → Carries (s .desks) i (desk s i) (waysOf s) a (waysOf s′) → Leave (s .desks) i hi (desk s) l → SystemRun (s .desks) (system s) (map (deed i) (a ∷ l)) (system s′)
-by-first {s} {i} hi m c u = between hi m (first (s .desks) i hi (desk s) (m .runs) c u)
+by-first : {s : State} {i : ℕ} (hi : In (s .setup .desks) i) {a : Action} {l : List Action} {s′ : State} → Moves s i (a ∷ l) s′
+    → Carries (s .setup .desks) i (desk s i) (waysOf s) a (waysOf s′) → Leave (s .setup .desks) i hi (desk s) l → SystemRun (s .setup .desks) (system s) (map (deed i) (a ∷ l)) (system s′)
+by-first {s} {i} hi m c u = between hi m (first (s .setup .desks) i hi (desk s) (m .runs) c u)
 
 -- what each application of a held write keeps, the cascade keeps
 module _ (i : ℕ) (P : State → Type 0) (h : (s : State) (u k : ℕ) (w : Open) → Midway s i → ReadyAt s i u k w → w .marks i ≡ held → P s → P (apply s i u k w)) where
-  cascade-keeps : (f : ℕ) {s : State} → Midway s i → In (s .desks) i → P s → P (settle f s i .state)
+  cascade-keeps : (f : ℕ) {s : State} → Midway s i → In (s .setup .desks) i → P s → P (settle f s i .state)
   unfolding settle
   cascade-keeps zero m hi p = p
   cascade-keeps (suc f) {s} m hi p = by (λ s m hi p. cascade-keeps f m hi p) (firstDue s i) refl
     where
-      by : ((s : State) → Midway s i → In (s .desks) i → P s → P (settle f s i .state)) → (o : Option ℕ) → firstDue s i ≡ o
+      by : ((s : State) → Midway s i → In (s .setup .desks) i → P s → P (settle f s i .state)) → (o : Option ℕ) → firstDue s i ≡ o
           → P (settleBy (λ s′. settle f s′ i) s i o .state)
       by again none e = p
       by again (some u) e =
@@ -102,7 +102,7 @@ module _ (i : ℕ) (P : State → Type 0) (h : (s : State) (u k : ℕ) (w : Open
           (again (apply s i u k (d .entry)) (apply-midway m (d .at)) hi (h s u k (d .entry) m (d .at) (d .is-held) p))
 
 -- the messages
-settle-ways : (f : ℕ) {s : State} {i : ℕ} → Midway s i → In (s .desks) i → waysOf (settle f s i .state) ≡ waysOf s
+settle-ways : (f : ℕ) {s : State} {i : ℕ} → Midway s i → In (s .setup .desks) i → waysOf (settle f s i .state) ≡ waysOf s
 settle-ways f {s} {i} m hi =
     cascade-keeps i (λ s′. waysOf s′ ≡ waysOf s)
     (λ s′ u k w m′ r h e. held-off s′ i u k w (r .desk) (r .is) (m′ .frame .open-write u k w (r .is) .number) h ∙ e) f m hi refl
@@ -111,91 +111,71 @@ settle-ways f {s} {i} m hi =
 
 -- an outcome as what the system does
 abbrev AsPaper : State → Step → Out → Type 0
-AsPaper s a o = SystemRun (s .desks) (system s) (deedsOf s a (o .answer)) (system (o .state))
+AsPaper s a o = SystemRun (s .setup .desks) (system s) (deedsOf s a (o .answer)) (system (o .state))
 
 module _ {s : State} (r : Rules s) where
-  of-write : (i x v : ℕ) → In (s .desks) i → SystemRun (s .desks) (system s) (deed i (a-write x (record { status = v; writer = i })) ∷ []) (system (write s i x v))
+  of-write : (i x v : ℕ) → In (s .setup .desks) i → SystemRun (s .setup .desks) (system s) (deed i (a-write x (record { status = v; writer = i })) ∷ []) (system (write s i x v))
   of-write i x v hi =
       let new = new-number i (r .frame) in
       by-first hi (write-moves r i x v)
-      (subst (λ (w : Ways). Carries (s .desks) i (desk s i) (waysOf s) (a-write x (record { status = v; writer = i })) w) (sym (write-sends s i x v new))
+      (subst (λ (w : Ways). Carries (s .setup .desks) i (desk s i) (waysOf s) (a-write x (record { status = v; writer = i })) w) (sym (write-sends s i x v new))
       (sends (λ j. rw upd-same (nothing-under s i (nextNumber s i) j new))))
       tt
 
   module _ {i u k : ℕ} {w : Open} (d : Delivery s i u k w) where
     abbrev Receipt : List Action → State → Type 0
-    Receipt l s′ = SystemRun (s .desks) (system s) (map (deed i) (receiptOf u (s .opens u k) l)) (system s′)
+    Receipt l s′ = SystemRun (s .setup .desks) (system s) (map (deed i) (receiptOf u (s .opens u k) l)) (system s′)
 
     of-receipt : {l : List Action} {s′ : State} → Moves s i (a-receipt u (messageOf u w) ∷ l) s′ → waysOf s′ ≡ take i u (messageOf u w) (waysOf s)
-        → Leave (s .desks) i (d .desk) (desk s) l → Receipt l s′
+        → Leave (s .setup .desks) i (d .desk) (desk s) l → Receipt l s′
     of-receipt {l} {s′} m e u′ =
-        subst (λ (o : Option Open). SystemRun (s .desks) (system s) (map (deed i) (receiptOf u o l)) (system s′)) (sym (d .is))
+        subst (λ (o : Option Open). SystemRun (s .setup .desks) (system s) (map (deed i) (receiptOf u o l)) (system s′)) (sym (d .is))
         (by-first (d .desk) m
-        (subst (λ (z : Ways). Carries (s .desks) i (desk s i) (waysOf s) (a-receipt u (messageOf u w)) z) (sym e)
+        (subst (λ (z : Ways). Carries (s .setup .desks) i (desk s i) (waysOf s) (a-receipt u (messageOf u w)) z) (sym e)
         (takes (on-its-way s i u k w (d .desk) (d .is) (r .frame .open-write u k w (d .is) .number) (d .is-away))))
         u′)
 
     of-hold : Receipt [] (hold s i u k w)
     of-hold = of-receipt (hold-moves r d) (hold-takes s i u k w (d .desk) (d .is) (r .frame .open-write u k w (d .is) .number)) tt
 
-    of-apply : failing (s .desks) (s .applied i) u (w .vector) ≡ none
+    of-apply : failing (s .setup .desks) (s .applied i) u (w .vector) ≡ none
         → Receipt (a-thread (name u k) ∷ map a-thread (settle most-open (apply s i u k w) i .names)) (settle most-open (apply s i u k w) i .state)
     of-apply e =
         let at : ReadyAt s i u k w = record { desk = d .desk; is = d .is; ready = ap isNone e } in
         let midway : Midway s i = record { frame = r .frame; quiet = λ j ne. r .quiet j } in
         of-receipt (apply-moves r d e)
         (settle-ways most-open (apply-midway midway at) (d .desk) ∙ apply-takes s i u k w (d .desk) (d .is) (r .frame .open-write u k w (d .is) .number))
-        (threads-leave (s .desks) i (d .desk) (desk s) (name u k ∷ settle most-open (apply s i u k w) i .names))
+        (threads-leave (s .setup .desks) i (d .desk) (desk s) (name u k ∷ settle most-open (apply s i u k w) i .names))
 
   of-step : (a : Step) → AsPaper s a (step s a)
   of-step (Read i x) =
       step-cases s (Read i x) (AsPaper s (Read i x)) (λ r. over)
-      (λ h. by-leaving (h .0) (read-moves s i x) (reads-leave (s .desks) i (h .0) (desk s) (x ∷ [])) refl)
+      (λ h. by-leaving (h .0) (read-moves s i x) (reads-leave (s .setup .desks) i (h .0) (desk s) (x ∷ [])) refl)
   of-step (Write i x v) = step-cases s (Write i x v) (AsPaper s (Write i x v)) (λ r. over) (λ h. of-write i x v (h .0))
   of-step (Deliver i u k) = deliver-cases s i u k (AsPaper s (Deliver i u k)) (λ r. over) (λ w d t e. of-hold d) (λ w d e. of-apply d e)
   of-step (Trip i xs) =
       step-cases s (Trip i xs) (AsPaper s (Trip i xs)) (λ r. over)
-      (λ h. by-leaving (h .0) (trip-reads i xs s) (reads-leave (s .desks) i (h .0) (desk s) xs) (reads-keep (λ s′. waysOf s′ ≡ waysOf s) i (λ s′ x e. e) xs s refl))
+      (λ h. by-leaving (h .0) (trip-reads i xs s) (reads-leave (s .setup .desks) i (h .0) (desk s) xs) (reads-keep (λ s′. waysOf s′ ≡ waysOf s) i (λ s′ x e. e) xs s refl))
 
 -- Schedules --
 
--- counts only rise, and the number of desks stays
-module _ (s₀ : State) where
-  apply-grown : (i : ℕ) (s : State) (u k : ℕ) (w : Open) → Grown s₀ s → Grown s₀ (apply s i u k w)
-  apply-grown i s u k w g = record {
-    desks = g .desks;
-    cells = g .cells;
-    more = λ j t. upd2-all (s .applied) i u (suc (s .applied i u)) (λ j t c. s₀ .applied j t ≤ c) j t
-        (λ p q. rw (p, q) (omega (arith, g .more i u))) (λ n. g .more j t);
-  }
-
-  -- other clocks and open writes are nothing to it
-  clock-grown : {s : State} (c : ℕ → Vec) (o : ℕ → ℕ → Option Open) → Grown s₀ s
-      → Grown s₀ (record { desks = s .desks; cells = s .cells; applied = s .applied; clock = c; cell = s .cell; opens = o })
-  clock-grown c o g = record { desks = g .desks; cells = g .cells; more = g .more }
-
+-- counts only rise, and the setup stays
 step-grown : (s : State) (a : Step) → Grown s (step s a .state)
-step-grown s a = by a
-  where
-    same : Grown s s
-    same = record { desks = refl; cells = refl; more = λ j t. omega arith }
-
-    by : (a : Step) → Grown s (step s a .state)
-    by (Read i x) = step-cases s (Read i x) (λ o. Grown s (o .state)) (λ r. same) (λ h. clock-grown s _ _ same)
-    by (Write i x v) =
-        step-cases s (Write i x v) (λ o. Grown s (o .state)) (λ r. same)
-        (λ h. apply-grown s i (raise s i) i (nextNumber s i) (newWrite s i x v) (clock-grown s _ _ same))
-    by (Deliver i u k) =
-        deliver-cases s i u k (λ o. Grown s (o .state)) (λ r. same) (λ w d t e. clock-grown s _ _ same)
-        (λ w d e. settle-keeps (Grown s) i (λ s′ u k w e g. apply-grown s i s′ u k w g) most-open (apply s i u k w) (apply-grown s i s u k w same))
-    by (Trip i xs) = step-cases s (Trip i xs) (λ o. Grown s (o .state)) (λ r. same) (λ h. reads-keep (Grown s) i (λ s′ x g. clock-grown s _ _ g) xs s same)
+step-grown s =
+    step-keeps (Grown s) (λ z c o g. record { setup = g .setup; more = g .more })
+    (λ z i u k w g. record {
+      setup = g .setup;
+      more = λ j t. upd2-all (z .applied) i u (suc (z .applied i u)) (λ j t c. s .applied j t ≤ c) j t
+          (λ p q. rw (p, q) (omega (arith, g .more i u))) (λ n. g .more j t);
+    })
+    s (record { setup = refl; more = λ j t. omega arith })
 
 module _ (reload : State → State) (same : (s : State) → Rules s → reload s ≡ s) where
-  runs-on : {s : State} → Rules s → (l : List Act) → SystemRun (s .desks) (system s) (deeds reload s l) (system (run reload s l))
+  runs-on : {s : State} → Rules s → (l : List Act) → SystemRun (s .setup .desks) (system s) (deeds reload s l) (system (run reload s l))
   unfolding run deeds
   runs-on r [] = over
   runs-on {s} r (take-step a ∷ l) =
-      run-on (of-step r a) (subst (λ (n : ℕ). SystemRun n (system (step s a .state)) (deeds reload (step s a .state) l) (system (run reload (step s a .state) l))) (step-grown s a .desks) (runs-on (step-keeps-rules r a) l))
+      run-on (of-step r a) (subst (λ (z : Setup). SystemRun (z .desks) (system (step s a .state)) (deeds reload (step s a .state) l) (system (run reload (step s a .state) l))) (setup-stays s a) (runs-on (step-keeps-rules r a) l))
   runs-on {s} r (save-and-load ∷ l) = rw (same s r) (runs-on r l)
 
   pub runs-as-paper : (n m : ℕ) → In most-desks n → In most-cells m → (l : List Act) → RunsAsPaper reload n m l
@@ -214,9 +194,9 @@ never-again {s} {s′} f f′ g u k h e = by (s′ .opens u k) refl
         let t = to-be-open f′ u k q in
         let l = t .lacks in
         let still = f .open-exactly u k .1 (record {
-          writer = subst (λ (n : ℕ). In n u) (g .desks) (t .writer);
+          writer = subst (λ (z : Setup). In (z .desks) u) (g .setup) (t .writer);
           number = h;
-          lacks = record { desk = l .desk; desk-in = subst (λ (n : ℕ). In n (l .desk)) (g .desks) (l .desk-in); lower = omega (arith, l .lower, g .more (l .desk) u) };
+          lacks = record { desk = l .desk; desk-in = subst (λ (z : Setup). In (z .desks) (l .desk)) (g .setup) (l .desk-in); lower = omega (arith, l .lower, g .more (l .desk) u) };
         }) in
         apart (isOpen s u k) still (ap (λ (o : Option Open). not (isNone o)) e)
 
@@ -236,7 +216,7 @@ step-carries {u} {k} {m} {s} r a c = record {
     by w e (some w₀) q = message-kept r a u k w₀ w q e ∙ c .message w₀ q
 
 -- the write that is answered u.k
-write-carries : {s : State} → Rules s → (u x v k : ℕ) → 2 ≤ s .desks → step s (Write u x v) .answer ≡ wrote (name u k)
+write-carries : {s : State} → Rules s → (u x v k : ℕ) → 2 ≤ s .setup .desks → step s (Write u x v) .answer ≡ wrote (name u k)
     → Carries-on u k (sent u x (record { status = v; writer = u }) (desk s u)) (step s (Write u x v) .state)
 write-carries {s} r u x v k two e =
     let o = message-sent s u x v k two e in
@@ -306,14 +286,17 @@ module _ (reload : State → State) (same : (s : State) → Rules s → reload s
   run-carries r (take-step a ∷ l) c = run-carries (step-keeps-rules r a) l (step-carries r a c)
   run-carries {s = s} r (save-and-load ∷ l) c = rw (same s r) (run-carries r l c)
 
-  run-desks : {s : State} → Rules s → (l : List Act) → run reload s l .desks ≡ s .desks
+  run-setup : {s : State} → Rules s → (l : List Act) → run reload s l .setup ≡ s .setup
   unfolding run
-  run-desks r [] = refl
-  run-desks {s} r (take-step a ∷ l) = run-desks (step-keeps-rules r a) l ∙ step-grown s a .desks
-  run-desks {s} r (save-and-load ∷ l) = ap (λ (z : State). run reload z l .desks) (same s r) ∙ run-desks r l
+  run-setup r [] = refl
+  run-setup {s} r (take-step a ∷ l) = run-setup (step-keeps-rules r a) l ∙ setup-stays s a
+  run-setup {s} r (save-and-load ∷ l) = ap (λ (z : State). run reload z l .setup) (same s r) ∙ run-setup r l
+
+  run-desks : {s : State} → Rules s → (l : List Act) → run reload s l .setup .desks ≡ s .setup .desks
+  run-desks r l = ap (λ (z : Setup). z .desks) (run-setup r l)
 
   -- the write, and all that comes after it
-  sent-carries : {s : State} → Rules s → (l : List Act) (u k : ℕ) (m : Message) → 2 ≤ s .desks → SentIn reload s l u k m → Carries-on u k m (run reload s l)
+  sent-carries : {s : State} → Rules s → (l : List Act) (u k : ℕ) (m : Message) → 2 ≤ s .setup .desks → SentIn reload s l u k m → Carries-on u k m (run reload s l)
   unfolding run
   sent-carries {s} r l u k m two d =
       let r′ = rules-kept reload same r (d .before) in

@@ -80,7 +80,7 @@ not-refused a e r q = clash (sym e ∙ ap isRefused q)
 -- of a delivery; none is refused before
 abbrev pub deliverEffect : State → ℕ → ℕ → ℕ → Option Open → Out
 deliverEffect s i u k none = record { answer = applies []; state = s }
-deliverEffect s i u k (some w) = deliverBy s i u k w (failing (s .desks) (s .applied i) u (w .vector))
+deliverEffect s i u k (some w) = deliverBy s i u k w (failing (s .setup .desks) (s .applied i) u (w .vector))
 
 abbrev pub effectOf : State → Step → Out
 effectOf s (Read i x) = record { answer = shows (shownAt s i x); state = read s i x }
@@ -91,7 +91,7 @@ effectOf s (Trip i xs) = record { answer = judged (verdict (reads s i xs .shown)
 -- the last row of a delivery
 open-rows : (s : State) (i u k : ℕ) (o : Option Open) → ByRows s ((placeOf o i ≡ away or received) ∷ []) (deliverEffect s i u k o) (deliverOpen s i u k o)
 open-rows s i u k none = need-rows false received (says-eqb done away) (end-rows (not-refused _ refl))
-open-rows s i u k (some w) = need-rows (eqb (w .marks i) away) received (says-eqb (w .marks i) away) (end-rows (answered (failing (s .desks) (s .applied i) u (w .vector))))
+open-rows s i u k (some w) = need-rows (eqb (w .marks i) away) received (says-eqb (w .marks i) away) (end-rows (answered (failing (s .setup .desks) (s .applied i) u (w .vector))))
   where
     answered : (f : Option ℕ) → Accepted (deliverBy s i u k w f .answer)
     answered none = not-refused _ refl
@@ -100,22 +100,22 @@ open-rows s i u k (some w) = need-rows (eqb (w .marks i) away) received (says-eq
 by-rows : (s : State) (a : Step) → ByRows s (rowsOf s a) (effectOf s a) (step s a)
 unfolding step
 by-rows s (Read i x) =
-    need-rows (within (s .desks) i) no-desk (says-within (s .desks) i)
-    (need-rows (within (s .cells) x) no-cell (says-within (s .cells) x) (end-rows (not-refused _ refl)))
+    need-rows (within (s .setup .desks) i) no-desk (says-within (s .setup .desks) i)
+    (need-rows (within (s .setup .cells) x) no-cell (says-within (s .setup .cells) x) (end-rows (not-refused _ refl)))
 by-rows s (Write i x v) =
-    need-rows (within (s .desks) i) no-desk (says-within (s .desks) i)
-    (need-rows (within (s .cells) x) no-cell (says-within (s .cells) x)
+    need-rows (within (s .setup .desks) i) no-desk (says-within (s .setup .desks) i)
+    (need-rows (within (s .setup .cells) x) no-cell (says-within (s .setup .cells) x)
     (need-rows (leb v most-status) no-status (says-leb v most-status)
     (need-rows (ltb (written s i) most-writes) spent (says-ltb (written s i) most-writes)
     (need-rows (ltb (openCount s) most-open) full (says-ltb (openCount s) most-open) (end-rows (not-refused _ refl))))))
 by-rows s (Deliver i u k) =
-    need-rows (within (s .desks) i && within (s .desks) u) no-desk (says-both _ _ (says-within (s .desks) i) (says-within (s .desks) u))
+    need-rows (within (s .setup .desks) i && within (s .setup .desks) u) no-desk (says-both _ _ (says-within (s .setup .desks) i) (says-within (s .setup .desks) u))
     (need-rows (not (eqb i u)) own-write (says-not _ (says-eqb i u))
     (need-rows (within (written s u) k) no-write (says-within (written s u) k) (open-rows s i u k (s .opens u k))))
 by-rows s (Trip i xs) =
-    need-rows (within (s .desks) i) no-desk (says-within (s .desks) i)
+    need-rows (within (s .setup .desks) i) no-desk (says-within (s .setup .desks) i)
     (need-rows (within most-trip (length xs)) trip-size (says-within most-trip (length xs))
-    (need-rows (every (within (s .cells)) xs) no-cell (says-every _ (says-within (s .cells)) xs) (end-rows (not-refused _ refl))))
+    (need-rows (every (within (s .setup .cells)) xs) no-cell (says-every _ (says-within (s .setup .cells)) xs) (end-rows (not-refused _ refl))))
 
 -- the theorems --
 

@@ -20,13 +20,13 @@ use Rattle.machine.specs.Proofs.Observed.{Observed, observed-read, obser
 
 -- the cascade --
 
-pub observed-settle : (f : ℕ) {s : State} {h : List Event} {i : ℕ} → Midway s i → In (s .desks) i → Observed s h
+pub observed-settle : (f : ℕ) {s : State} {h : List Event} {i : ℕ} → Midway s i → In (s .setup .desks) i → Observed s h
     → Observed (settle f s i .state) (h ++ map (apply-at i) (settle f s i .names))
 unfolding settle
 observed-settle zero {s} {h} {i} m hi b = rw (append-nil h) b
 observed-settle (suc f) {s} {h} {i} m hi b = go (λ s′ h′ m′ hi′ b′. observed-settle f {s = s′} {h = h′} {i = i} m′ hi′ b′) (firstDue s i) refl
   where
-    go : ((s′ : State) (h′ : List Event) → Midway s′ i → In (s′ .desks) i → Observed s′ h′ → Observed (settle f s′ i .state) (h′ ++ map (apply-at i) (settle f s′ i .names)))
+    go : ((s′ : State) (h′ : List Event) → Midway s′ i → In (s′ .setup .desks) i → Observed s′ h′ → Observed (settle f s′ i .state) (h′ ++ map (apply-at i) (settle f s′ i .names)))
         → (r : Option ℕ) → firstDue s i ≡ r → Observed (settleBy (λ s′. settle f s′ i) s i r .state) (h ++ map (apply-at i) (settleBy (λ s′. settle f s′ i) s i r .names))
     go ih none e = rw (append-nil h) b
     go ih (some u) e =
@@ -60,8 +60,8 @@ both false b e = clash (cc)
 pub within-in : (n i : ℕ) → within n i ≡ true → In n i
 within-in n i e = let r = both (leb 1 i) (leb i n) e in (leb-true 1 i (r .0), leb-true i n (r .1))
 
-module _ {s : State} {h : List Event} (r : Rules s) (b : Observed s h) (i u k : ℕ) (hi : In (s .desks) i) where
-  deliver-by : (w : Open) → s .opens u k ≡ some w → (o : Option ℕ) → failing (s .desks) (s .applied i) u (w .vector) ≡ o
+module _ {s : State} {h : List Event} (r : Rules s) (b : Observed s h) (i u k : ℕ) (hi : In (s .setup .desks) i) where
+  deliver-by : (w : Open) → s .opens u k ≡ some w → (o : Option ℕ) → failing (s .setup .desks) (s .applied i) u (w .vector) ≡ o
       → Fine s h (Deliver i u k) (deliverBy s i u k w o)
   deliver-by w e (some t) q = record { fine = observed-hold b i u k w e }
   deliver-by w e none q =
@@ -74,37 +74,37 @@ module _ {s : State} {h : List Event} (r : Rules s) (b : Observed s h) (i u k : 
   deliver-open : (o : Option Open) → s .opens u k ≡ o → Fine s h (Deliver i u k) (deliverOpen s i u k o)
   deliver-open none e = refuse-fine b (Deliver i u k) received
   deliver-open (some w) e =
-      need-fine b (Deliver i u k) (eqb (w .marks i) away) received _ (λ _. deliver-by w e (failing (s .desks) (s .applied i) u (w .vector)) refl)
+      need-fine b (Deliver i u k) (eqb (w .marks i) away) received _ (λ _. deliver-by w e (failing (s .setup .desks) (s .applied i) u (w .vector)) refl)
 
 -- a trip's reads
-read-step : (s : State) (i x : ℕ) → within (s .desks) i ≡ true → within (s .cells) x ≡ true
+read-step : (s : State) (i x : ℕ) → within (s .setup .desks) i ≡ true → within (s .setup .cells) x ≡ true
     → step s (Read i x) ≡ record { answer = shows (shownAt s i x); state = read s i x }
 unfolding step
 read-step s i x hi hx = rw (hi, hx)
 
-observed-reads : (i : ℕ) (xs : List ℕ) {s : State} {h : List Event} → Rules s → Observed s h → within (s .desks) i ≡ true → every (within (s .cells)) xs ≡ true
+observed-reads : (i : ℕ) (xs : List ℕ) {s : State} {h : List Event} → Rules s → Observed s h → within (s .setup .desks) i ≡ true → every (within (s .setup .cells)) xs ≡ true
     → Observed (reads s i xs .state) (h ++ tripReads s i xs)
 unfolding reads tripReads
 observed-reads i [] {s} {h} r b hi hx = rw (append-nil h) b
 observed-reads i (x ∷ xs) {s} {h} r b hi hx =
-    let c = every-cons (within (s .cells)) x xs hx in
+    let c = every-cons (within (s .setup .cells)) x xs hx in
     rw (read-step s i x hi (c .0)) (rw append-assoc at (observed-reads i xs (read-rules r i x) (observed-read r b i x) hi (c .1)))
 
 step-fine : {s : State} {h : List Event} → Rules s → Observed s h → (a : Step) → Fine s h a (step s a)
 unfolding step
 step-fine {s} {h} r b (Read i x) =
-    need-fine b (Read i x) (within (s .desks) i) no-desk _ (λ _. need-fine b (Read i x) (within (s .cells) x) no-cell _ (λ _. record { fine = observed-read r b i x }))
+    need-fine b (Read i x) (within (s .setup .desks) i) no-desk _ (λ _. need-fine b (Read i x) (within (s .setup .cells) x) no-cell _ (λ _. record { fine = observed-read r b i x }))
 step-fine {s} {h} r b (Write i x v) =
-    need-fine b (Write i x v) (within (s .desks) i) no-desk _ (λ _. need-fine b (Write i x v) (within (s .cells) x) no-cell _ (λ _.
+    need-fine b (Write i x v) (within (s .setup .desks) i) no-desk _ (λ _. need-fine b (Write i x v) (within (s .setup .cells) x) no-cell _ (λ _.
     need-fine b (Write i x v) (leb v most-status) no-status _ (λ _. need-fine b (Write i x v) (ltb (written s i) most-writes) spent _ (λ _.
     need-fine b (Write i x v) (ltb (openCount s) most-open) full _ (λ _. record { fine = rw append-assoc at (observed-write (r .frame) b i x v) })))))
 step-fine {s} {h} r b (Deliver i u k) =
-    need-fine b (Deliver i u k) (within (s .desks) i && within (s .desks) u) no-desk _ (λ d. need-fine b (Deliver i u k) (not (eqb i u)) own-write _ (λ _.
+    need-fine b (Deliver i u k) (within (s .setup .desks) i && within (s .setup .desks) u) no-desk _ (λ d. need-fine b (Deliver i u k) (not (eqb i u)) own-write _ (λ _.
     need-fine b (Deliver i u k) (within (written s u) k) no-write _ (λ _.
-    deliver-open r b i u k (within-in (s .desks) i (both (within (s .desks) i) (within (s .desks) u) d .0)) (s .opens u k) refl)))
+    deliver-open r b i u k (within-in (s .setup .desks) i (both (within (s .setup .desks) i) (within (s .setup .desks) u) d .0)) (s .opens u k) refl)))
 step-fine {s} {h} r b (Trip i xs) =
-    need-fine b (Trip i xs) (within (s .desks) i) no-desk _ (λ hi. need-fine b (Trip i xs) (within most-trip (length xs)) trip-size _ (λ _.
-    need-fine b (Trip i xs) (every (within (s .cells)) xs) no-cell _ (λ hx. record { fine = observed-reads i xs r b hi hx })))
+    need-fine b (Trip i xs) (within (s .setup .desks) i) no-desk _ (λ hi. need-fine b (Trip i xs) (within most-trip (length xs)) trip-size _ (λ _.
+    need-fine b (Trip i xs) (every (within (s .setup .cells)) xs) no-cell _ (λ hx. record { fine = observed-reads i xs r b hi hx })))
 
 pub observed-step : {s : State} {h : List Event} → Rules s → Observed s h → (a : Step) → Observed (step s a .state) (h ++ eventsOf s a (step s a .answer))
 observed-step r b a = step-fine r b a .fine

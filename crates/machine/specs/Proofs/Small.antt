@@ -238,9 +238,9 @@ module _ {s : State} {h : List Event} (r : Traced s h) (i u k : ℕ) (w : Open) 
 
   apply-opens : (u′ k′ : ℕ) (w′ : Open) → apply s i u k w .opens u′ k′ ≡ some w′ → Origin (add h (apply-at i (name u k))) u′ k′ (w′ .cell) (w′ .status) (w′ .vector)
   apply-opens u′ k′ =
-      upd2-all (s .opens) u k (stillOpen (s .desks) (mark w i done))
+      upd2-all (s .opens) u k (stillOpen (s .setup .desks) (mark w i done))
       (λ u′ k′ o. (w′ : Open) → o ≡ some w′ → Origin (add h (apply-at i (name u k))) u′ k′ (w′ .cell) (w′ .status) (w′ .vector)) u′ k′
-      (λ eu ek w′ q. rw (eu, ek, ← still-is (s .desks) (mark w i done) w′ q) (origin-old (apply-at i (name u k)) apply-ordered g))
+      (λ eu ek w′ q. rw (eu, ek, ← still-is (s .setup .desks) (mark w i done) w′ q) (origin-old (apply-at i (name u k)) apply-ordered g))
       (λ _ w′ q. origin-old (apply-at i (name u k)) apply-ordered (r .opens u′ k′ w′ q))
 
   apply-cell : (i′ x v u′ : ℕ) (w′ : Vec) → apply s i u k w .cell i′ x ≡ set v u′ w′ → Origin (add h (apply-at i (name u k))) u′ (w′ u′) x v w′

@@ -77,7 +77,7 @@ backward r e i d q f op a of oe t j one b =
 -- an event that applies nothing: it changes clocks only --
 
 abbrev pub withClocks : State → (ℕ → Vec) → State
-withClocks s c = record { desks = s .desks; cells = s .cells; applied = s .applied; clock = c; cell = s .cell; opens = s .opens }
+withClocks s c = record { setup = s .setup; applied = s .applied; clock = c; cell = s .cell; opens = s .opens }
 
 module _ {s : State} {h : List Event} (r : Traced s h) (e : Event) (n : NewEntry h e) (idle : (i : ℕ) (w : Name) → e ≡ apply-at i w → ⊥) where
   o : Ordered (add h e)

@@ -78,40 +78,40 @@ module _ (n : ℕ) (f : ℕ → ℕ → Option Open) where
 
 -- The effects on a table --
 
-module _ (s : State) (i u k : ℕ) (w : Open) (hi : In (s .desks) i) (is : s .opens u k ≡ some w) (number : w .vector u ≡ k) where
+module _ (s : State) (i u k : ℕ) (w : Open) (hi : In (s .setup .desks) i) (is : s .opens u k ≡ some w) (number : w .vector u ≡ k) where
   pub hold-takes : waysOf (hold s i u k w) ≡ take i u (messageOf u w) (waysOf s)
   hold-takes =
-      rw number (ways-taken (s .desks) (s .opens) i u k (some (mark w i held)) hi (marked-here away i u w held (λ e. omega (arith, e)))
+      rw number (ways-taken (s .setup .desks) (s .opens) i u k (some (mark w i held)) hi (marked-here away i u w held (λ e. omega (arith, e)))
       (λ j h ne. marked-there away i u w held j ne ∙ ap (markedOf away j u) (sym is)))
 
   pub apply-takes : waysOf (apply s i u k w) ≡ take i u (messageOf u w) (waysOf s)
   apply-takes =
-      rw number (ways-taken (s .desks) (s .opens) i u k (stillOpen (s .desks) (mark w i done)) hi (applied-here (s .desks) away i u w (omega arith))
-      (λ j h ne. applied-there (s .desks) away i u w (omega arith) j (λ e. h) ne ∙ ap (markedOf away j u) (sym is)))
+      rw number (ways-taken (s .setup .desks) (s .opens) i u k (stillOpen (s .setup .desks) (mark w i done)) hi (applied-here (s .setup .desks) away i u w (omega arith))
+      (λ j h ne. applied-there (s .setup .desks) away i u w (omega arith) j (λ e. h) ne ∙ ap (markedOf away j u) (sym is)))
 
   -- not received is on its way
   pub on-its-way : w .marks i ≡ away → waysOf s i u (messageOf u w .Write-co u) ≡ some (messageOf u w)
   on-its-way a =
-      rw number (ap (λ (g : ℕ → ℕ → Option Message). g u k) (among-in (s .desks) (s .opens) i hi) ∙ ap (markedOf away i u) is ∙ marked-is away i u w a)
+      rw number (ap (λ (g : ℕ → ℕ → Option Message). g u k) (among-in (s .setup .desks) (s .opens) i hi) ∙ ap (markedOf away i u) is ∙ marked-is away i u w a)
 
   -- held is not
   pub held-off : w .marks i ≡ held → waysOf (apply s i u k w) ≡ waysOf s
   held-off a =
-      ways-kept (s .desks) (s .opens) u k (stillOpen (s .desks) (mark w i done)) (λ j h.
+      ways-kept (s .setup .desks) (s .opens) u k (stillOpen (s .setup .desks) (mark w i done)) (λ j h.
       same-or j i
-      (λ e. rw e (applied-here (s .desks) away i u w (omega arith) ∙ sym (ap (markedOf away i u) is ∙ marked-not away i u w (λ z. omega (arith, a, z)))))
-      (λ ne. applied-there (s .desks) away i u w (omega arith) j (λ e. h) ne ∙ ap (markedOf away j u) (sym is)))
+      (λ e. rw e (applied-here (s .setup .desks) away i u w (omega arith) ∙ sym (ap (markedOf away i u) is ∙ marked-not away i u w (λ z. omega (arith, a, z)))))
+      (λ ne. applied-there (s .setup .desks) away i u w (omega arith) j (λ e. h) ne ∙ ap (markedOf away j u) (sym is)))
 
 pub write-sends : (s : State) (i x v : ℕ) → s .opens i (nextNumber s i) ≡ none
-    → waysOf (write s i x v) ≡ send (s .desks) i (sent i x (record { status = v; writer = i }) (desk s i)) (waysOf s)
+    → waysOf (write s i x v) ≡ send (s .setup .desks) i (sent i x (record { status = v; writer = i }) (desk s i)) (waysOf s)
 write-sends s i x v new =
-    ways-sent (s .desks) (s .opens) i (nextNumber s i) (messageOf i w) (stillOpen (s .desks) (mark w i done)) new (upd-same (s .clock i) i _)
-    (applied-here (s .desks) away i i w (omega arith))
-    (λ j h ne. applied-there (s .desks) away i i w (omega arith) j (λ e. h) ne ∙ marked-is away j i w refl)
+    ways-sent (s .setup .desks) (s .opens) i (nextNumber s i) (messageOf i w) (stillOpen (s .setup .desks) (mark w i done)) new (upd-same (s .clock i) i _)
+    (applied-here (s .setup .desks) away i i w (omega arith))
+    (λ j h ne. applied-there (s .setup .desks) away i i w (omega arith) j (λ e. h) ne ∙ marked-is away j i w refl)
   where
     w : Open
     w = newWrite s i x v
 
 pub nothing-under : (s : State) (u k j : ℕ) → s .opens u k ≡ none → waysOf s j u k ≡ none
 nothing-under s u k j e =
-    cases (within (s .desks) j) (λ t. rw (t, waysOf) (ap (markedOf away j u) e)) (λ f. rw (f, waysOf))
+    cases (within (s .setup .desks) j) (λ t. rw (t, waysOf) (ap (markedOf away j u) e)) (λ f. rw (f, waysOf))
