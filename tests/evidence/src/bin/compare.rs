@@ -36,6 +36,10 @@ fn main() -> ExitCode {
             );
         }
     }
+    if checked == 0 {
+        eprintln!("no schedule was checked for causal order");
+        return ExitCode::FAILURE;
+    }
     println!("{runs} schedules, {lines} lines: no difference; {checked} of them by the definition of causal order");
     ExitCode::SUCCESS
 }

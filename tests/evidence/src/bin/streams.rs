@@ -5,6 +5,7 @@
 
 use std::fs::{File, OpenOptions};
 use std::io::{self, Write};
+use std::os::unix::process::ExitStatusExt;
 use std::process::{Command, ExitCode, Output, Stdio};
 
 /// What a check found wrong, if anything.
@@ -43,6 +44,8 @@ fn main() -> ExitCode {
     }
     ExitCode::SUCCESS
 }
+
+const SIGPIPE: i32 = 13;
 
 const SESSION: &[u8] = b"N 2 1\nW 1 1 1\nD 2 1 1\nR 2 1\n";
 const ANSWERS: &[u8] = b"N\nW 1.1\nA 1.1\nR 1 1.1\n";
@@ -87,10 +90,11 @@ fn printed(ended: &Ended, answers: &[u8]) -> Outcome {
     Ok(())
 }
 
-/// It said something on standard error.
-fn complained(ended: &Ended) -> Outcome {
-    if ended.output.stderr.is_empty() {
-        return Err("nothing is said on standard error".into());
+/// It named the stream in trouble on standard error.
+fn complained(ended: &Ended, stream: &str) -> Outcome {
+    let said = String::from_utf8_lossy(&ended.output.stderr);
+    if !said.contains(stream) {
+        return Err(format!("{stream} is not named on standard error: {said}"));
     }
     Ok(())
 }
@@ -100,11 +104,8 @@ fn full_device(program: &str) -> Outcome {
         .write(true)
         .open("/dev/full")
         .map_err(|e| format!("/dev/full: {e}"))?;
-    complained(&run(
-        Command::new(program).stdout(full),
-        SESSION,
-        SESSION.len(),
-    )?)
+    let ended = run(Command::new(program).stdout(full), SESSION, SESSION.len())?;
+    complained(&ended, "standard output")
 }
 
 /// The writing end of a pipe that nobody reads.
@@ -125,17 +126,19 @@ fn closed_output(program: &str) -> Outcome {
         SESSION,
         SESSION.len(),
     )?;
-    // A signal ends it, or it says what failed.
-    if ended.output.status.success() {
-        return complained(&ended);
+    // SIGPIPE ends it (a script that runs it reports that as 128 and the signal), or it says what failed.
+    let status = ended.output.status;
+    if status.signal() == Some(SIGPIPE) || status.code() == Some(128 + SIGPIPE) {
+        return Ok(());
     }
-    Ok(())
+    complained(&ended, "standard output")
 }
 
 fn ignored_signal(program: &str) -> Outcome {
     let mut shell = Command::new("sh");
     shell.args(["-c", "trap '' PIPE; exec \"$0\"", program]);
-    complained(&run(shell.stdout(broken_pipe()?), SESSION, SESSION.len())?)
+    let ended = run(shell.stdout(broken_pipe()?), SESSION, SESSION.len())?;
+    complained(&ended, "standard output")
 }
 
 fn long_input(program: &str) -> Outcome {
@@ -170,8 +173,9 @@ fn unreadable_input(program: &str) -> Outcome {
     if !output.stdout.is_empty() {
         return Err("it answers what it could not read".into());
     }
-    complained(&Ended {
+    let ended = Ended {
         written: Ok(()),
         output,
-    })
+    };
+    complained(&ended, "standard input")
 }
