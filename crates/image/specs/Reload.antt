@@ -1,15 +1,21 @@
--- Saving a table and loading it again, as a step of a schedule: demand 3 and the condition on blanks with nothing assumed.
+-- Saving a table and loading it again, as a step of a schedule: demand 3, the condition on blanks and the paper's run with nothing assumed.
 use mathlib.Core.Path.{_≡_, ap}
-use mathlib.Core.List.{List}
+use mathlib.Core.List.{List, List·Memᴰ}
+use mathlib.Core.Logic.{_↔_}
 use Prim.Native.Nat.{ℕ}
-use Rattle.machine.specs.Table.{most-desks, most-cells, State, fresh}
+use Rattle.machine.specs.Table.{most-desks, most-cells, Name, State, fresh}
 use Rattle.machine.specs.Answer.{unset}
-use Rattle.machine.specs.Steps.{shownAt}
+use Rattle.machine.specs.Steps.{shownAt, Deliver, step}
 use Rattle.machine.specs.Rules.{In, Rules}
-use Rattle.machine.specs.History.{Act, run, history}
+use Rattle.machine.specs.Refusals.{Accepted}
+use Rattle.machine.specs.History.{Event, Act, run, history}
 use Rattle.machine.specs.Blanks.{Unwritten}
 use Rattle.machine.specs.Demand3.{Demand3}
+use Rattle.machine.specs.PaperRuns.{RunsAsPaper, ReceivedIsSent}
+use Rattle.machine.specs.Past.{X-co-safe, Enabling}
 use Rattle.machine.specs.Proofs.Blanks as blanks
+use Rattle.machine.specs.Proofs.PaperRuns as paper
+use Rattle.machine.specs.Proofs.Past as past
 use Rattle.machine.specs.Proofs.Demand3 as machine
 use Rattle.image.specs.Encode.{encode}
 use Rattle.image.specs.Load.{Loaded, refused, loaded, load, load-encode}
@@ -34,3 +40,16 @@ demand-3 n m = machine.demand-3 reload reload-same n m
 pub never-written-reads-unset : (n m : ℕ) → In most-desks n → In most-cells m → (l : List Act) (x : ℕ)
     → Unwritten x (history reload (fresh n m) l) → (i : ℕ) → shownAt (run reload (fresh n m) l) i x ≡ unset
 never-written-reads-unset n m = blanks.never-written-reads-unset reload reload-same n m
+
+-- the paper --
+
+pub runs-as-paper : (n m : ℕ) → In most-desks n → In most-cells m → (l : List Act) → RunsAsPaper reload n m l
+runs-as-paper n m = paper.runs-as-paper reload reload-same n m
+
+pub received-is-sent : (n m : ℕ) → In most-desks n → In most-cells m → (l : List Act) (i u k : ℕ)
+    → Accepted (step (run reload (fresh n m) l) (Deliver i u k) .answer) → ReceivedIsSent reload (fresh n m) l i u k
+received-is-sent n m = paper.received-is-sent reload reload-same n m
+
+pub X-co-safe-exactly : (n m : ℕ) → In most-desks n → In most-cells m → (l : List Act) (k : ℕ) (w : Name) (e : Event)
+    → List·Memᴰ e (X-co-safe (history reload (fresh n m) l) k w) ↔ Enabling (history reload (fresh n m) l) k w e
+X-co-safe-exactly n m = past.X-co-safe-exactly reload reload-same n m
