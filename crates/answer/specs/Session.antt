@@ -1,9 +1,7 @@
 -- Lines of document 01's session, computed.
 use mathlib.Core.Path.{_≡_, refl}
 use mathlib.Core.List.{[], _∷_}
-use Prim.Native.Nat.{ℕ}
 use Rattle.laws.specs.Text.{text}
-use Rattle.laws.specs.Tab.{tab, tabFrom}
 use Rattle.machine.specs.Table.{name}
 use Rattle.machine.specs.Answer.{began, shows, wrote, holds, applies, judged, refused, unset, shown, Yes, No, Unknown, own-write, short}
 use Rattle.text.specs.Number.{digits, decimal}

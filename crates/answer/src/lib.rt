@@ -1,13 +1,11 @@
 // The output lines of answers, as bytes (document 01, "Schedule text").
 ghost use mathlib.Core.Path.{_≡_};
-ghost use mathlib.Core.List.{_++_};
 ghost use Prim.Native.Nat.{_+_, _<_, _≤_, min};
 ghost use lib.ListN.{length};
 ghost use Rattle.laws.specs.Stores.{Stored};
 ghost use Rattle.machine.specs.Table.{name, most-open};
 ghost use Rattle.machine.specs.Answer.{numberOf, shows, shown, wrote, applies};
 ghost use Rattle.reply.specs.Meaning.{refusalOf, answerOf, namesOf};
-ghost use Rattle.text.specs.Number.{decimal};
 ghost use Rattle.answer.specs.Bytes.{nameBytes, namesBytes, answerBytes, answerLine, most-name, most-names, most-answer};
 ghost use Rattle.answer.specs.Outcome.{writtenOf, written, buffer};
 use reply::APPLIED;

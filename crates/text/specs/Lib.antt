@@ -4,4 +4,5 @@ pub mod Decimal
 pub mod Fields
 pub mod Bounds
 pub mod ReadBack
+pub mod FieldsBack
 pub mod Examples

@@ -29,7 +29,7 @@ digits-all zero n = refl
 digits-all (suc f) zero = refl
 digits-all (suc f) (suc n) = every-last (digits f (suc n / 10)) _ (digits-all f (suc n / 10)) (is-digit _ (omega arith) (omega arith))
 
-decimal-all : (n : ℕ) → every isDigit (decimal n) ≡ true
+pub decimal-all : (n : ℕ) → every isDigit (decimal n) ≡ true
 unfolding decimal
 decimal-all n = every-last (digits n (n / 10)) _ (digits-all n (n / 10)) (is-digit _ (omega arith) (omega arith))
 
@@ -69,7 +69,7 @@ both : (a b : Bool) → (a && b) ≡ true → (a ≡ true) × (b ≡ true)
 both true b e = (refl, e)
 both false b e = clash e
 
-digit-least : (b : ℕ) → isDigit b ≡ true → 48 ≤ b
+pub digit-least : (b : ℕ) → isDigit b ≡ true → 48 ≤ b
 unfolding isDigit
 digit-least b e = leb-true _ _ (both (leb 48 b) (leb b 57) e .0)
 

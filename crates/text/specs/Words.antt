@@ -1,11 +1,11 @@
 -- Document 01, "Schedule text": "A line is a letter and decimal fields, one space between."
 use Prim.Native.Nat.{ℕ}
 use Prim.Native.Char.{code}
-use mathlib.Core.List.{List, [], _∷_}
+use mathlib.Core.List.{List, [], _∷_, _++_}
 use mathlib.Core.Option.{Option, none, some}
 use lib.Dec.{eqb}
 use Rattle.laws.specs.Loop.{pick}
-use Rattle.text.specs.Number.{number}
+use Rattle.text.specs.Number.{decimal, number}
 
 abbrev pub space : ℕ
 space = code " "
@@ -30,3 +30,8 @@ join (some x) (some l) = some (x ∷ l)
 unfoldable pub numbers : List (List ℕ) → Option (List ℕ)
 numbers [] = some []
 numbers (w ∷ ws) = join (number w) (numbers ws)
+
+-- numbers written, each after a space
+unfoldable pub fields : List ℕ → List ℕ
+fields [] = []
+fields (n ∷ l) = space ∷ (decimal n ++ fields l)

@@ -1,9 +1,7 @@
-use mathlib.Core.Path.{_≡_, refl, _∙_}
-use mathlib.Core.List.{_∷_}
+use mathlib.Core.Path.{refl, _∙_}
 use native.Mathlib.Omega.{arith}
 use Rattle.text.specs.Fields.{FieldIs}
-use Rattle.schedule.specs.Grammar.{two}
-use Rattle.schedule.specs.Forms.{sayAt, no-field, one-field, too-many, no-more}
+use Rattle.schedule.specs.Forms.{no-field, one-field, too-many, no-more}
 use borrow.Author.Needs.{needs}
 use Rattle.schedule.proofs.last_two.Statement.{statement}
 use Rattle.schedule.proofs.last_two.Tie as tie

@@ -1,7 +1,4 @@
 use mathlib.Core.Path.{_≡_, refl, sym, ap, _∙_}
-use mathlib.Core.Option.{some}
-use Rattle.text.specs.Fields.{FieldIs}
-use Rattle.schedule.specs.declared.Pair.{Pair}
 use Rattle.schedule.specs.Grammar.{three}
 use Rattle.schedule.specs.Value.{lineValue}
 use Rattle.schedule.specs.Forms.{sayAt, triples, pairSays, no-field, one-field, three-two}
