@@ -16,7 +16,7 @@ use Rattle.laws.specs.From.{from1, from1-is}
 use Rattle.laws.specs.Find.{firstOf, FoundAt, first-is, first-not}
 use Rattle.laws.specs.Cat.{part}
 use Rattle.laws.specs.Each.{each-in, getD-map-in}
-use Rattle.machine.specs.Table.{most-desks, Vec, zeros, Name, name, Cell, blank, set, Open, State, written}
+use Rattle.machine.specs.Table.{Vec, zeros, Name, name, Cell, blank, set, Open, State, written}
 use Rattle.machine.specs.Steps.{within, isNone, isOpen, openCount}
 use Rattle.machine.specs.Rules.{In, Flat, Below, Issued, Rules}
 use Rattle.machine.specs.Within.{says-within}
@@ -24,6 +24,8 @@ use Rattle.image.specs.Names.{names, no-name, length-names, OpenName, na
 use Rattle.image.specs.Encode.{words, deskBytes, cellBytes, openBytes, block, named, cellPart, openPart, perDesk, openBlocks, encode}
 use Rattle.image.specs.Fields.{vecOf, cellOf, openOf, writerIn, numberIn, vec-words, cell-set, cell-blank, open-back, writer-back, number-back, length-words, vector-part, rest-part}
 use Rattle.image.specs.Places.{part-2, part-3, part-4}
+use Rattle.clock.specs.Vectors.{places}
+use Rattle.image.specs.Limits.{block-bytes, payload-at, vector-at, vector-bytes, after-vector, desk-bytes, cell-bytes, open-bytes, cells-in, opens-in}
 
 -- n, m and the open count of the block of kind 1
 abbrev pub nIn : List ℕ → ℕ
@@ -37,24 +39,24 @@ countIn b = getD b 6 0
 
 -- where the fields stand: p of a desk's payload; a cell; an open write
 abbrev pub deskPlace : ℕ → ℕ → ℕ
-deskPlace p i = 512 + (512 * i + (4 + p))
+deskPlace p i = block-bytes + (block-bytes * i + (payload-at + p))
 
 abbrev pub cellPlace : ℕ → ℕ → ℕ → ℕ → ℕ
-cellPlace n m i x = 512 + (512 * n + (512 * perDesk m * i + (512 * (x / 25) + (4 + 20 * (x % 25)))))
+cellPlace n m i x = block-bytes + (block-bytes * n + (block-bytes * perDesk m * i + (block-bytes * (x / cells-in places) + (payload-at + cell-bytes places * (x % cells-in places)))))
 
 abbrev pub openPlace : ℕ → ℕ → ℕ → ℕ
-openPlace n m p = 512 + (512 * n + (512 * perDesk m * n + (512 * (p / 18) + (4 + 28 * (p % 18)))))
+openPlace n m p = block-bytes + (block-bytes * n + (block-bytes * perDesk m * n + (block-bytes * (p / opens-in places) + (payload-at + open-bytes places * (p % opens-in places)))))
 
 -- of n desks, the 8 numbers at p
 abbrev pub deskIn : ℕ → List ℕ → ℕ → ℕ → Vec
-deskIn n b p = from1 zeros n (λ i. vecOf (part (deskPlace p i) 16 b))
+deskIn n b p = from1 zeros n (λ i. vecOf (part (deskPlace p i) (vector-bytes places) b))
 
 abbrev pub cellIn : ℕ → ℕ → List ℕ → ℕ → ℕ → Cell
-cellIn n m b = from1 (λ x. blank) n (λ i. from1 blank m (λ x. cellOf (part (cellPlace n m i x) 20 b)))
+cellIn n m b = from1 (λ x. blank) n (λ i. from1 blank m (λ x. cellOf (part (cellPlace n m i x) (cell-bytes places) b)))
 
 -- the entries of the open writes, as many as counted
 abbrev pub entryIn : ℕ → ℕ → List ℕ → ℕ → List ℕ
-entryIn n m b p = part (openPlace n m p) 28 b
+entryIn n m b p = part (openPlace n m p) (open-bytes places) b
 
 abbrev pub entriesIn : ℕ → ℕ → List ℕ → List (List ℕ)
 entriesIn n m b = tab (countIn b) (entryIn n m b)
@@ -72,10 +74,10 @@ opensIn n a l u k = pick (within n u && within (a u u) k) (findIn l u k) none
 
 abbrev pub readIn : ℕ → ℕ → (ℕ → Vec) → List ℕ → State
 readIn n m a b =
-    record { desks = n; cells = m; applied = a; clock = deskIn n b 20; cell = cellIn n m b; opens = opensIn n a (entriesIn n m b) }
+    record { desks = n; cells = m; applied = a; clock = deskIn n b (after-vector places); cell = cellIn n m b; opens = opensIn n a (entriesIn n m b) }
 
 unfoldable pub decode : List ℕ → State
-decode b = readIn (nIn b) (mIn b) (deskIn (nIn b) b 4) b
+decode b = readIn (nIn b) (mIn b) (deskIn (nIn b) b vector-at) b
 
 -- the bytes l are those of the open write u.k
 pub record Shows (s : State) (u k : ℕ) (l : List ℕ) : Type 0 where
@@ -100,7 +102,7 @@ module _ (s : State) (ok : Rules s) where
   count-back = refl
 
   -- a vector of issued writes is zero past the desks
-  pub issued-flat : (v : Vec) → Issued s v → Flat most-desks v
+  pub issued-flat : (v : Vec) → Issued s v → Flat places v
   issued-flat v h t l =
       let i = ok .frame .counts .inside t t (omega (arith, h t)) .0 in (i .0, omega (arith, ok .frame .ranges .desks .1))
 
@@ -108,21 +110,21 @@ module _ (s : State) (ok : Rules s) where
   no-desk i o t = same-or (s .applied i t) 0 (λ e. e) (λ e. absurd (let h = ok .frame .counts .inside i t (omega arith) .0 in o (h .0) (h .1)))
 
   -- the numbers at p of each desk, at most its counts
-  desk-back : (p : ℕ) (v : ℕ → Vec) → p + 16 ≤ 36 → ((i : ℕ) → part p 16 (deskBytes i (s .applied i) (s .clock i)) ≡ words (v i)) → ((i : ℕ) → Below (v i) (s .applied i)) → deskIn (s .desks) (encode s) p ≡ v
+  desk-back : (p : ℕ) (v : ℕ → Vec) → p + vector-bytes places ≤ desk-bytes places → ((i : ℕ) → part p (vector-bytes places) (deskBytes i (s .applied i) (s .clock i)) ≡ words (v i)) → ((i : ℕ) → Below (v i) (s .applied i)) → deskIn (s .desks) (encode s) p ≡ v
   desk-back p v g at below =
       from1-is zeros (s .desks) _ v
-      (λ i h. rw (part-2 s i p 16 h g, at (suc i)) (vec-words (v (suc i)) (issued-flat (v (suc i)) (λ t. omega (arith, below (suc i) t, ok .frame .counts .most (suc i) t)))))
+      (λ i h. rw (part-2 s i p (vector-bytes places) h g, at (suc i)) (vec-words (v (suc i)) (issued-flat (v (suc i)) (λ t. omega (arith, below (suc i) t, ok .frame .counts .most (suc i) t)))))
       (λ i o. fun-ext (λ t. omega (arith, no-desk i o t, below i t)))
 
-  pub applied-back : deskIn (s .desks) (encode s) 4 ≡ s .applied
+  pub applied-back : deskIn (s .desks) (encode s) vector-at ≡ s .applied
   unfolding deskBytes
-  applied-back = desk-back 4 (s .applied) (omega arith) (λ i. vector-part i 0 0 0 (s .applied i) (words (s .clock i))) (λ i t. omega arith)
+  applied-back = desk-back vector-at (s .applied) (omega arith) (λ i. vector-part i 0 0 0 (s .applied i) (words (s .clock i))) (λ i t. omega arith)
 
-  pub clock-back : deskIn (s .desks) (encode s) 20 ≡ s .clock
+  pub clock-back : deskIn (s .desks) (encode s) (after-vector places) ≡ s .clock
   unfolding deskBytes
   clock-back =
-      desk-back 20 (s .clock) (omega arith)
-      (λ i. rest-part i 0 0 0 (s .applied i) (words (s .clock i)) 16 (length-words (s .clock i))) (ok .frame .clocks .below)
+      desk-back (after-vector places) (s .clock) (omega arith)
+      (λ i. rest-part i 0 0 0 (s .applied i) (words (s .clock i)) (vector-bytes places) (length-words (s .clock i))) (ok .frame .clocks .below)
 
   one-cell : (i x : ℕ) (c : Cell) → s .cell i x ≡ c → cellOf (cellBytes c) ≡ c
   one-cell i x blank e = cell-blank
@@ -139,15 +141,15 @@ module _ (s : State) (ok : Rules s) where
       from1-is (λ x. blank) (s .desks) _ (s .cell)
       (λ i hi. from1-is blank (s .cells) _ (s .cell (suc i))
       (λ x hx.
-      rw (part-3 s i (x / 25) (x % 25) hi (omega arith) (mod-lt x (omega arith)), div-add-mod x 25) (one-cell (suc i) (suc x) (s .cell (suc i) (suc x)) refl))
+      rw (part-3 s i (x / cells-in places) (x % cells-in places) hi (omega arith) (mod-lt x (omega arith)), div-add-mod x (cells-in places)) (one-cell (suc i) (suc x) (s .cell (suc i) (suc x)) refl))
       (λ x o. no-cell (suc i) x (λ h. o (h .1 .0) (h .1 .1)) (s .cell (suc i) x) refl))
       (λ i o. fun-ext (λ x. no-cell i x (λ h. o (h .0 .0) (h .0 .1)) (s .cell i x) refl))
 
   pub entry-back : (p : ℕ) → p < openCount s → entryIn (s .desks) (s .cells) (encode s) p ≡ named s (getD (names s) p no-name)
   unfolding openBlocks openPart
   entry-back p h =
-      rw (part-4 s (p / 18) (p % 18) (omega arith) (mod-lt p (omega arith)), div-add-mod p 18)
-      (getD-map-in (named s) (names s) p no-name (replicate 28 0) (omega (arith, length-names s)))
+      rw (part-4 s (p / opens-in places) (p % opens-in places) (omega arith) (mod-lt p (omega arith)), div-add-mod p (opens-in places))
+      (getD-map-in (named s) (names s) p no-name (replicate (open-bytes places) 0) (omega (arith, length-names s)))
 
   shows-open : (u k : ℕ) (o : Option Open) → s .opens u k ≡ o → isOpen s u k ≡ true → Shows s u k (openBytes u o)
   shows-open u k none e t = clash (sym (ap (λ (o : Option Open). not (isNone o)) e) ∙ t)

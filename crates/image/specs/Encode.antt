@@ -5,10 +5,12 @@ use mathlib.Core.Option.{Option, none, some}
 use lib.ListN.{length, getD, replicate}
 use Rattle.laws.specs.Tab.{tab}
 use Rattle.laws.specs.Cat.{cat}
-use Rattle.machine.specs.Table.{most-desks, Vec, Name, Cell, blank, set, Open, State}
+use Rattle.machine.specs.Table.{Vec, Name, Cell, blank, set, Open, State}
 use Rattle.machine.specs.Steps.{openCount}
 use Rattle.image.specs.Names.{names}
 use Rattle.image.specs.Check.{checkOf}
+use Rattle.clock.specs.Vectors.{places}
+use Rattle.image.specs.Limits.{payload-bytes, cell-bytes, open-bytes, cells-in, opens-in, blocks-for}
 
 -- "numbers little-endian": of 16 bits, of 32 bits
 abbrev pub word : ℕ → List ℕ
@@ -19,16 +21,16 @@ long x = x % 256 ∷ x / 256 % 256 ∷ x / 65536 % 256 ∷ x / 16777216 ∷ []
 
 -- "8 vector places of 16 bits"
 unfoldable pub words : Vec → List ℕ
-words v = cat (λ t. word (v (suc t))) most-desks
+words v = cat (λ t. word (v (suc t))) places
 
 -- "for each of 8 desks 0 not received, 1 held, 2 applied"
 unfoldable pub markBytes : Vec → List ℕ
-markBytes v = tab most-desks (λ t. v (suc t))
+markBytes v = tab places (λ t. v (suc t))
 
 -- "Blocks of 512 bytes; bytes not named are zero. Byte 0 kind, 1 edition (1), 2-3 the block's place from 0, 4-507 payload,
 -- 508-511 check."
 abbrev pub body : ℕ → ℕ → List ℕ → List ℕ
-body kind place payload = kind ∷ 1 ∷ (word place ++ (payload ++ replicate (504 - length payload) 0))
+body kind place payload = kind ∷ 1 ∷ (word place ++ (payload ++ replicate (payload-bytes - length payload) 0))
 
 abbrev pub sealed : List ℕ → List ℕ
 sealed b = b ++ long (checkOf b)
@@ -49,22 +51,22 @@ block2 s i = block 2 (1 + i) (deskBytes (suc i) (s .applied (suc i)) (s .clock (
 
 -- "20 bytes each: writer (0 unset, then all zero), status, 2 zeros, 8 vector places"
 unfoldable pub cellBytes : Cell → List ℕ
-cellBytes blank = replicate 20 0
+cellBytes blank = replicate (cell-bytes places) 0
 cellBytes (set v u w) = u ∷ v ∷ 0 ∷ 0 ∷ words w
 
 -- "Kind 3, desk by desk, each desk from a new block, 25 cells to a block": the q-th block of a desk has the cells 25 * q + 1 on
 unfoldable pub cellPart : State → ℕ → ℕ → ℕ → List ℕ
-cellPart s i q j = cellBytes (s .cell (suc i) (suc (25 * q + j)))
+cellPart s i q j = cellBytes (s .cell (suc i) (suc (cells-in places * q + j)))
 
 unfoldable pub perDesk : ℕ → ℕ
-perDesk m = (m + 24) / 25
+perDesk m = blocks-for (cells-in places) m
 
 abbrev pub block3 : State → ℕ → ℕ → List ℕ
-block3 s i q = block 3 (1 + s .desks + perDesk (s .cells) * i + q) (cat (cellPart s i q) 25)
+block3 s i q = block 3 (1 + s .desks + perDesk (s .cells) * i + q) (cat (cellPart s i q) (cells-in places))
 
 -- "28 bytes each: writer, status, cell, zero, 8 vector places, then for each of 8 desks .."
 unfoldable pub openBytes : ℕ → Option Open → List ℕ
-openBytes u none = replicate 28 0
+openBytes u none = replicate (open-bytes places) 0
 openBytes u (some w) = u ∷ w .status ∷ w .cell ∷ 0 ∷ (words (w .vector) ++ markBytes (w .marks))
 
 abbrev pub named : State → Name → List ℕ
@@ -72,14 +74,14 @@ named s w = openBytes (w .writer) (s .opens (w .writer) (w .number))
 
 -- "Kind 4, 18 open writes to a block, by writer then number": those of the q-th block, and zeros past the last
 unfoldable pub openPart : State → ℕ → ℕ → List ℕ
-openPart s q j = getD (map (named s) (names s)) (18 * q + j) (replicate 28 0)
+openPart s q j = getD (map (named s) (names s)) (opens-in places * q + j) (replicate (open-bytes places) 0)
 
 -- "No kind 4 block when nothing is open."
 unfoldable pub openBlocks : State → ℕ
-openBlocks s = (openCount s + 17) / 18
+openBlocks s = blocks-for (opens-in places) (openCount s)
 
 abbrev pub block4 : State → ℕ → List ℕ
-block4 s q = block 4 (1 + s .desks + perDesk (s .cells) * s .desks + q) (cat (openPart s q) 18)
+block4 s q = block 4 (1 + s .desks + perDesk (s .cells) * s .desks + q) (cat (openPart s q) (opens-in places))
 
 -- "Blocks stand by kind, 1 to 4, and nothing follows them."
 abbrev pub kind2 : State → List ℕ

@@ -25,16 +25,17 @@ use Rattle.image.specs.Fields.{length-desk, length-cell}
 use Rattle.image.specs.Places.{length-block}
 use Rattle.image.specs.Fill.{pad, pad-sets, sets-more}
 use Rattle.image.specs.Block.{cellRaw, openRaw, SmallCell, SmallOpen, length-openRaw, head, head-put, block-is}
+use Rattle.image.specs.Limits.{block-bytes, payload-at, check-at, payload-bytes, cell-bytes, open-bytes, cells-in, opens-in, row-most, rows-most}
 
 -- the block of the sizes, step by step
-pub size-steps : (n m c x y z : ℕ) (b1 b : List ℕ) → x ≡ n → y ≡ m → z ≡ c → b1 ≡ sets (replicate 512 0) 0 (head 1 0)
-    → b ≡ sets (sets b1 4 (x ∷ y ∷ z ∷ [])) 508 (long (checkOf (sets b1 4 (x ∷ y ∷ z ∷ [])))) → b ≡ block 1 0 (n ∷ m ∷ c ∷ [])
+pub size-steps : (n m c x y z : ℕ) (b1 b : List ℕ) → x ≡ n → y ≡ m → z ≡ c → b1 ≡ sets (replicate block-bytes 0) 0 (head 1 0)
+    → b ≡ sets (sets b1 payload-at (x ∷ y ∷ z ∷ [])) check-at (long (checkOf (sets b1 payload-at (x ∷ y ∷ z ∷ [])))) → b ≡ block 1 0 (n ∷ m ∷ c ∷ [])
 size-steps n m c x y z b1 b ex ey ez e1 e =
-    e ∙ block-is 1 0 (n ∷ m ∷ c ∷ []) (sets b1 4 (x ∷ y ∷ z ∷ [])) (omega arith) (rw (ex, ey, ez, e1 ∙ head-put 1 0))
+    e ∙ block-is 1 0 (n ∷ m ∷ c ∷ []) (sets b1 payload-at (x ∷ y ∷ z ∷ [])) (omega arith) (rw (ex, ey, ez, e1 ∙ head-put 1 0))
 
 -- a block filled by a loop, and its check
-pub filled : (kind at n w : ℕ) (f : ℕ → List ℕ) (b0 b1 b : List ℕ) → ((j : ℕ) → length (f j) ≡ w) → w * n ≤ 504 → b0 ≡ sets (replicate 512 0) 0 (head kind at)
-    → b1 ≡ sets b0 4 (cat f n) → b ≡ sets b1 508 (long (checkOf b1)) → b ≡ block kind at (cat f n)
+pub filled : (kind at n w : ℕ) (f : ℕ → List ℕ) (b0 b1 b : List ℕ) → ((j : ℕ) → length (f j) ≡ w) → w * n ≤ payload-bytes → b0 ≡ sets (replicate block-bytes 0) 0 (head kind at)
+    → b1 ≡ sets b0 payload-at (cat f n) → b ≡ sets b1 check-at (long (checkOf b1)) → b ≡ block kind at (cat f n)
 filled kind at n w f b0 b1 b l h e0 e1 e =
     e ∙ block-is kind at (cat f n) b1 (omega (arith, length-cat f w l n)) (e1 ∙ rw (e0 ∙ head-put kind at))
 
@@ -48,7 +49,7 @@ one-more f w l d₀ d r b at i p e ep eb er = er ∙ rw (e, ep, eb) (sets-more f
 abbrev pub deskBlock : List Desk → ℕ → List ℕ
 deskBlock ds i = block 2 (1 + i) (deskBytes (suc i) (appliedM ds (suc i)) (clockM ds (suc i)))
 
-pub length-deskBlock : (ds : List Desk) (i : ℕ) → length (deskBlock ds i) ≡ 512
+pub length-deskBlock : (ds : List Desk) (i : ℕ) → length (deskBlock ds i) ≡ block-bytes
 length-deskBlock ds i =
     length-block 2 (1 + i) (deskBytes (suc i) (appliedM ds (suc i)) (clockM ds (suc i))) (omega (arith, length-desk (suc i) (appliedM ds (suc i)) (clockM ds (suc i))))
 
@@ -74,23 +75,23 @@ pub record CellFor (cs : List ℕ) (i x : ℕ) (c : Cell) : Type 0 where
 
 -- cell j of block q of desk i, all from 0
 abbrev pub cellPiece : List ℕ → ℕ → ℕ → ℕ → List ℕ
-cellPiece cs i q j = cellBytes (cellsM cs (suc i) (suc (25 * q + j)))
+cellPiece cs i q j = cellBytes (cellsM cs (suc i) (suc (cells-in places * q + j)))
 
 -- block q of desk i, the first of which is block k
 abbrev pub cellBlock : List ℕ → ℕ → ℕ → ℕ → List ℕ
-cellBlock cs k i q = block 3 (k + q) (cat (cellPiece cs i q) 25)
+cellBlock cs k i q = block 3 (k + q) (cat (cellPiece cs i q) (cells-in places))
 
 abbrev pub cellRow : List ℕ → ℕ → ℕ → ℕ → List ℕ
 cellRow cs n c i = cat (cellBlock cs (1 + n + c * i) i) c
 
-pub length-cellPiece : (cs : List ℕ) (i q j : ℕ) → length (cellPiece cs i q j) ≡ 20
-length-cellPiece cs i q j = length-cell (cellsM cs (suc i) (suc (25 * q + j)))
+pub length-cellPiece : (cs : List ℕ) (i q j : ℕ) → length (cellPiece cs i q j) ≡ cell-bytes places
+length-cellPiece cs i q j = length-cell (cellsM cs (suc i) (suc (cells-in places * q + j)))
 
-pub length-cellBlock : (cs : List ℕ) (k i q : ℕ) → length (cellBlock cs k i q) ≡ 512
-length-cellBlock cs k i q = length-block 3 (k + q) (cat (cellPiece cs i q) 25) (omega (arith, length-cat (cellPiece cs i q) 20 (length-cellPiece cs i q) 25))
+pub length-cellBlock : (cs : List ℕ) (k i q : ℕ) → length (cellBlock cs k i q) ≡ block-bytes
+length-cellBlock cs k i q = length-block 3 (k + q) (cat (cellPiece cs i q) (cells-in places)) (omega (arith, length-cat (cellPiece cs i q) (cell-bytes places) (length-cellPiece cs i q) (cells-in places)))
 
-pub length-cellRow : (cs : List ℕ) (n c i : ℕ) → length (cellRow cs n c i) ≡ 512 * c
-length-cellRow cs n c i = length-cat (cellBlock cs (1 + n + c * i) i) 512 (length-cellBlock cs (1 + n + c * i) i) c
+pub length-cellRow : (cs : List ℕ) (n c i : ℕ) → length (cellRow cs n c i) ≡ block-bytes * c
+length-cellRow cs n c i = length-cat (cellBlock cs (1 + n + c * i) i) block-bytes (length-cellBlock cs (1 + n + c * i) i) c
 
 pub cell-there : (cs : List ℕ) (i x s : ℕ) (c : Cell) → i < places → x < desk-cells → s ≡ i * desk-cells + x → CellsFit cs → c ≡ cellAt cs s → CellFor cs i x c
 unfolding cellsM
@@ -102,7 +103,7 @@ pub cell-past : (cs : List ℕ) (i x : ℕ) (c : Cell) → desk-cells ≤ x → 
 unfolding cellsM cellRaw cellBytes words cat
 cell-past cs i x c hx e = record { small = rw e (record { writer = omega arith; status = omega arith }); bytes = rw (e, le-ltb x desk-cells hx) (none (ltb i places)) }
   where
-    none : (b : Bool) → replicate 20 0 ≡ cellBytes (pick b machine.blank machine.blank)
+    none : (b : Bool) → replicate (cell-bytes places) 0 ≡ cellBytes (pick b machine.blank machine.blank)
     none true = refl
     none false = refl
 
@@ -125,17 +126,17 @@ pub record OpenFor (os order : List ℕ) (count p : ℕ) (o : Open) : Type 0 whe
   pub is : o ≡ openOr os order count p
 
 abbrev pub openPiece : List ℕ → List ℕ → ℕ → ℕ → ℕ → List ℕ
-openPiece os order count q j = openRaw (openOr os order count (18 * q + j))
+openPiece os order count q j = openRaw (openOr os order count (opens-in places * q + j))
 
 abbrev pub openBlock : List ℕ → List ℕ → ℕ → ℕ → ℕ → List ℕ
-openBlock os order count k q = block 4 (k + q) (cat (openPiece os order count q) 18)
+openBlock os order count k q = block 4 (k + q) (cat (openPiece os order count q) (opens-in places))
 
-pub length-openPiece : (os order : List ℕ) (count q j : ℕ) → length (openPiece os order count q j) ≡ 28
-length-openPiece os order count q j = length-openRaw (openOr os order count (18 * q + j))
+pub length-openPiece : (os order : List ℕ) (count q j : ℕ) → length (openPiece os order count q j) ≡ open-bytes places
+length-openPiece os order count q j = length-openRaw (openOr os order count (opens-in places * q + j))
 
-pub length-openBlock : (os order : List ℕ) (count k q : ℕ) → length (openBlock os order count k q) ≡ 512
+pub length-openBlock : (os order : List ℕ) (count k q : ℕ) → length (openBlock os order count k q) ≡ block-bytes
 length-openBlock os order count k q =
-    length-block 4 (k + q) (cat (openPiece os order count q) 18) (omega (arith, length-cat (openPiece os order count q) 28 (length-openPiece os order count q) 18))
+    length-block 4 (k + q) (cat (openPiece os order count q) (opens-in places)) (omega (arith, length-cat (openPiece os order count q) (open-bytes places) (length-openPiece os order count q) (opens-in places)))
 
 pub open-there : (os order : List ℕ) (count p : ℕ) (o : Open) → p < count → OrderFits os order count → o ≡ openAt os (getD order p 0) → OpenFor os order count p o
 unfolding openOr
@@ -153,8 +154,8 @@ open-past os order count p o h e =
 
 -- the blocks of desk i's cells lie within those of all
 pub record RowRoom (n c i : ℕ) : Type 0 where
-  pub all : c * n ≤ 24
+  pub all : c * n ≤ rows-most places
   pub within : c * i + c ≤ c * n
 
-pub row-room : (n c i : ℕ) → n ≤ places → c ≤ 3 → i < n → RowRoom n c i
+pub row-room : (n c i : ℕ) → n ≤ places → c ≤ row-most places → i < n → RowRoom n c i
 row-room n c i hn hc hi = record { all = mul-le-mul hc hn; within = omega (arith, mul-le-mul-left c hi) }

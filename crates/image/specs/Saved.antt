@@ -38,6 +38,7 @@ use Rattle.image.specs.Places.{length-1, length-2, length-3s, length-4, 
 use Rattle.image.specs.Block.{cellRaw, openRaw, SmallCell, SmallOpen}
 use Rattle.image.specs.Parts.{CellFits, CellsFit, deskBlock, cellPiece, cellBlock, cellRow, OrderFits, noOpen, openOr, openPiece, openBlock}
 use Rattle.image.specs.Order.{Holds, Ordered, Known}
+use Rattle.image.specs.Limits.{block-bytes, vector-bytes, cell-bytes, open-bytes, opens-in, blocks-for, opens-most, blocks-most}
 
 -- the image of s stands in the buffer from its start on, what lies behind it is as it was, and the result is its length
 pub record Saved (s : State) (before after : List ℕ) (r : ℕ) : Type 0 where
@@ -48,22 +49,22 @@ pub record Room (n m count c k d l : ℕ) : Type 0 where
   pub desks : n ≤ places
   pub cells : m ≤ desk-cells
   pub count-few : count ≤ entries
-  pub some-blocks : d ≤ 4
-  pub few : k + d ≤ 37
-  pub fits : 512 * (k + d) ≤ l
+  pub some-blocks : d ≤ opens-most places
+  pub few : k + d ≤ blocks-most places
+  pub fits : block-bytes * (k + d) ≤ l
 
-zero-words : words (λ t. 0) ≡ replicate 16 0
+zero-words : words (λ t. 0) ≡ replicate (vector-bytes places) 0
 unfolding words cat
 zero-words = refl
 
 -- an unset cell is all zero
-unset-bytes : (c : Cell) → c .writer ≡ 0 → AllZero c → cellRaw c ≡ replicate 20 0
+unset-bytes : (c : Cell) → c .writer ≡ 0 → AllZero c → cellRaw c ≡ replicate (cell-bytes places) 0
 unfolding cellRaw
 unset-bytes c w z =
     let v : place (c .vector) ≡ (λ t. 0) = fun-ext (z .vector) in
     rw (w, z .status) (ap (λ (r : List ℕ). 0 ∷ 0 ∷ 0 ∷ 0 ∷ r) (ap words v ∙ zero-words))
 
-no-open-bytes : openRaw noOpen ≡ replicate 28 0
+no-open-bytes : openRaw noOpen ≡ replicate (open-bytes places) 0
 unfolding openRaw words markBytes cat tab tabFrom
 no-open-bytes = refl
 
@@ -142,18 +143,18 @@ module _ (n m : ℕ) (ds : List Desk) (cs os : List ℕ) (ok : Sound n m ds cs o
               ));
         }
 
-    piece-at : (p : ℕ) → openRaw (openOr os order count p) ≡ getD (map (named st) (names st)) p (replicate 28 0)
+    piece-at : (p : ℕ) → openRaw (openOr os order count p) ≡ getD (map (named st) (names st)) p (replicate (open-bytes places) 0)
     unfolding openOr openBytes openRaw
     piece-at p = go (decLt p count)
       where
-        go : Dec (p < count) → openRaw (openOr os order count p) ≡ getD (map (named st) (names st)) p (replicate 28 0)
+        go : Dec (p < count) → openRaw (openOr os order count p) ≡ getD (map (named st) (names st)) p (replicate (open-bytes places) 0)
         go (yes h) =
             let w = named-is (openAt os (getD order p 0)) (at p .writer) (at p .number) (held-as p h .1) .1 in
-            rw (lt-ltb p count h, getD-map-in (named st) (names st) p no-name (replicate 28 0) (omega (arith, ord-names .size)), is-there p h, w)
+            rw (lt-ltb p count h, getD-map-in (named st) (names st) p no-name (replicate (open-bytes places) 0) (omega (arith, ord-names .size)), is-there p h, w)
         go (no h) =
             let l : length (map (named st) (names st)) ≤ p = rw (length-map (names st) (named st)) (omega (arith, ord-names .size)) in
             let g : count ≤ p = omega arith in
-            rw (le-ltb p count g, List·getD-eq-default (map (named st) (names st)) (replicate 28 0) l) no-open-bytes
+            rw (le-ltb p count g, List·getD-eq-default (map (named st) (names st)) (replicate (open-bytes places) 0) l) no-open-bytes
 
     abbrev opens-from : ℕ
     opens-from = 1 + n + perDesk m * n
@@ -165,7 +166,7 @@ module _ (n m : ℕ) (ds : List Desk) (cs os : List ℕ) (ok : Sound n m ds cs o
     unfolding openPart
     kind4-is c e =
         rw e (ap (λ (f : ℕ → List ℕ). cat f (openBlocks st))
-        (fun-ext (λ q. ap (λ (f : ℕ → List ℕ). block 4 (opens-from + q) (cat f 18)) (fun-ext (λ j. piece-at (18 * q + j))))))
+        (fun-ext (λ q. ap (λ (f : ℕ → List ℕ). block 4 (opens-from + q) (cat f (opens-in places))) (fun-ext (λ j. piece-at (opens-in places * q + j))))))
 
     kind3-is : (c : ℕ) → c ≡ perDesk m → cat (cellRow cs n c) n ≡ kind3 st
     unfolding cellPart
@@ -173,28 +174,28 @@ module _ (n m : ℕ) (ds : List Desk) (cs os : List ℕ) (ok : Sound n m ds cs o
 
     -- one kind after the other
     pub saved : (o o1 o2 o3 o4 b : List ℕ) (c d : ℕ) → c ≡ perDesk m → d ≡ openBlocks st → b ≡ block 1 0 (n ∷ m ∷ count ∷ [])
-        → o1 ≡ sets o 0 b → o2 ≡ sets o1 512 (cat (deskBlock ds) n) → o3 ≡ sets o2 (512 * (1 + n)) (cat (cellRow cs n c) n)
-        → o4 ≡ sets o3 (512 * (1 + n + c * n)) (cat (openBlock os order count (1 + n + c * n)) d) → o4 ≡ sets o 0 (encode st)
+        → o1 ≡ sets o 0 b → o2 ≡ sets o1 block-bytes (cat (deskBlock ds) n) → o3 ≡ sets o2 (block-bytes * (1 + n)) (cat (cellRow cs n c) n)
+        → o4 ≡ sets o3 (block-bytes * (1 + n + c * n)) (cat (openBlock os order count (1 + n + c * n)) d) → o4 ≡ sets o 0 (encode st)
     unfolding encode
     saved o o1 o2 o3 o4 b c d ec ed eb e1 e2 e3 e4 =
         let b1 : b ≡ block1 st = eb ∙ rw count-is in
         let l1 = length-1 st in
-        let l2 = length-cat (block2 st) 512 (length-2 st) n in
-        let l3 = length-cat (λ i. cat (block3 st i) (perDesk m)) (512 * perDesk m) (length-3s st) n in
+        let l2 = length-cat (block2 st) block-bytes (length-2 st) n in
+        let l3 = length-cat (λ i. cat (block3 st i) (perDesk m)) (block-bytes * perDesk m) (length-3s st) n in
         let q3 : cat (cellRow cs n c) n ≡ kind3 st = kind3-is c ec in
         let q4 : cat (openBlock os order count (1 + n + c * n)) d ≡ kind4 st = rw ec (kind4-is d ed) in
-        let p2 : 512 * (1 + n) ≡ 512 + 512 * n = omega arith in
-        let p3 : 512 * (1 + n + perDesk m * n) ≡ 512 + 512 * n + 512 * perDesk m * n = omega arith in
+        let p2 : block-bytes * (1 + n) ≡ block-bytes + block-bytes * n = omega arith in
+        let p3 : block-bytes * (1 + n + perDesk m * n) ≡ block-bytes + block-bytes * n + block-bytes * perDesk m * n = omega arith in
         let s1 = sets-append (block1 st) (kind2 st ++ (kind3 st ++ kind4 st)) o 0 in
-        let s2 = sets-append (kind2 st) (kind3 st ++ kind4 st) (sets o 0 (block1 st)) 512 in
-        let s3 = sets-append (kind3 st) (kind4 st) (sets (sets o 0 (block1 st)) 512 (kind2 st)) (512 + 512 * n) in
+        let s2 = sets-append (kind2 st) (kind3 st ++ kind4 st) (sets o 0 (block1 st)) block-bytes in
+        let s3 = sets-append (kind3 st) (kind4 st) (sets (sets o 0 (block1 st)) block-bytes (kind2 st)) (block-bytes + block-bytes * n) in
         e4 ∙ rw (e3, e2, e1, b1, q3, q4, ec, p2, p3)
         (sym (s1 ∙ rw l1 (s2 ∙ rw l2 (s3 ∙ rw l3))))
 
     -- as the code goes
-    pub saved-all : (o o1 o2 o3 o4 b : List ℕ) (c k d : ℕ) → c ≡ perDesk m → k ≡ 1 + n + c * n → d ≡ (count + 17) / 18 → b ≡ block 1 0 (n ∷ m ∷ count ∷ [])
-        → o1 ≡ sets o 0 b → o2 ≡ sets o1 512 (cat (deskBlock ds) n) → o3 ≡ sets o2 (512 * (1 + n)) (cat (cellRow cs n c) n)
-        → o4 ≡ sets o3 (512 * k) (cat (openBlock os order count k) d) → Saved st o o4 (512 * (k + d))
+    pub saved-all : (o o1 o2 o3 o4 b : List ℕ) (c k d : ℕ) → c ≡ perDesk m → k ≡ 1 + n + c * n → d ≡ blocks-for (opens-in places) count → b ≡ block 1 0 (n ∷ m ∷ count ∷ [])
+        → o1 ≡ sets o 0 b → o2 ≡ sets o1 block-bytes (cat (deskBlock ds) n) → o3 ≡ sets o2 (block-bytes * (1 + n)) (cat (cellRow cs n c) n)
+        → o4 ≡ sets o3 (block-bytes * k) (cat (openBlock os order count k) d) → Saved st o o4 (block-bytes * (k + d))
     unfolding openBlocks
     saved-all o o1 o2 o3 o4 b c k d ec ek ed eb e1 e2 e3 e4 =
         let y : d ≡ openBlocks st = ed ∙ rw count-is in
@@ -204,7 +205,7 @@ module _ (n m : ℕ) (ds : List Desk) (cs os : List ℕ) (ok : Sound n m ds cs o
         }
 
     -- the room that each part has, from that of the whole
-    pub room : (l c k d : ℕ) → c ≡ perDesk m → k ≡ 1 + n + c * n → d ≡ (count + 17) / 18 → length (encode st) ≤ l → Room n m count c k d l
+    pub room : (l c k d : ℕ) → c ≡ perDesk m → k ≡ 1 + n + c * n → d ≡ blocks-for (opens-in places) count → length (encode st) ≤ l → Room n m count c k d l
     unfolding openBlocks
     room l c k d ec ek ed h =
         let b = most-blocks st r in
@@ -223,6 +224,6 @@ module _ (n m : ℕ) (ds : List Desk) (cs os : List ℕ) (ok : Sound n m ds cs o
   -- the length --
 
   -- by the counts alone
-  pub length-is : 512 * (1 + n + perDesk m * n + (length (counted n (appliedM ds)) + 17) / 18) ≡ length (encode st)
+  pub length-is : block-bytes * (1 + n + perDesk m * n + blocks-for (opens-in places) (length (counted n (appliedM ds)))) ≡ length (encode st)
   unfolding openBlocks
   length-is = rw counted-is (sym (length-encode st))

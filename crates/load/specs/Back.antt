@@ -40,10 +40,11 @@ use Rattle.image.specs.Fields.{vec-words, vecOf, cellOf, openOf, writerIn, numb
 use Rattle.image.specs.Decode.{nIn, mIn, countIn, deskPlace, cellPlace, openPlace, deskIn, cellIn, entryIn, decode, Shows, n-back, m-back, count-back, applied-back, clock-back, cell-back, shows-at, open-name}
 use Rattle.load.specs.Spread.{Among, Spread, OpensRead}
 use Rattle.load.specs.Read.{wordsFrom, cellFrom, openFrom, deskFrom, noDesk, noCell, deskFor, cellFor, Fits, CellsRead, getD-part, part-part, place-words, cell-read, open-read}
+use Rattle.image.specs.Limits.{vector-at, vector-bytes, after-vector, cell-bytes, open-bytes, cells-in}
 
 -- desks: one part of them, read at p of the payload
-module _ (b : List ℕ) (n : ℕ) (h : n ≤ places) (g : Desk → Vec) (p : ℕ) (reads : (i : ℕ) → g (deskFrom b i) ≡ vecOf (part (deskPlace p i) 16 b)) (past : g noDesk ≡ zeros) (none-there : g desk0 ≡ zeros) where
-  desk-at : (i : ℕ) → i < n → g (getD (tab places (deskFor b n)) i desk0) ≡ vecOf (part (deskPlace p i) 16 b)
+module _ (b : List ℕ) (n : ℕ) (h : n ≤ places) (g : Desk → Vec) (p : ℕ) (reads : (i : ℕ) → g (deskFrom b i) ≡ vecOf (part (deskPlace p i) (vector-bytes places) b)) (past : g noDesk ≡ zeros) (none-there : g desk0 ≡ zeros) where
+  desk-at : (i : ℕ) → i < n → g (getD (tab places (deskFor b n)) i desk0) ≡ vecOf (part (deskPlace p i) (vector-bytes places) b)
   unfolding deskFor
   desk-at i l = rw (getD-tab (deskFor b n) places i desk0 (omega arith), lt-ltb i n l) (reads i)
 
@@ -57,31 +58,31 @@ module _ (b : List ℕ) (n : ℕ) (h : n ≤ places) (g : Desk → Vec) (p : ℕ
 
 -- the desks that were read are those of the definition
 module _ (b : List ℕ) (n : ℕ) (h : n ≤ places) where
-  pub applied-read : appliedM (tab places (deskFor b n)) ≡ deskIn n b 4
+  pub applied-read : appliedM (tab places (deskFor b n)) ≡ deskIn n b vector-at
   unfolding appliedM
   applied-read =
-      sym (from1-is zeros n (λ i. vecOf (part (deskPlace 4 i) 16 b)) (appliedM (tab places (deskFor b n)))
-      (λ i l. sym (desk-at b n h appliedVec 4 (λ i. place-words b (deskPlace 4 i)) (place-zeros places) (place-zeros 0) i l))
+      sym (from1-is zeros n (λ i. vecOf (part (deskPlace vector-at i) (vector-bytes places) b)) (appliedM (tab places (deskFor b n)))
+      (λ i l. sym (desk-at b n h appliedVec vector-at (λ i. place-words b (deskPlace vector-at i)) (place-zeros places) (place-zeros 0) i l))
       off)
     where
       off : (i : ℕ) → (1 ≤ i → i ≤ n → ⊥) → appliedM (tab places (deskFor b n)) i ≡ zeros
       off zero o = place-zeros 0
-      off (suc i) o = desk-off b n h appliedVec 4 (λ i. place-words b (deskPlace 4 i)) (place-zeros places) (place-zeros 0) i (past (decLt i n))
+      off (suc i) o = desk-off b n h appliedVec vector-at (λ i. place-words b (deskPlace vector-at i)) (place-zeros places) (place-zeros 0) i (past (decLt i n))
         where
           past : Dec (i < n) → n ≤ i
           past (yes l) = absurd (o (omega arith) l)
           past (no l) = omega arith
 
-  pub clock-read : clockM (tab places (deskFor b n)) ≡ deskIn n b 20
+  pub clock-read : clockM (tab places (deskFor b n)) ≡ deskIn n b (after-vector places)
   unfolding clockM
   clock-read =
-      sym (from1-is zeros n (λ i. vecOf (part (deskPlace 20 i) 16 b)) (clockM (tab places (deskFor b n)))
-      (λ i l. sym (desk-at b n h clockVec 20 (λ i. place-words b (deskPlace 20 i)) (place-zeros places) (place-zeros 0) i l))
+      sym (from1-is zeros n (λ i. vecOf (part (deskPlace (after-vector places) i) (vector-bytes places) b)) (clockM (tab places (deskFor b n)))
+      (λ i l. sym (desk-at b n h clockVec (after-vector places) (λ i. place-words b (deskPlace (after-vector places) i)) (place-zeros places) (place-zeros 0) i l))
       off)
     where
       off : (i : ℕ) → (1 ≤ i → i ≤ n → ⊥) → clockM (tab places (deskFor b n)) i ≡ zeros
       off zero o = place-zeros 0
-      off (suc i) o = desk-off b n h clockVec 20 (λ i. place-words b (deskPlace 20 i)) (place-zeros places) (place-zeros 0) i (past (decLt i n))
+      off (suc i) o = desk-off b n h clockVec (after-vector places) (λ i. place-words b (deskPlace (after-vector places) i)) (place-zeros places) (place-zeros 0) i (past (decLt i n))
         where
           past : Dec (i < n) → n ≤ i
           past (yes l) = absurd (o (omega arith) l)
@@ -98,7 +99,7 @@ module _ (b : List ℕ) (n m : ℕ) (hn : n ≤ places) (hm : m ≤ desk-cells) 
       let c : suc x - 1 ≡ x = omega arith in
       rw (a, c) at (cell-in cs (suc i) (suc x) (omega arith, omega arith) (omega arith, omega arith)) ∙ ap cellM (read (i * desk-cells + x) (omega arith))
 
-  cell-on : (i x : ℕ) → i < n → x < m → cellOf (part (cellPlace n m i x) 20 b) ≡ cellsM cs (suc i) (suc x)
+  cell-on : (i x : ℕ) → i < n → x < m → cellOf (part (cellPlace n m i x) (cell-bytes places) b) ≡ cellsM cs (suc i) (suc x)
   unfolding cellFor
   cell-on i x hi hx =
       let r = row-of i x (omega arith) in
@@ -125,8 +126,8 @@ module _ (b : List ℕ) (n m : ℕ) (hn : n ≤ places) (hm : m ≤ desk-cells) 
 
   pub cells-read : cellsM cs ≡ cellIn n m b
   cells-read =
-      sym (from1-is (λ x. machine.blank) n (λ i. from1 machine.blank m (λ x. cellOf (part (cellPlace n m i x) 20 b))) (cellsM cs)
-      (λ i hi. from1-is machine.blank m (λ x. cellOf (part (cellPlace n m i x) 20 b)) (cellsM cs (suc i)) (λ x hx. cell-on i x hi hx) (row-off i))
+      sym (from1-is (λ x. machine.blank) n (λ i. from1 machine.blank m (λ x. cellOf (part (cellPlace n m i x) (cell-bytes places) b))) (cellsM cs)
+      (λ i hi. from1-is machine.blank m (λ x. cellOf (part (cellPlace n m i x) (cell-bytes places) b)) (cellsM cs (suc i)) (λ x hx. cell-on i x hi hx) (row-off i))
       desk-off)
     where
       row-off : (i x : ℕ) → (1 ≤ x → x ≤ m → ⊥) → cellsM cs (suc i) x ≡ machine.blank
@@ -143,14 +144,14 @@ module _ (b : List ℕ) (n m : ℕ) (hn : n ≤ places) (hm : m ≤ desk-cells) 
 
 -- open writes: what stands at a place of the image, as the code reads it
 module _ (b : List ℕ) (n m p : ℕ) where
-  writer-read : openFrom b (openPlace n m p) .writer ≡ writerIn (part (openPlace n m p) 28 b)
+  writer-read : openFrom b (openPlace n m p) .writer ≡ writerIn (part (openPlace n m p) (open-bytes places) b)
   writer-read =
       let z : openPlace n m p + 0 ≡ openPlace n m p = omega arith in
-      sym (getD-part b (openPlace n m p) 28 0 (omega arith) ∙ rw z)
+      sym (getD-part b (openPlace n m p) (open-bytes places) 0 (omega arith) ∙ rw z)
 
-  number-read : number (openFrom b (openPlace n m p)) ≡ numberIn (part (openPlace n m p) 28 b)
+  number-read : number (openFrom b (openPlace n m p)) ≡ numberIn (part (openPlace n m p) (open-bytes places) b)
   unfolding numberIn
-  number-read = rw (← writer-read, part-part b (openPlace n m p) 4 16 28 (omega arith), ← place-words b (openPlace n m p + 4))
+  number-read = rw (← writer-read, part-part b (openPlace n m p) vector-at (vector-bytes places) (open-bytes places) (omega arith), ← place-words b (openPlace n m p + vector-at))
 
 -- all of it, of the image of a table s that keeps the rules
 module _ (s : State) (ok : Rules s) where
@@ -160,7 +161,7 @@ module _ (s : State) (ok : Rules s) where
   is-open : (p : ℕ) → p < openCount s → OpenName s (at p)
   is-open p h = each-in (OpenName s) (names s) no-name (names-open s) p (omega (arith, length-names s))
 
-  shows : (p : ℕ) → p < openCount s → Shows s (at p .writer) (at p .number) (part (openPlace (s .desks) (s .cells) p) 28 (encode s))
+  shows : (p : ℕ) → p < openCount s → Shows s (at p .writer) (at p .number) (part (openPlace (s .desks) (s .cells) p) (open-bytes places) (encode s))
   shows p h = shows-at s ok p h
 
   abbrev from : ℕ → Open
@@ -230,7 +231,7 @@ module _ (s : State) (ok : Rules s) where
         let w1 : at p .writer ≡ u = ap (λ (x : Name). x .writer) (g .is) in
         let w2 : at p .number ≡ k = ap (λ (x : Name). x .number) (g .is) in
         let t : namedAt os u k (spread .at p) ≡ true = rw (w1, w2) at (named-so p c) in
-        let sh : some (openOf (part (openPlace (s .desks) (s .cells) p) 28 (encode s))) ≡ s .opens u k = rw (w1, w2) at (shows p c .whole) in
+        let sh : some (openOf (part (openPlace (s .desks) (s .cells) p) (open-bytes places) (encode s))) ≡ s .opens u k = rw (w1, w2) at (shows p c .whole) in
         opens-at os (spread .at p) u k unique-read (spread .inside p c) t
         ∙ ap some (ap openM (spread .there p c) ∙ open-read (encode s) (openPlace (s .desks) (s .cells) p)) ∙ sh ∙ e
 
@@ -238,26 +239,26 @@ module _ (s : State) (ok : Rules s) where
     opens-read = fun-ext (λ u. fun-ext (λ k. opens-is u k (s .opens u k) refl))
 
 -- unset cells
-zero-vector : (t : ℕ) → vecOf (replicate 16 0) t ≡ 0
+zero-vector : (t : ℕ) → vecOf (replicate (vector-bytes places) 0) t ≡ 0
 unfolding words cat
 zero-vector t = ap (λ (v : Vec). v t) (vec-words zeros (λ u l. absurd (omega arith)))
 
 module _ (b : List ℕ) (p : ℕ) where
-  blank-from : part p 20 b ≡ replicate 20 0 → AllZero (cellFrom b p)
+  blank-from : part p (cell-bytes places) b ≡ replicate (cell-bytes places) 0 → AllZero (cellFrom b p)
   unfolding part
   blank-from e =
       record {
-        status = sym (getD-part b p 20 1 (omega arith)) ∙ ap (λ (l : List ℕ). getD l 1 0) e;
-        vector = λ t. ap (λ (v : Vec). v t) (place-words b (p + 4) ∙ ap vecOf (sym (part-part b p 4 16 20 (omega arith)) ∙ ap (λ (l : List ℕ). part 4 16 l) e)) ∙ zero-vector t;
+        status = sym (getD-part b p (cell-bytes places) 1 (omega arith)) ∙ ap (λ (l : List ℕ). getD l 1 0) e;
+        vector = λ t. ap (λ (v : Vec). v t) (place-words b (p + vector-at) ∙ ap vecOf (sym (part-part b p vector-at (vector-bytes places) (cell-bytes places) (omega arith)) ∙ ap (λ (l : List ℕ). part vector-at (vector-bytes places) l) e)) ∙ zero-vector t;
       }
 
 module _ (s : State) (ok : Rules s) where
-  blank-cell : (i x p : ℕ) (c : machine.Cell) → s .cell i x ≡ c → part p 20 (encode s) ≡ cellBytes c → cellFrom (encode s) p .writer ≡ 0 → AllZero (cellFrom (encode s) p)
+  blank-cell : (i x p : ℕ) (c : machine.Cell) → s .cell i x ≡ c → part p (cell-bytes places) (encode s) ≡ cellBytes c → cellFrom (encode s) p .writer ≡ 0 → AllZero (cellFrom (encode s) p)
   unfolding cellBytes
   blank-cell i x p machine.blank q e w = blank-from (encode s) p e
   blank-cell i x p (machine.set v u y) q e w =
       let z : p + 0 ≡ p = omega arith in
-      let a : getD (part p 20 (encode s)) 0 0 ≡ 0 = getD-part (encode s) p 20 0 (omega arith) ∙ rw z w in
+      let a : getD (part p (cell-bytes places) (encode s)) 0 0 ≡ 0 = getD-part (encode s) p (cell-bytes places) 0 (omega arith) ∙ rw z w in
       let c : u ≡ 0 = sym (ap (λ (l : List ℕ). getD l 0 0) e) ∙ a in
       absurd (omega (arith, ok .frame .cell i x v u y q .writer-in .0))
 
@@ -278,8 +279,8 @@ module _ (s : State) (ok : Rules s) where
       go (yes a) (yes c) =
           let p : ℕ = cellPlace (s .desks) (s .cells) (t / desk-cells) (t % desk-cells) in
           let f : cellAt cs t ≡ cellFrom (encode s) p = read t h ∙ rw (lt-ltb (t / desk-cells) (s .desks) a, lt-ltb (t % desk-cells) (s .cells) c) in
-          let e : part p 20 (encode s) ≡ cellBytes (s .cell (suc (t / desk-cells)) (suc (t % desk-cells))) =
-          rw (div-add-mod (t % desk-cells) 25) at (part-3 s (t / desk-cells) (t % desk-cells / 25) (t % desk-cells % 25) a (omega arith) (omega arith)) in
+          let e : part p (cell-bytes places) (encode s) ≡ cellBytes (s .cell (suc (t / desk-cells)) (suc (t % desk-cells))) =
+          rw (div-add-mod (t % desk-cells) (cells-in places)) at (part-3 s (t / desk-cells) (t % desk-cells / cells-in places) (t % desk-cells % cells-in places) a (omega arith) (omega arith)) in
           rw f (blank-cell (suc (t / desk-cells)) (suc (t % desk-cells)) p (s .cell (suc (t / desk-cells)) (suc (t % desk-cells))) refl e (rw f at w))
       go (yes a) (no c) = let l : s .cells ≤ t % desk-cells = omega arith in none-there (rw (lt-ltb (t / desk-cells) (s .desks) a, le-ltb (t % desk-cells) (s .cells) l))
       go (no a) c = let l : s .desks ≤ t / desk-cells = omega arith in none-there (rw (le-ltb (t / desk-cells) (s .desks) l))

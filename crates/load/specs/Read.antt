@@ -26,6 +26,7 @@ use Rattle.table.specs.Model.{cellM, openM}
 use Rattle.image.specs.Encode.{perDesk}
 use Rattle.image.specs.Fields.{vecOf, marksOf, cellOf, openOf}
 use Rattle.image.specs.Decode.{nIn, mIn, countIn, deskPlace, cellPlace, openPlace}
+use Rattle.image.specs.Limits.{block-bytes, payload-at, payload-bytes, vector-at, vector-bytes, after-vector, cell-bytes, open-bytes, cells-in, opens-in, blocks-for, row-most, rows-most, opens-most}
 
 abbrev pub wordAt : List ℕ → ℕ → ℕ
 wordAt b p = getD b p 0 + 256 * getD b (p + 1) 0
@@ -38,13 +39,13 @@ abbrev pub bytesFrom : List ℕ → ℕ → List ℕ
 bytesFrom b p = tab places (λ t. getD b (p + t) 0)
 
 abbrev pub cellFrom : List ℕ → ℕ → Cell
-cellFrom b p = record { writer = getD b p 0; status = getD b (p + 1) 0; vector = wordsFrom b (p + 4) }
+cellFrom b p = record { writer = getD b p 0; status = getD b (p + 1) 0; vector = wordsFrom b (p + vector-at) }
 
 abbrev pub openFrom : List ℕ → ℕ → Open
-openFrom b p = record { writer = getD b p 0; status = getD b (p + 1) 0; cell = getD b (p + 2) 0; vector = wordsFrom b (p + 4); marks = bytesFrom b (p + 20) }
+openFrom b p = record { writer = getD b p 0; status = getD b (p + 1) 0; cell = getD b (p + 2) 0; vector = wordsFrom b (p + vector-at); marks = bytesFrom b (p + after-vector places) }
 
 abbrev pub deskFrom : List ℕ → ℕ → Desk
-deskFrom b i = record { applied = wordsFrom b (deskPlace 4 i); clock = clockOf (wordsFrom b (deskPlace 20 i)) }
+deskFrom b i = record { applied = wordsFrom b (deskPlace vector-at i); clock = clockOf (wordsFrom b (deskPlace (after-vector places) i)) }
 
 -- what stands past n, past m, past the open writes
 abbrev pub noDesk : Desk
@@ -64,7 +65,7 @@ pub record Fits (b : List ℕ) : Type 0 where
   pub desks : (1 ≤ nIn b) × (nIn b ≤ places)
   pub cells : (1 ≤ mIn b) × (mIn b ≤ desk-cells)
   pub few : countIn b ≤ entries
-  pub size : length b ≡ 512 * (1 + nIn b + perDesk (mIn b) * nIn b + (countIn b + 17) / 18)
+  pub size : length b ≡ block-bytes * (1 + nIn b + perDesk (mIn b) * nIn b + blocks-for (opens-in places) (countIn b))
 
 -- a test that failed, and one that did not
 pub says-no : {P : Type 0} → (P → ⊥) → Says false P
@@ -74,7 +75,7 @@ pub says-so : {P : Type 0} → P → Says true P
 says-so p = record { to = λ e. p; from = λ q. refl }
 
 pub fits-is : (b : List ℕ) (n m count : ℕ) → n ≡ nIn b → m ≡ mIn b → count ≡ countIn b → (n ≡ 0 → ⊥) → n ≤ places → (m ≡ 0 → ⊥) → m ≤ desk-cells → count ≤ entries
-    → length b ≡ 512 * (1 + n + perDesk m * n + (count + 17) / 18) → Fits b
+    → length b ≡ block-bytes * (1 + n + perDesk m * n + blocks-for (opens-in places) count) → Fits b
 fits-is b n m count en em ec a n8 d m64 few e =
     record { desks = (omega arith, omega arith); cells = (omega arith, omega arith); few = omega arith; size = rw (en, em, ec) at e }
 
@@ -85,51 +86,51 @@ CellsRead b n m cs = (s : ℕ) → s < all-cells → cellAt cs s ≡ cellFor b n
 -- where a cell and an open write stand, and that they lie within
 pub record Within (b : List ℕ) (n k q r w at : ℕ) : Type 0 where
   pub desks : n ≤ places
-  pub before : k ≤ 24
-  pub block : q < 4
-  pub payload : r < 504
-  pub is : 512 + (512 * n + (512 * k + (512 * q + (4 + r)))) ≡ at
+  pub before : k ≤ rows-most places
+  pub block : q < opens-most places
+  pub payload : r < payload-bytes
+  pub is : block-bytes + (block-bytes * n + (block-bytes * k + (block-bytes * q + (payload-at + r)))) ≡ at
   pub ends : at + w ≤ length b
 
 module _ (b : List ℕ) (h : Fits b) where
-  few-blocks : perDesk (mIn b) ≤ 3
+  few-blocks : perDesk (mIn b) ≤ row-most places
   unfolding perDesk
   few-blocks = omega (arith, h .cells .1)
 
-  cell-within : (i x c : ℕ) → c ≡ perDesk (mIn b) → i < nIn b → x < mIn b → Within b (nIn b) (c * i) (x / 25) (20 * (x % 25)) 20 (cellPlace (nIn b) (mIn b) i x)
+  cell-within : (i x c : ℕ) → c ≡ perDesk (mIn b) → i < nIn b → x < mIn b → Within b (nIn b) (c * i) (x / cells-in places) (cell-bytes places * (x % cells-in places)) (cell-bytes places) (cellPlace (nIn b) (mIn b) i x)
   unfolding perDesk
   cell-within i x c e hi hx =
       let z = few-blocks in
       let n8 = h .desks .1 in
       let m64 = h .cells .1 in
-      let z3 : c ≤ 3 = omega arith in
-      let i8 : i ≤ 8 = omega arith in
-      let k : c * i ≤ 24 = mul-le-mul z3 i8 in
+      let z3 : c ≤ row-most places = omega arith in
+      let i8 : i ≤ places = omega arith in
+      let k : c * i ≤ rows-most places = mul-le-mul z3 i8 in
       let f = ap (λ (y : ℕ). y * i) e in
       let g = mul-le-mul-left (perDesk (mIn b)) hi in
       let l = h .size in
-      let a : x / 25 < perDesk (mIn b) = omega arith in
+      let a : x / cells-in places < perDesk (mIn b) = omega arith in
       record { desks = n8; before = k; block = omega arith; payload = omega arith; is = omega arith; ends = omega arith }
 
-  open-within : (p c : ℕ) → c ≡ perDesk (mIn b) → p < countIn b → Within b (nIn b) (c * nIn b) (p / 18) (28 * (p % 18)) 28 (openPlace (nIn b) (mIn b) p)
+  open-within : (p c : ℕ) → c ≡ perDesk (mIn b) → p < countIn b → Within b (nIn b) (c * nIn b) (p / opens-in places) (open-bytes places * (p % opens-in places)) (open-bytes places) (openPlace (nIn b) (mIn b) p)
   open-within p c e hp =
       let z = few-blocks in
       let n8 = h .desks .1 in
       let c64 = h .few in
-      let z3 : c ≤ 3 = omega arith in
-      let k : c * nIn b ≤ 24 = mul-le-mul z3 n8 in
+      let z3 : c ≤ row-most places = omega arith in
+      let k : c * nIn b ≤ rows-most places = mul-le-mul z3 n8 in
       let f = ap (λ (y : ℕ). y * nIn b) e in
       let l = h .size in
       record { desks = n8; before = k; block = omega arith; payload = omega arith; is = omega arith; ends = omega arith }
 
   -- at the code's own numbers
-  pub cell-where : (n m i x c : ℕ) → n ≡ nIn b → m ≡ mIn b → c ≡ perDesk m → i < n → x < m → Within b n (c * i) (x / 25) (20 * (x % 25)) 20 (cellPlace n m i x)
+  pub cell-where : (n m i x c : ℕ) → n ≡ nIn b → m ≡ mIn b → c ≡ perDesk m → i < n → x < m → Within b n (c * i) (x / cells-in places) (cell-bytes places * (x % cells-in places)) (cell-bytes places) (cellPlace n m i x)
   cell-where n m i x c en em ec hi hx = rw (en, em) (cell-within i x c (ec ∙ ap perDesk em) (omega arith) (omega arith))
 
-  pub open-where : (n m p c count : ℕ) → n ≡ nIn b → m ≡ mIn b → c ≡ perDesk m → count ≡ countIn b → p < count → Within b n (c * n) (p / 18) (28 * (p % 18)) 28 (openPlace n m p)
+  pub open-where : (n m p c count : ℕ) → n ≡ nIn b → m ≡ mIn b → c ≡ perDesk m → count ≡ countIn b → p < count → Within b n (c * n) (p / opens-in places) (open-bytes places * (p % opens-in places)) (open-bytes places) (openPlace n m p)
   open-where n m p c count en em ec eq hp = rw (en, em) (open-within p c (ec ∙ ap perDesk em) (omega arith))
 
-  pub desks-within : 512 + 512 * nIn b ≤ length b
+  pub desks-within : block-bytes + block-bytes * nIn b ≤ length b
   desks-within = omega (arith, h .size)
 
 -- as the code picks them
@@ -189,30 +190,30 @@ place-past f (suc t) o = getD-tab-out f places t 0 (past (decLt t places))
     past (yes h) = absurd (o (omega arith) h)
     past (no h) = omega arith
 
-pub place-words : (b : List ℕ) (p : ℕ) → place (wordsFrom b p) ≡ vecOf (part p 16 b)
+pub place-words : (b : List ℕ) (p : ℕ) → place (wordsFrom b p) ≡ vecOf (part p (vector-bytes places) b)
 unfolding vecOf
 place-words b p =
-    sym (from1-is 0 places (λ t. getD (part p 16 b) (2 * t + 0) 0 + 256 * getD (part p 16 b) (2 * t + 1) 0) (place (wordsFrom b p))
+    sym (from1-is 0 places (λ t. getD (part p (vector-bytes places) b) (2 * t + 0) 0 + 256 * getD (part p (vector-bytes places) b) (2 * t + 1) 0) (place (wordsFrom b p))
     (λ t h.
     let e0 : p + (2 * t + 0) ≡ p + 2 * t = omega arith in
     let e1 : p + (2 * t + 1) ≡ p + 2 * t + 1 = omega arith in
-    rw (getD-tab (λ t. wordAt b (p + 2 * t)) places t 0 h, getD-part b p 16 (2 * t + 0) (omega arith), getD-part b p 16 (2 * t + 1) (omega arith), e0, e1))
+    rw (getD-tab (λ t. wordAt b (p + 2 * t)) places t 0 h, getD-part b p (vector-bytes places) (2 * t + 0) (omega arith), getD-part b p (vector-bytes places) (2 * t + 1) (omega arith), e0, e1))
     (place-past (λ t. wordAt b (p + 2 * t))))
 
-pub place-bytes : (b : List ℕ) (p : ℕ) → place (bytesFrom b p) ≡ marksOf (part p 8 b)
+pub place-bytes : (b : List ℕ) (p : ℕ) → place (bytesFrom b p) ≡ marksOf (part p places b)
 unfolding marksOf
 place-bytes b p =
-    sym (from1-is 0 places (λ t. getD (part p 8 b) t 0) (place (bytesFrom b p))
-    (λ t h. rw (getD-tab (λ t. getD b (p + t) 0) places t 0 h, getD-part b p 8 t h))
+    sym (from1-is 0 places (λ t. getD (part p places b) t 0) (place (bytesFrom b p))
+    (λ t h. rw (getD-tab (λ t. getD b (p + t) 0) places t 0 h, getD-part b p places t h))
     (place-past (λ t. getD b (p + t) 0)))
 
-pub cell-read : (b : List ℕ) (p : ℕ) → cellM (cellFrom b p) ≡ cellOf (part p 20 b)
+pub cell-read : (b : List ℕ) (p : ℕ) → cellM (cellFrom b p) ≡ cellOf (part p (cell-bytes places) b)
 unfolding cellOf
 cell-read b p =
     let z : p + 0 ≡ p = omega arith in
-    rw (place-words b (p + 4), getD-part b p 20 0 (omega arith), getD-part b p 20 1 (omega arith), part-part b p 4 16 20 (omega arith), z)
+    rw (place-words b (p + vector-at), getD-part b p (cell-bytes places) 0 (omega arith), getD-part b p (cell-bytes places) 1 (omega arith), part-part b p vector-at (vector-bytes places) (cell-bytes places) (omega arith), z)
 
-pub open-read : (b : List ℕ) (p : ℕ) → openM (openFrom b p) ≡ openOf (part p 28 b)
+pub open-read : (b : List ℕ) (p : ℕ) → openM (openFrom b p) ≡ openOf (part p (open-bytes places) b)
 unfolding openOf
 open-read b p =
-    rw (place-words b (p + 4), place-bytes b (p + 20), getD-part b p 28 1 (omega arith), getD-part b p 28 2 (omega arith), part-part b p 4 16 28 (omega arith), part-part b p 20 8 28 (omega arith))
+    rw (place-words b (p + vector-at), place-bytes b (p + after-vector places), getD-part b p (open-bytes places) 1 (omega arith), getD-part b p (open-bytes places) 2 (omega arith), part-part b p vector-at (vector-bytes places) (open-bytes places) (omega arith), part-part b p (after-vector places) places (open-bytes places) (omega arith))

@@ -9,6 +9,7 @@ ghost use Rattle.table.specs.Value.{desk-cells, all-cells, entries, open-width}
 ghost use Rattle.table.specs.Model.{model};
 ghost use Rattle.table.specs.Sound.{Sound};
 ghost use Rattle.table.specs.Begin.{freshTable};
+ghost use Rattle.image.specs.Limits.{block-bytes, payload-at, payload-bytes, vector-bytes, cell-bytes, open-bytes, rows-most, opens-most};
 ghost use Rattle.image.specs.Encode.{perDesk, encode};
 ghost use Rattle.image.specs.Decode.{nIn, mIn, countIn, openPlace};
 ghost use Rattle.load.specs.Read.{wordAt, wordsFrom, bytesFrom, cellFrom, openFrom, deskFrom, deskFor, cellFor, Fits, CellsRead};
@@ -17,7 +18,17 @@ ghost use Rattle.load.specs.Back.{ReadAs, Reads};
 ghost use Rattle.load.specs.Loading.{Answers};
 use clock::Clock;
 use clock::PLACES;
+use image::AFTER_VECTOR;
+use image::APPLIED_AT;
 use image::BLOCK;
+use image::CELL_BYTES;
+use image::CELLS_IN;
+use image::IMAGE;
+use image::OPEN_BYTES;
+use image::OPENS_IN;
+use image::PAYLOAD_AT;
+use image::VECTOR_AT;
+use image::VECTOR_BYTES;
 use table::CELL;
 use table::CELLS;
 use table::Cell;
@@ -53,7 +64,7 @@ fn word_at(b: &[u8], at: usize) -> u16
 }
 
 fn words_at(b: &[u8], at: usize) -> [u16; PLACES]
-    requires { ⌜ at + 16 ≤ length (now b) ⌝ }
+    requires { ⌜ at + vector-bytes places ≤ length (now b) ⌝ }
     ensures { λ r. ⌜ r ≡ wordsFrom (now (b .entry)) at ⌝ }
 {
     let mut v = [0u16; PLACES];
@@ -66,7 +77,7 @@ fn words_at(b: &[u8], at: usize) -> [u16; PLACES]
 }
 
 fn bytes_at(b: &[u8], at: usize) -> [u16; PLACES]
-    requires { ⌜ at + 8 ≤ length (now b) ⌝ }
+    requires { ⌜ at + places ≤ length (now b) ⌝ }
     ensures { λ r. ⌜ r ≡ bytesFrom (now (b .entry)) at ⌝ }
 {
     let mut v = [0u16; PLACES];
@@ -79,12 +90,12 @@ fn bytes_at(b: &[u8], at: usize) -> [u16; PLACES]
 }
 
 fn read_cell(b: &[u8], at: usize) -> Cell
-    requires { ⌜ at + 20 ≤ length (now b) ⌝ }
+    requires { ⌜ at + cell-bytes places ≤ length (now b) ⌝ }
     ensures { λ r. ⌜ r ≡ cellFrom (now (b .entry)) at ⌝ }
 {
     let writer = wide(b[at]);
     let status = wide(b[at + 1]);
-    let vector = words_at(b, at + 4);
+    let vector = words_at(b, at + VECTOR_AT);
     Cell {
         writer: writer,
         status: status,
@@ -93,14 +104,14 @@ fn read_cell(b: &[u8], at: usize) -> Cell
 }
 
 fn read_open(b: &[u8], at: usize) -> Open
-    requires { ⌜ at + 28 ≤ length (now b) ⌝ }
+    requires { ⌜ at + open-bytes places ≤ length (now b) ⌝ }
     ensures { λ r. ⌜ r ≡ openFrom (now (b .entry)) at ⌝ }
 {
     let writer = wide(b[at]);
     let status = wide(b[at + 1]);
     let cell = wide(b[at + 2]);
-    let vector = words_at(b, at + 4);
-    let marks = bytes_at(b, at + 20);
+    let vector = words_at(b, at + VECTOR_AT);
+    let marks = bytes_at(b, at + AFTER_VECTOR);
     Open {
         writer: writer,
         status: status,
@@ -112,12 +123,12 @@ fn read_open(b: &[u8], at: usize) -> Open
 
 // The block of desk i, from 0.
 fn read_desk(b: &[u8], i: usize) -> Desk
-    requires { ⌜ (i < places) × (1024 + 512 * i ≤ length (now b)) ⌝ }
+    requires { ⌜ (i < places) × (block-bytes + block-bytes * i + block-bytes ≤ length (now b)) ⌝ }
     ensures { λ r. ⌜ r ≡ deskFrom (now (b .entry)) i ⌝ }
 {
-    let at = BLOCK + (BLOCK * i + 8);
+    let at = BLOCK + (BLOCK * i + APPLIED_AT);
     let applied = words_at(b, at);
-    let v = words_at(b, at + 16);
+    let v = words_at(b, at + VECTOR_BYTES);
     let clock = Clock { at: v };
     Desk {
         applied: applied,
@@ -134,7 +145,7 @@ fn sizes_fit(b: &[u8]) -> bool
     if b.len() < BLOCK {
         return false;
     }
-    let n = size(b[4]);
+    let n = size(b[PAYLOAD_AT]);
     let m = size(b[5]);
     let count = size(b[6]);
     if n == 0 {
@@ -159,7 +170,7 @@ fn sizes_fit(b: &[u8]) -> bool
 }
 
 fn desk_or(b: &[u8], n: usize, i: usize) -> Desk
-    requires { ⌜ (n ≤ places) × (512 + 512 * n ≤ length (now b)) ⌝ }
+    requires { ⌜ (n ≤ places) × (block-bytes + block-bytes * n ≤ length (now b)) ⌝ }
     ensures { λ r. ⌜ r ≡ deskFor (now (b .entry)) n i ⌝ }
 {
     if i < n {
@@ -174,7 +185,7 @@ fn desk_or(b: &[u8], n: usize, i: usize) -> Desk
 }
 
 fn read_desks(b: &[u8], n: usize) -> [Desk; PLACES]
-    requires { ⌜ (n ≤ places) × (512 + 512 * n ≤ length (now b)) ⌝ }
+    requires { ⌜ (n ≤ places) × (block-bytes + block-bytes * n ≤ length (now b)) ⌝ }
     ensures { λ r. ⌜ r ≡ tab places (deskFor (now (b .entry)) n) ⌝ }
 {
     let first = desk_or(b, n, 0);
@@ -190,10 +201,10 @@ fn read_desks(b: &[u8], n: usize) -> [Desk; PLACES]
 
 // Where a field stands: r of the payload of a block, the q-th after k blocks that follow the desks'.
 fn field_place(n: usize, k: usize, q: usize, r: usize) -> usize
-    requires { ⌜ (n ≤ places) × ((k ≤ 24) × ((q < 4) × (r < 504))) ⌝ }
-    ensures { λ a. ⌜ a ≡ 512 + (512 * n + (512 * k + (512 * q + (4 + r)))) ⌝ }
+    requires { ⌜ (n ≤ places) × ((k ≤ rows-most places) × ((q < opens-most places) × (r < payload-bytes))) ⌝ }
+    ensures { λ a. ⌜ a ≡ block-bytes + (block-bytes * n + (block-bytes * k + (block-bytes * q + (payload-at + r)))) ⌝ }
 {
-    BLOCK + (BLOCK * n + (BLOCK * k + (BLOCK * q + (4 + r))))
+    BLOCK + (BLOCK * n + (BLOCK * k + (BLOCK * q + (PAYLOAD_AT + r))))
 }
 
 // Row s of the cells, where a desk's cells take c blocks.
@@ -205,7 +216,7 @@ fn cell_or(b: &[u8], n: usize, m: usize, c: usize, s: usize) -> Cell
     let x = s % CELLS;
     if i < n {
         if x < m {
-            let at = field_place(n, c * i, x / 25, 20 * (x % 25));
+            let at = field_place(n, c * i, x / CELLS_IN, CELL_BYTES * (x % CELLS_IN));
             return read_cell(b, at);
         }
     }
@@ -234,7 +245,7 @@ fn open_of(b: &[u8], n: usize, m: usize, c: usize, count: usize, p: usize) -> Op
     requires { ⌜ (Fits (now b)) × ((n ≡ nIn (now b)) × ((m ≡ mIn (now b)) × ((c ≡ perDesk m) × ((count ≡ countIn (now b)) × (p < count))))) ⌝ }
     ensures { λ r. ⌜ r ≡ openFrom (now (b .entry)) (openPlace n m p) ⌝ }
 {
-    let at = field_place(n, c * n, p / 18, 28 * (p % 18));
+    let at = field_place(n, c * n, p / OPENS_IN, OPEN_BYTES * (p % OPENS_IN));
     read_open(b, at)
 }
 
@@ -290,7 +301,7 @@ fn read_table(b: &[u8]) -> Table
     requires { ⌜ Fits (now b) ⌝ }
     ensures { λ r. ⌜ ReadAs (now (b .entry)) r ⌝ }
 {
-    let n = size(b[4]);
+    let n = size(b[PAYLOAD_AT]);
     let m = size(b[5]);
     let count = size(b[6]);
     let desks = read_desks(b, n);
@@ -340,7 +351,7 @@ fn saves_to(
     requires { ⌜ Sound (core .n) (core .m) (core .desks) (now cells) (now opens) ⌝ }
     ensures { λ r. ⌜ Says r (encode (model (core .n) (core .m) (core .desks) (now (cells .entry)) (now (opens .entry))) ≡ now (b .entry)) ⌝ }
 {
-    let mut out = [0u8; 18944];
+    let mut out = [0u8; IMAGE];
     let n = image::save_parts(core, cells, opens, &mut out);
     if b.len() != n {
         return false;

@@ -1,3 +1,5 @@
+use Rattle.clock.specs.Vectors.{places}
+use Rattle.image.specs.Limits.{open-bytes, opens-in}
 use Rattle.load.specs.Read.{Within, open-where}
 use Rattle.image.specs.Decode.{openPlace}
 use Rattle.load.specs.Read.{openFrom}
@@ -8,7 +10,7 @@ use borrow.Author.Needs.{needs}
 use Rattle.load.proofs.open_of.Statement.{statement}
 use Rattle.load.proofs.open_of.Tie as tie
 
-stands : (c : tie.Start) → (let A = c .args in Within (A .b .now) (A .n) (A .c * A .n) (A .p / 18) (28 * (A .p % 18)) 28 (openPlace (A .n) (A .m) (A .p)))
+stands : (c : tie.Start) → (let A = c .args in Within (A .b .now) (A .n) (A .c * A .n) (A .p / opens-in places) (open-bytes places * (A .p % opens-in places)) (open-bytes places) (openPlace (A .n) (A .m) (A .p)))
 stands c =
     let A = c .args in
     let P = c .pre in
