@@ -1,8 +1,10 @@
 -- Document 01, "Saved image": the numbers of the layout, each named once. A vector has p places: 8 in edition 1, and from that the document's
 -- 20, 25, 28, 18 and 37 follow (edition-1).
-use Prim.Native.Nat.{ℕ, _+_, _-_, _*_, _/_}
+use Prim.Native.Nat.{ℕ, suc, _+_, _-_, _*_, _/_, _<_, _≤_}
 use mathlib.Core.Path.{_≡_, refl}
-use Rattle.machine.specs.Table.{most-cells, most-open}
+use native.Mathlib.Omega.{arith}
+use native.Mathlib.Nat.{mul-div-le, div-mul-le-self, le-div-iff-mul-le, div-lt-iff-lt-mul, lt-div-mul-add}
+use Rattle.machine.specs.Table.{most-writes, most-cells, most-open}
 use Rattle.clock.specs.Vectors.{places}
 
 -- "Blocks of 512 bytes .. 4-507 payload, 508-511 check."
@@ -76,3 +78,36 @@ pub record Edition (p cell cells open-write opens blocks : ℕ) : Type 0 where
 -- "25 cells to a block: 20 bytes each", "18 open writes to a block .. 28 bytes each", "The largest image is 37 blocks."
 pub edition-1 : Edition places 20 25 28 18 37
 edition-1 = record { cell-takes = refl; cells-fit = refl; open-takes = refl; opens-fit = refl; largest = refl }
+
+-- what an edition needs: a desk fits in a block, and the place of every block in 16 bits
+pub record Wide (p : ℕ) : Type 0 where
+  pub desk : desk-bytes p ≤ payload-bytes
+  pub few : blocks-most p ≤ most-writes
+
+pub wide : Wide places
+wide = record { desk = omega arith; few = omega arith }
+
+-- as many as fit do fit, and one does
+pub fit : (w : ℕ) → w * (payload-bytes / w) ≤ payload-bytes
+fit w = mul-div-le payload-bytes w
+
+pub one-fits : (w : ℕ) → 1 ≤ w → w ≤ payload-bytes → 1 ≤ payload-bytes / w
+one-fits w h g = le-div-iff-mul-le {k = w} {x = 1} {y = payload-bytes} h .1 (omega arith)
+
+module _ (p : ℕ) (h : Wide p) where
+  pub some-cells : 1 ≤ cells-in p
+  some-cells = one-fits (cell-bytes p) (omega arith) (omega (arith, h .desk))
+
+  pub some-opens : 1 ≤ opens-in p
+  some-opens = one-fits (open-bytes p) (omega arith) (omega (arith, h .desk))
+
+-- one of x stands in one of their blocks; fewer take no more blocks
+pub block-of : (c x y : ℕ) → 1 ≤ c → y < x → y / c < blocks-for c x
+block-of c x y h g =
+    div-lt-iff-lt-mul {k = c} {x = y} {y = blocks-for c x} h .1
+    (let z : x + (c - 1) < blocks-for c x * c + c = lt-div-mul-add {a = x + (c - 1)} {b = c} h in omega arith)
+
+pub blocks-mono : (c x y : ℕ) → 1 ≤ c → x ≤ y → blocks-for c x ≤ blocks-for c y
+blocks-mono c x y h g =
+    le-div-iff-mul-le {k = c} {x = blocks-for c x} {y = y + (c - 1)} h .1
+    (let z : blocks-for c x * c ≤ x + (c - 1) = div-mul-le-self (x + (c - 1)) c in omega arith)

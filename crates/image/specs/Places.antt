@@ -1,5 +1,5 @@
 -- Where each field stands in the image.
-use Prim.Native.Nat.{ℕ, suc, _+_, _-_, _*_, _<_, _≤_}
+use Prim.Native.Nat.{ℕ, suc, _+_, _-_, _*_, _/_, _<_, _≤_}
 use mathlib.Core.Path.{_≡_, refl, _∙_}
 use mathlib.Core.List.{List, [], _∷_, _++_, map}
 use native.Mathlib.Omega.{arith}
@@ -10,10 +10,10 @@ use Rattle.machine.specs.Table.{State}
 use Rattle.machine.specs.Steps.{openCount}
 use Rattle.image.specs.Names.{names, OpenName, names-open}
 use Rattle.image.specs.Check.{checkOf}
-use Rattle.image.specs.Encode.{word, long, body, block, named, blocks, deskBytes, cellPart, openPart, perDesk, openBlocks, block1, block2, block3, block4, kind2, kind3, kind4, encode}
+use Rattle.image.specs.Encode.{word, long, body, block, named, blocks, deskBytes, cellPart, openPart, perDesk, openBlocks, block1, block2, block3, block4, kind2, kind3, kind4, encodeAt}
 use Rattle.image.specs.Fields.{length-desk, length-cell, length-open}
-use Rattle.clock.specs.Vectors.{places}
-use Rattle.image.specs.Limits.{block-bytes, payload-at, check-at, payload-bytes, desk-bytes, cell-bytes, open-bytes, cells-in, opens-in}
+use native.Mathlib.Nat.{mul-le-mul-left}
+use Rattle.image.specs.Limits.{Wide, fit, block-bytes, payload-at, check-at, payload-bytes, desk-bytes, cell-bytes, open-bytes, cells-in, opens-in}
 
 -- blocks --
 
@@ -33,93 +33,111 @@ part-block kind place l p w h =
     ∙ part-left (l ++ z) (long (checkOf (body kind place l))) p w (rw length-append (omega arith))
     ∙ part-left l z p w h
 
-module _ (s : State) where
+-- a block of pieces of w bytes, as many as fit --
+
+module _ (w : ℕ) (f : ℕ → List ℕ) (l : (j : ℕ) → length (f j) ≡ w) where
+  pub few-bytes : length (cat f (payload-bytes / w)) ≤ payload-bytes
+  few-bytes = omega (arith, length-cat f w l (payload-bytes / w), fit w)
+
+  pub length-full : (kind place : ℕ) → length (block kind place (cat f (payload-bytes / w))) ≡ block-bytes
+  length-full kind place = length-block kind place (cat f (payload-bytes / w)) few-bytes
+
+  piece-block : (kind place j : ℕ) → j < payload-bytes / w → part (payload-at + w * j) w (block kind place (cat f (payload-bytes / w))) ≡ f j
+  piece-block kind place j h =
+      part-block kind place (cat f (payload-bytes / w)) (w * j) w (omega (arith, length-cat f w l (payload-bytes / w), mul-le-mul-left w h))
+      ∙ piece-cat f (payload-bytes / w) j (w * j) w h (length-cat f w l j) (l j)
+
+-- it lies within the block
+piece-room : (w j : ℕ) → j < payload-bytes / w → payload-at + w * j + w ≤ block-bytes
+piece-room w j h = omega (arith, mul-le-mul-left w h, fit w)
+
+within : (q at w all : ℕ) {a b : ℕ} → b ≡ block-bytes → a ≡ q → a + b ≤ all → at + w ≤ block-bytes → q + at + w ≤ all
+within q at w all eb ea h g = omega arith
+
+module _ (ps : ℕ) (wd : Wide ps) (s : State) where
   pub length-1 : length (block1 s) ≡ block-bytes
   length-1 = length-block 1 0 (s .desks ∷ s .cells ∷ openCount s ∷ []) (omega arith)
 
-  pub length-2 : (i : ℕ) → length (block2 s i) ≡ block-bytes
-  length-2 i =
-      length-block 2 (1 + i) (deskBytes (suc i) (s .applied (suc i)) (s .clock (suc i)))
-      (omega (arith, length-desk (suc i) (s .applied (suc i)) (s .clock (suc i))))
+  pub few-desk : (i : ℕ) → length (deskBytes ps (suc i) (s .applied (suc i)) (s .clock (suc i))) ≤ payload-bytes
+  few-desk i = omega (arith, length-desk ps (suc i) (s .applied (suc i)) (s .clock (suc i)), wd .desk)
 
-  length-in : (i q j : ℕ) → length (cellPart s i q j) ≡ cell-bytes places
+  pub length-2 : (i : ℕ) → length (block2 ps s i) ≡ block-bytes
+  length-2 i = length-block 2 (1 + i) (deskBytes ps (suc i) (s .applied (suc i)) (s .clock (suc i))) (few-desk i)
+
+  pub length-in : (i q j : ℕ) → length (cellPart ps s i q j) ≡ cell-bytes ps
   unfolding cellPart
-  length-in i q j = length-cell (s .cell (suc i) (suc (cells-in places * q + j)))
+  length-in i q j = length-cell ps (s .cell (suc i) (suc (cells-in ps * q + j)))
 
-  pub length-cells : (i q n : ℕ) → length (cat (cellPart s i q) n) ≡ cell-bytes places * n
-  length-cells i q n = length-cat (cellPart s i q) (cell-bytes places) (length-in i q) n
+  length-3 : (i q : ℕ) → length (block3 ps s i q) ≡ block-bytes
+  length-3 i q = length-full (cell-bytes ps) (cellPart ps s i q) (length-in i q) 3 (1 + s .desks + perDesk ps (s .cells) * i + q)
 
-  length-3 : (i q : ℕ) → length (block3 s i q) ≡ block-bytes
-  length-3 i q = length-block 3 (1 + s .desks + perDesk (s .cells) * i + q) (cat (cellPart s i q) (cells-in places)) (omega (arith, length-cells i q (cells-in places)))
+  pub length-3s : (i : ℕ) → length (cat (block3 ps s i) (perDesk ps (s .cells))) ≡ block-bytes * perDesk ps (s .cells)
+  length-3s i = length-cat (block3 ps s i) block-bytes (length-3 i) (perDesk ps (s .cells))
 
-  pub length-3s : (i : ℕ) → length (cat (block3 s i) (perDesk (s .cells))) ≡ block-bytes * perDesk (s .cells)
-  length-3s i = length-cat (block3 s i) block-bytes (length-3 i) (perDesk (s .cells))
-
-  length-entry : (q j : ℕ) → length (openPart s q j) ≡ open-bytes places
+  pub length-entry : (q j : ℕ) → length (openPart ps s q j) ≡ open-bytes ps
   unfolding openPart
   length-entry q j =
-      each-at (λ (l : List ℕ). length l ≡ open-bytes places) (map (named s) (names s)) (replicate (open-bytes places) 0) refl
-      (each-map (λ (l : List ℕ). length l ≡ open-bytes places) (named s) (OpenName s) (λ w _. length-open (w .writer) (s .opens (w .writer) (w .number))) (names s) (names-open s))
-      (opens-in places * q + j)
+      each-at (λ (l : List ℕ). length l ≡ open-bytes ps) (map (named ps s) (names s)) (replicate (open-bytes ps) 0) (length-replicate {A = ℕ} (open-bytes ps) 0)
+      (each-map (λ (l : List ℕ). length l ≡ open-bytes ps) (named ps s) (OpenName s) (λ w _. length-open ps (w .writer) (s .opens (w .writer) (w .number))) (names s) (names-open s))
+      (opens-in ps * q + j)
 
-  pub length-opens : (q n : ℕ) → length (cat (openPart s q) n) ≡ open-bytes places * n
-  length-opens q n = length-cat (openPart s q) (open-bytes places) (length-entry q) n
-
-  pub length-4 : (q : ℕ) → length (block4 s q) ≡ block-bytes
-  length-4 q = length-block 4 (1 + s .desks + perDesk (s .cells) * s .desks + q) (cat (openPart s q) (opens-in places)) (omega (arith, length-opens q (opens-in places)))
+  pub length-4 : (q : ℕ) → length (block4 ps s q) ≡ block-bytes
+  length-4 q = length-full (open-bytes ps) (openPart ps s q) (length-entry q) 4 (1 + s .desks + perDesk ps (s .cells) * s .desks + q)
 
   -- the length of the image
-  pub length-encode : length (encode s) ≡ block-bytes * blocks s
-  unfolding encode
+  pub length-encode : length (encodeAt ps s) ≡ block-bytes * blocks ps s
+  unfolding encodeAt
   length-encode =
       rw (
         length-append (block1 s),
-        length-append (kind2 s),
-        length-append (kind3 s),
+        length-append (kind2 ps s),
+        length-append (kind3 ps s),
         length-1,
-        length-cat (block2 s) block-bytes length-2 (s .desks),
-        length-cat (λ i. cat (block3 s i) (perDesk (s .cells))) (block-bytes * perDesk (s .cells)) length-3s (s .desks),
-        length-cat (block4 s) block-bytes length-4 (openBlocks s),
+        length-cat (block2 ps s) block-bytes length-2 (s .desks),
+        length-cat (λ i. cat (block3 ps s i) (perDesk ps (s .cells))) (block-bytes * perDesk ps (s .cells)) length-3s (s .desks),
+        length-cat (block4 ps s) block-bytes length-4 (openBlocks ps s),
       )
       (omega arith)
 
   -- w bytes of a desk's part, from p on
-  pub part-2 : (i p w : ℕ) → i < s .desks → p + w ≤ desk-bytes places → part (block-bytes + (block-bytes * i + (payload-at + p))) w (encode s) ≡ part p w (deskBytes (suc i) (s .applied (suc i)) (s .clock (suc i)))
-  unfolding encode
+  pub part-2 : (i p w : ℕ) → i < s .desks → p + w ≤ desk-bytes ps → part (block-bytes + (block-bytes * i + (payload-at + p))) w (encodeAt ps s) ≡ part p w (deskBytes ps (suc i) (s .applied (suc i)) (s .clock (suc i)))
+  unfolding encodeAt
   part-2 i p w h g =
-      let l = length-desk (suc i) (s .applied (suc i)) (s .clock (suc i)) in
-      part-right (block1 s) (kind2 s ++ (kind3 s ++ kind4 s)) block-bytes (block-bytes * i + (payload-at + p)) w length-1
-      ∙ part-in (block2 s) (kind3 s ++ kind4 s) (s .desks) i (block-bytes * i) (payload-at + p) w h (length-cat (block2 s) block-bytes length-2 i) (omega (arith, length-2 i))
-      ∙ part-block 2 (1 + i) (deskBytes (suc i) (s .applied (suc i)) (s .clock (suc i))) p w (omega arith)
+      part-right (block1 s) (kind2 ps s ++ (kind3 ps s ++ kind4 ps s)) block-bytes (block-bytes * i + (payload-at + p)) w length-1
+      ∙ part-in (block2 ps s) (kind3 ps s ++ kind4 ps s) (s .desks) i (block-bytes * i) (payload-at + p) w h (length-cat (block2 ps s) block-bytes length-2 i) (omega (arith, length-2 i, wd .desk))
+      ∙ part-block 2 (1 + i) (deskBytes ps (suc i) (s .applied (suc i)) (s .clock (suc i))) p w (omega (arith, length-desk ps (suc i) (s .applied (suc i)) (s .clock (suc i))))
 
   -- a cell
-  pub part-3 : (i q j : ℕ) → i < s .desks → q < perDesk (s .cells) → j < cells-in places
-      → part (block-bytes + (block-bytes * s .desks + (block-bytes * perDesk (s .cells) * i + (block-bytes * q + (payload-at + cell-bytes places * j))))) (cell-bytes places) (encode s) ≡ cellPart s i q j
-  unfolding encode
+  pub part-3 : (i q j : ℕ) → i < s .desks → q < perDesk ps (s .cells) → j < cells-in ps
+      → part (block-bytes + (block-bytes * s .desks + (block-bytes * perDesk ps (s .cells) * i + (block-bytes * q + (payload-at + cell-bytes ps * j))))) (cell-bytes ps) (encodeAt ps s) ≡ cellPart ps s i q j
+  unfolding encodeAt
   part-3 i q j hi hq hj =
       let n = s .desks in
-      let c = perDesk (s .cells) in
-      let f : ℕ → List ℕ = λ i. cat (block3 s i) c in
-      let before = length-cat (block3 s i) block-bytes (length-3 i) q in
-      part-right (block1 s) (kind2 s ++ (kind3 s ++ kind4 s)) block-bytes (block-bytes * n + (block-bytes * c * i + (block-bytes * q + (payload-at + cell-bytes places * j)))) (cell-bytes places) length-1
-      ∙ part-right (kind2 s) (kind3 s ++ kind4 s) (block-bytes * n) (block-bytes * c * i + (block-bytes * q + (payload-at + cell-bytes places * j))) (cell-bytes places) (length-cat (block2 s) block-bytes length-2 n)
-      ∙ part-in f (kind4 s) n i (block-bytes * c * i) (block-bytes * q + (payload-at + cell-bytes places * j)) (cell-bytes places) hi (length-cat f (block-bytes * c) length-3s i)
-      (omega (arith, cat-le (block3 s i) c q hq, before, length-3 i q))
-      ∙ part-cat (block3 s i) c q (block-bytes * q) (payload-at + cell-bytes places * j) (cell-bytes places) hq before (omega (arith, length-3 i q))
-      ∙ part-block 3 (1 + n + c * i + q) (cat (cellPart s i q) (cells-in places)) (cell-bytes places * j) (cell-bytes places) (omega (arith, length-cells i q (cells-in places)))
-      ∙ piece-cat (cellPart s i q) (cells-in places) j (cell-bytes places * j) (cell-bytes places) hj (length-cells i q j) (length-in i q j)
+      let c = perDesk ps (s .cells) in
+      let w = cell-bytes ps in
+      let at : ℕ = payload-at + w * j in
+      let f : ℕ → List ℕ = λ i. cat (block3 ps s i) c in
+      let before = length-cat (block3 ps s i) block-bytes (length-3 i) q in
+      let room : at + w ≤ block-bytes = piece-room w j hj in
+      part-right (block1 s) (kind2 ps s ++ (kind3 ps s ++ kind4 ps s)) block-bytes (block-bytes * n + (block-bytes * c * i + (block-bytes * q + at))) w length-1
+      ∙ part-right (kind2 ps s) (kind3 ps s ++ kind4 ps s) (block-bytes * n) (block-bytes * c * i + (block-bytes * q + at)) w (length-cat (block2 ps s) block-bytes length-2 n)
+      ∙ part-in f (kind4 ps s) n i (block-bytes * c * i) (block-bytes * q + at) w hi (length-cat f (block-bytes * c) length-3s i)
+      (within (block-bytes * q) at w (length (cat (block3 ps s i) c)) (length-3 i q) before (cat-le (block3 ps s i) c q hq) room)
+      ∙ part-cat (block3 ps s i) c q (block-bytes * q) at w hq before (rw (length-3 i q) room)
+      ∙ piece-block w (cellPart ps s i q) (length-in i q) 3 (1 + n + c * i + q) j hj
 
   -- an open write
-  pub part-4 : (q j : ℕ) → q < openBlocks s → j < opens-in places
-      → part (block-bytes + (block-bytes * s .desks + (block-bytes * perDesk (s .cells) * s .desks + (block-bytes * q + (payload-at + open-bytes places * j))))) (open-bytes places) (encode s) ≡ openPart s q j
-  unfolding encode
+  pub part-4 : (q j : ℕ) → q < openBlocks ps s → j < opens-in ps
+      → part (block-bytes + (block-bytes * s .desks + (block-bytes * perDesk ps (s .cells) * s .desks + (block-bytes * q + (payload-at + open-bytes ps * j))))) (open-bytes ps) (encodeAt ps s) ≡ openPart ps s q j
+  unfolding encodeAt
   part-4 q j hq hj =
       let n = s .desks in
-      let c = perDesk (s .cells) in
-      let f : ℕ → List ℕ = λ i. cat (block3 s i) c in
-      part-right (block1 s) (kind2 s ++ (kind3 s ++ kind4 s)) block-bytes (block-bytes * n + (block-bytes * c * n + (block-bytes * q + (payload-at + open-bytes places * j)))) (open-bytes places) length-1
-      ∙ part-right (kind2 s) (kind3 s ++ kind4 s) (block-bytes * n) (block-bytes * c * n + (block-bytes * q + (payload-at + open-bytes places * j))) (open-bytes places) (length-cat (block2 s) block-bytes length-2 n)
-      ∙ part-right (kind3 s) (kind4 s) (block-bytes * c * n) (block-bytes * q + (payload-at + open-bytes places * j)) (open-bytes places) (length-cat f (block-bytes * c) length-3s n)
-      ∙ part-cat (block4 s) (openBlocks s) q (block-bytes * q) (payload-at + open-bytes places * j) (open-bytes places) hq (length-cat (block4 s) block-bytes length-4 q) (omega (arith, length-4 q))
-      ∙ part-block 4 (1 + n + c * n + q) (cat (openPart s q) (opens-in places)) (open-bytes places * j) (open-bytes places) (omega (arith, length-opens q (opens-in places)))
-      ∙ piece-cat (openPart s q) (opens-in places) j (open-bytes places * j) (open-bytes places) hj (length-opens q j) (length-entry q j)
+      let c = perDesk ps (s .cells) in
+      let w = open-bytes ps in
+      let at : ℕ = payload-at + w * j in
+      let f : ℕ → List ℕ = λ i. cat (block3 ps s i) c in
+      part-right (block1 s) (kind2 ps s ++ (kind3 ps s ++ kind4 ps s)) block-bytes (block-bytes * n + (block-bytes * c * n + (block-bytes * q + at))) w length-1
+      ∙ part-right (kind2 ps s) (kind3 ps s ++ kind4 ps s) (block-bytes * n) (block-bytes * c * n + (block-bytes * q + at)) w (length-cat (block2 ps s) block-bytes length-2 n)
+      ∙ part-right (kind3 ps s) (kind4 ps s) (block-bytes * c * n) (block-bytes * q + at) w (length-cat f (block-bytes * c) length-3s n)
+      ∙ part-cat (block4 ps s) (openBlocks ps s) q (block-bytes * q) at w hq (length-cat (block4 ps s) block-bytes length-4 q) (rw (length-4 q) (piece-room w j hj))
+      ∙ piece-block w (openPart ps s q) (length-entry q) 4 (1 + n + c * n + q) j hj

@@ -16,11 +16,9 @@ use Rattle.laws.specs.Chunk.{Chunked, chunk-one, chunk-append, chunk-cat}
 use Rattle.machine.specs.Table.{State}
 use Rattle.machine.specs.Steps.{openCount}
 use Rattle.image.specs.Check.{checkOf, check-first}
-use Rattle.image.specs.Encode.{long, body, block, deskBytes, cellPart, openPart, perDesk, openBlocks, block1, block2, block3, block4, kind2, kind3, kind4, encode}
-use Rattle.image.specs.Fields.{length-desk}
-use Rattle.image.specs.Places.{length-encode, length-body, length-block, length-cells, length-opens}
-use Rattle.clock.specs.Vectors.{places}
-use Rattle.image.specs.Limits.{block-bytes, check-at, payload-bytes, cells-in, opens-in}
+use Rattle.image.specs.Encode.{long, body, block, deskBytes, cellPart, openPart, perDesk, openBlocks, block1, block2, block3, block4, kind2, kind3, kind4, encodeAt}
+use Rattle.image.specs.Places.{length-encode, length-body, length-block, few-bytes, few-desk, length-in, length-entry}
+use Rattle.image.specs.Limits.{Wide, block-bytes, check-at, payload-bytes, cell-bytes, open-bytes, cells-in, opens-in}
 
 -- bytes 508-511 of a block
 unfoldable pub checkIn : List ℕ → ℕ
@@ -71,25 +69,25 @@ right-block kind place l h =
 one-block : (kind place : ℕ) (l : List ℕ) → length l ≤ payload-bytes → Chunked Right block-bytes (block kind place l)
 one-block kind place l h = chunk-one Right block-bytes (block kind place l) (length-block kind place l h) (right-block kind place l h)
 
-module _ (s : State) where
-  chunked : Chunked Right block-bytes (encode s)
-  unfolding encode
+module _ (ps : ℕ) (wd : Wide ps) (s : State) where
+  chunked : Chunked Right block-bytes (encodeAt ps s)
+  unfolding encodeAt
   chunked =
-      chunk-append Right block-bytes (block1 s) (kind2 s ++ (kind3 s ++ kind4 s)) (one-block 1 0 (s .desks ∷ s .cells ∷ openCount s ∷ []) (omega arith))
-      (chunk-append Right block-bytes (kind2 s) (kind3 s ++ kind4 s)
-      (chunk-cat Right block-bytes (block2 s) (s .desks)
-      (λ i _. one-block 2 (1 + i) (deskBytes (suc i) (s .applied (suc i)) (s .clock (suc i))) (omega (arith, length-desk (suc i) (s .applied (suc i)) (s .clock (suc i))))))
-      (chunk-append Right block-bytes (kind3 s) (kind4 s)
-      (chunk-cat Right block-bytes (λ i. cat (block3 s i) (perDesk (s .cells))) (s .desks)
-      (λ i _. chunk-cat Right block-bytes (block3 s i) (perDesk (s .cells))
-      (λ q _. one-block 3 (1 + s .desks + perDesk (s .cells) * i + q) (cat (cellPart s i q) (cells-in places)) (omega (arith, length-cells s i q (cells-in places))))))
-      (chunk-cat Right block-bytes (block4 s) (openBlocks s)
-      (λ q _. one-block 4 (1 + s .desks + perDesk (s .cells) * s .desks + q) (cat (openPart s q) (opens-in places)) (omega (arith, length-opens s q (opens-in places)))))))
+      chunk-append Right block-bytes (block1 s) (kind2 ps s ++ (kind3 ps s ++ kind4 ps s)) (one-block 1 0 (s .desks ∷ s .cells ∷ openCount s ∷ []) (omega arith))
+      (chunk-append Right block-bytes (kind2 ps s) (kind3 ps s ++ kind4 ps s)
+      (chunk-cat Right block-bytes (block2 ps s) (s .desks)
+      (λ i _. one-block 2 (1 + i) (deskBytes ps (suc i) (s .applied (suc i)) (s .clock (suc i))) (few-desk ps wd s i)))
+      (chunk-append Right block-bytes (kind3 ps s) (kind4 ps s)
+      (chunk-cat Right block-bytes (λ i. cat (block3 ps s i) (perDesk ps (s .cells))) (s .desks)
+      (λ i _. chunk-cat Right block-bytes (block3 ps s i) (perDesk ps (s .cells))
+      (λ q _. one-block 3 (1 + s .desks + perDesk ps (s .cells) * i + q) (cat (cellPart ps s i q) (cells-in ps)) (few-bytes (cell-bytes ps) (cellPart ps s i q) (length-in ps wd s i q)))))
+      (chunk-cat Right block-bytes (block4 ps s) (openBlocks ps s)
+      (λ q _. one-block 4 (1 + s .desks + perDesk ps (s .cells) * s .desks + q) (cat (openPart ps s q) (opens-in ps)) (few-bytes (open-bytes ps) (openPart ps s q) (length-entry ps wd s q))))))
 
   -- a saved image has a length that is a nonzero multiple of 512, and every block's check is right
-  pub sound-encode : Sound (encode s)
+  pub sound-encode : Sound (encodeAt ps s)
   sound-encode =
-      let e = length-encode s in
+      let e = length-encode ps wd s in
       record {
         nonzero = omega arith;
         multiple = rw e (omega arith);

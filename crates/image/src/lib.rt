@@ -157,7 +157,7 @@ fn put_word(b: &mut [u8; BLOCK], at: usize, x: u16)
 
 fn put_words(b: &mut [u8; BLOCK], at: usize, v: [u16; PLACES])
     requires { ⌜ at + vector-bytes places ≤ block-bytes ⌝ }
-    ensures { λ _. ⌜ now (b .exit) ≡ sets (now (b .entry)) at (words (place v)) ⌝ }
+    ensures { λ _. ⌜ now (b .exit) ≡ sets (now (b .entry)) at (words places (place v)) ⌝ }
 {
     let mut t = 0;
     while t < PLACES {
@@ -169,7 +169,7 @@ fn put_words(b: &mut [u8; BLOCK], at: usize, v: [u16; PLACES])
 fn put_marks(b: &mut [u8; BLOCK], at: usize, v: [u16; PLACES])
     requires { ⌜ at + places ≤ block-bytes ⌝ }
     requires { ⌜ ((t : ℕ) → getD v t 0 < 256) ⌝ }
-    ensures { λ _. ⌜ now (b .exit) ≡ sets (now (b .entry)) at (markBytes (place v)) ⌝ }
+    ensures { λ _. ⌜ now (b .exit) ≡ sets (now (b .entry)) at (markBytes places (place v)) ⌝ }
 {
     let mut t = 0;
     while t < PLACES {
@@ -180,7 +180,7 @@ fn put_marks(b: &mut [u8; BLOCK], at: usize, v: [u16; PLACES])
 
 fn put_cell(b: &mut [u8; BLOCK], at: usize, c: Cell)
     requires { ⌜ (at + cell-bytes places ≤ block-bytes) × SmallCell c ⌝ }
-    ensures { λ _. ⌜ now (b .exit) ≡ sets (now (b .entry)) at (cellRaw c) ⌝ }
+    ensures { λ _. ⌜ now (b .exit) ≡ sets (now (b .entry)) at (cellRaw places c) ⌝ }
 {
     b[at] = byte(c.writer);
     b[at + 1] = byte(c.status);
@@ -192,7 +192,7 @@ fn put_cell(b: &mut [u8; BLOCK], at: usize, c: Cell)
 
 fn put_open(b: &mut [u8; BLOCK], at: usize, o: Open)
     requires { ⌜ (at + open-bytes places ≤ block-bytes) × SmallOpen o ⌝ }
-    ensures { λ _. ⌜ now (b .exit) ≡ sets (now (b .entry)) at (openRaw o) ⌝ }
+    ensures { λ _. ⌜ now (b .exit) ≡ sets (now (b .entry)) at (openRaw places o) ⌝ }
 {
     b[at] = byte(o.writer);
     b[at + 1] = byte(o.status);
@@ -216,7 +216,7 @@ fn put_head(b: &mut [u8; BLOCK], kind: u8, at: u16)
 // The block of desk i, from 1.
 fn desk_block(at: u16, i: u16, d: Desk) -> [u8; BLOCK]
     requires { ⌜ i < 256 ⌝ }
-    ensures { λ r. ⌜ r ≡ block 2 at (deskBytes i (place (d .applied)) (place (d .clock .at))) ⌝ }
+    ensures { λ r. ⌜ r ≡ block 2 at (deskBytes places i (place (d .applied)) (place (d .clock .at))) ⌝ }
 {
     let mut b = [0u8; BLOCK];
     put_head(&mut b, 2, at);
@@ -246,8 +246,8 @@ fn size_block(n: u16, m: u16, count: u16) -> [u8; BLOCK]
 
 // Cell x of desk i, both from 0: an unset one past the last.
 fn cell_or(cells: &[u16; PLACES * CELLS * CELL], i: usize, x: usize) -> Cell
-    requires { ⌜ (i < places) × CellsFit (now cells) ⌝ }
-    ensures { λ r. ⌜ CellFor (now (cells .entry)) i x r ⌝ }
+    requires { ⌜ (i < places) × CellsFit places (now cells) ⌝ }
+    ensures { λ r. ⌜ CellFor places (now (cells .entry)) i x r ⌝ }
 {
     if x < CELLS {
         return table::cell_at(cells, i * CELLS + x);
@@ -262,8 +262,8 @@ fn cell_or(cells: &[u16; PLACES * CELLS * CELL], i: usize, x: usize) -> Cell
 
 // Block q of the cells of desk i, from 0.
 fn cell_block(at: u16, cells: &[u16; PLACES * CELLS * CELL], i: usize, q: usize) -> [u8; BLOCK]
-    requires { ⌜ (i < places) × ((q < row-most places) × CellsFit (now cells)) ⌝ }
-    ensures { λ r. ⌜ r ≡ block 3 at (cat (cellPiece (now (cells .entry)) i q) (cells-in places)) ⌝ }
+    requires { ⌜ (i < places) × ((q < row-most places) × CellsFit places (now cells)) ⌝ }
+    ensures { λ r. ⌜ r ≡ block 3 at (cat (cellPiece places (now (cells .entry)) i q) (cells-in places)) ⌝ }
 {
     let mut b = [0u8; BLOCK];
     put_head(&mut b, 3, at);
@@ -305,7 +305,7 @@ fn open_block(
     q: usize,
 ) -> [u8; BLOCK]
     requires { ⌜ (q < opens-most places) × OrderFits (now opens) (now order) count ⌝ }
-    ensures { λ r. ⌜ r ≡ block 4 at (cat (openPiece (now (opens .entry)) (now (order .entry)) count q) (opens-in places)) ⌝ }
+    ensures { λ r. ⌜ r ≡ block 4 at (cat (openPiece places (now (opens .entry)) (now (order .entry)) count q) (opens-in places)) ⌝ }
 {
     let mut b = [0u8; BLOCK];
     put_head(&mut b, 4, at);
@@ -337,7 +337,7 @@ fn store(out: &mut [u8], k: usize, b: [u8; BLOCK])
 // Kind 2.
 fn save_desks(out: &mut [u8], desks: [Desk; PLACES], n: usize)
     requires { ⌜ (n ≤ places) × (block-bytes + block-bytes * n ≤ length (now out)) ⌝ }
-    ensures { λ _. ⌜ now (out .exit) ≡ sets (now (out .entry)) block-bytes (cat (deskBlock desks) n) ⌝ }
+    ensures { λ _. ⌜ now (out .exit) ≡ sets (now (out .entry)) block-bytes (cat (deskBlock places desks) n) ⌝ }
 {
     let mut i = 0;
     while i < n {
@@ -351,8 +351,8 @@ fn save_desks(out: &mut [u8], desks: [Desk; PLACES], n: usize)
 
 // Kind 3, of desk i: the c blocks from block k on.
 fn save_row(out: &mut [u8], k: usize, cells: &[u16; PLACES * CELLS * CELL], i: usize, c: usize)
-    requires { ⌜ ((i < places) × CellsFit (now cells)) × ((c ≤ row-most places) × ((k + c ≤ blocks-most places) × (block-bytes * k + block-bytes * c ≤ length (now out)))) ⌝ }
-    ensures { λ _. ⌜ now (out .exit) ≡ sets (now (out .entry)) (block-bytes * k) (cat (cellBlock (now (cells .entry)) k i) c) ⌝ }
+    requires { ⌜ ((i < places) × CellsFit places (now cells)) × ((c ≤ row-most places) × ((k + c ≤ blocks-most places) × (block-bytes * k + block-bytes * c ≤ length (now out)))) ⌝ }
+    ensures { λ _. ⌜ now (out .exit) ≡ sets (now (out .entry)) (block-bytes * k) (cat (cellBlock places (now (cells .entry)) k i) c) ⌝ }
 {
     let mut q = 0;
     while q < c {
@@ -364,8 +364,8 @@ fn save_row(out: &mut [u8], k: usize, cells: &[u16; PLACES * CELLS * CELL], i: u
 
 // Kind 3.
 fn save_cells(out: &mut [u8], cells: &[u16; PLACES * CELLS * CELL], n: usize, c: usize)
-    requires { ⌜ CellsFit (now cells) × ((n ≤ places) × ((c ≤ row-most places) × (block-bytes * (1 + n) + block-bytes * c * n ≤ length (now out)))) ⌝ }
-    ensures { λ _. ⌜ now (out .exit) ≡ sets (now (out .entry)) (block-bytes * (1 + n)) (cat (cellRow (now (cells .entry)) n c) n) ⌝ }
+    requires { ⌜ CellsFit places (now cells) × ((n ≤ places) × ((c ≤ row-most places) × (block-bytes * (1 + n) + block-bytes * c * n ≤ length (now out)))) ⌝ }
+    ensures { λ _. ⌜ now (out .exit) ≡ sets (now (out .entry)) (block-bytes * (1 + n)) (cat (cellRow places (now (cells .entry)) n c) n) ⌝ }
 {
     let mut i = 0;
     while i < n {
@@ -384,7 +384,7 @@ fn save_opens(
     c: usize,
 )
     requires { ⌜ OrderFits (now opens) (now order) count × ((c ≤ opens-most places) × ((k + c ≤ blocks-most places) × (block-bytes * k + block-bytes * c ≤ length (now out)))) ⌝ }
-    ensures { λ _. ⌜ now (out .exit) ≡ sets (now (out .entry)) (block-bytes * k) (cat (openBlock (now (opens .entry)) (now (order .entry)) count k) c) ⌝ }
+    ensures { λ _. ⌜ now (out .exit) ≡ sets (now (out .entry)) (block-bytes * k) (cat (openBlock places (now (opens .entry)) (now (order .entry)) count k) c) ⌝ }
 {
     let mut q = 0;
     while q < c {
@@ -503,7 +503,7 @@ fn order_all(
 // Blocks to a desk's cells.
 pub fn per_desk(m: usize) -> usize
     requires { ⌜ m ≤ desk-cells ⌝ }
-    ensures { λ r. ⌜ (r ≡ perDesk m) × (r ≤ row-most places) ⌝ }
+    ensures { λ r. ⌜ (r ≡ perDesk places m) × (r ≤ row-most places) ⌝ }
 {
     (m + (CELLS_IN - 1)) / CELLS_IN
 }
@@ -526,7 +526,7 @@ fn cells_end(n: usize, c: usize) -> usize
 
 pub fn length_of(n: usize, m: usize, count: usize) -> usize
     requires { ⌜ (n ≤ places) × ((m ≤ desk-cells) × (count ≤ 524288)) ⌝ }
-    ensures { λ r. ⌜ r ≡ block-bytes * (1 + n + perDesk m * n + blocks-for (opens-in places) count) ⌝ }
+    ensures { λ r. ⌜ r ≡ block-bytes * (1 + n + perDesk places m * n + blocks-for (opens-in places) count) ⌝ }
 {
     let c = per_desk(m);
     let k = cells_end(n, c);
@@ -536,7 +536,7 @@ pub fn length_of(n: usize, m: usize, count: usize) -> usize
 // How long the image of a table is that keeps the rules: the counts tell.
 pub fn image_length(core: Core) -> usize
     requires { ⌜ (core .n ≤ places) × (core .m ≤ desk-cells) ⌝ }
-    ensures { λ r. ⌜ r ≡ block-bytes * (1 + core .n + perDesk (core .m) * core .n + blocks-for (opens-in places) (length (counted (core .n) (appliedM (core .desks))))) ⌝ }
+    ensures { λ r. ⌜ r ≡ block-bytes * (1 + core .n + perDesk places (core .m) * core .n + blocks-for (opens-in places) (length (counted (core .n) (appliedM (core .desks))))) ⌝ }
 {
     let n = core.n;
     let m = core.m;

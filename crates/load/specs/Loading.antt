@@ -24,7 +24,7 @@ use Rattle.load.specs.declared.Outcome.{Outcome}
 use Rattle.load.specs.declared.Outcome.the-variants as outcome
 use Rattle.load.specs.Back.{Reads}
 use Rattle.clock.specs.Vectors.{places}
-use Rattle.image.specs.Limits.{image-bytes}
+use Rattle.image.specs.Limits.{wide, image-bytes}
 
 -- the table, or a refusal
 abbrev pub loadedOf : Outcome → Table → Loaded
@@ -79,7 +79,7 @@ same-says r b out after vs ea e h s =
 
 -- "The largest image is 37 blocks."
 pub image-most : (s : State) → Rules s → length (encode s) ≤ (image-bytes places)
-image-most s r = omega (arith, most-blocks s r, length-encode s)
+image-most s r = omega (arith, most-blocks places wide s r (r .frame .ranges .desks .1), length-encode places wide s)
 
 -- the answers, by the code's tests
 pub damaged-so : (b : List ℕ) (o : Outcome) (t : Table) → o ≡ outcome.Damaged → t ≡ freshTable 0 0 → whole.sound b ≡ false → Answers b o t

@@ -9,7 +9,7 @@ ghost use Rattle.table.specs.Value.{desk-cells, all-cells, entries, open-width}
 ghost use Rattle.table.specs.Model.{model};
 ghost use Rattle.table.specs.Sound.{Sound};
 ghost use Rattle.table.specs.Begin.{freshTable};
-ghost use Rattle.image.specs.Limits.{block-bytes, payload-at, payload-bytes, vector-bytes, cell-bytes, open-bytes, rows-most, opens-most};
+ghost use Rattle.image.specs.Limits.{block-bytes, payload-at, payload-bytes, vector-bytes, cell-bytes, open-bytes, row-most, rows-most, opens-most};
 ghost use Rattle.image.specs.Encode.{perDesk, encode};
 ghost use Rattle.image.specs.Decode.{nIn, mIn, countIn, openPlace};
 ghost use Rattle.load.specs.Read.{wordAt, wordsFrom, bytesFrom, cellFrom, openFrom, deskFrom, deskFor, cellFor, Fits, CellsRead};
@@ -65,7 +65,7 @@ fn word_at(b: &[u8], at: usize) -> u16
 
 fn words_at(b: &[u8], at: usize) -> [u16; PLACES]
     requires { ⌜ at + vector-bytes places ≤ length (now b) ⌝ }
-    ensures { λ r. ⌜ r ≡ wordsFrom (now (b .entry)) at ⌝ }
+    ensures { λ r. ⌜ r ≡ wordsFrom places (now (b .entry)) at ⌝ }
 {
     let mut v = [0u16; PLACES];
     let mut t = 0;
@@ -78,7 +78,7 @@ fn words_at(b: &[u8], at: usize) -> [u16; PLACES]
 
 fn bytes_at(b: &[u8], at: usize) -> [u16; PLACES]
     requires { ⌜ at + places ≤ length (now b) ⌝ }
-    ensures { λ r. ⌜ r ≡ bytesFrom (now (b .entry)) at ⌝ }
+    ensures { λ r. ⌜ r ≡ bytesFrom places (now (b .entry)) at ⌝ }
 {
     let mut v = [0u16; PLACES];
     let mut t = 0;
@@ -91,7 +91,7 @@ fn bytes_at(b: &[u8], at: usize) -> [u16; PLACES]
 
 fn read_cell(b: &[u8], at: usize) -> Cell
     requires { ⌜ at + cell-bytes places ≤ length (now b) ⌝ }
-    ensures { λ r. ⌜ r ≡ cellFrom (now (b .entry)) at ⌝ }
+    ensures { λ r. ⌜ r ≡ cellFrom places (now (b .entry)) at ⌝ }
 {
     let writer = wide(b[at]);
     let status = wide(b[at + 1]);
@@ -105,7 +105,7 @@ fn read_cell(b: &[u8], at: usize) -> Cell
 
 fn read_open(b: &[u8], at: usize) -> Open
     requires { ⌜ at + open-bytes places ≤ length (now b) ⌝ }
-    ensures { λ r. ⌜ r ≡ openFrom (now (b .entry)) at ⌝ }
+    ensures { λ r. ⌜ r ≡ openFrom places (now (b .entry)) at ⌝ }
 {
     let writer = wide(b[at]);
     let status = wide(b[at + 1]);
@@ -124,7 +124,7 @@ fn read_open(b: &[u8], at: usize) -> Open
 // The block of desk i, from 0.
 fn read_desk(b: &[u8], i: usize) -> Desk
     requires { ⌜ (i < places) × (block-bytes + block-bytes * i + block-bytes ≤ length (now b)) ⌝ }
-    ensures { λ r. ⌜ r ≡ deskFrom (now (b .entry)) i ⌝ }
+    ensures { λ r. ⌜ r ≡ deskFrom places (now (b .entry)) i ⌝ }
 {
     let at = BLOCK + (BLOCK * i + APPLIED_AT);
     let applied = words_at(b, at);
@@ -140,7 +140,7 @@ fn read_desk(b: &[u8], i: usize) -> Desk
 
 // The sizes are in range, and the image is as long as they say.
 fn sizes_fit(b: &[u8]) -> bool
-    ensures { λ r. ⌜ Says r (Fits (now (b .entry))) ⌝ }
+    ensures { λ r. ⌜ Says r (Fits places (now (b .entry))) ⌝ }
 {
     if b.len() < BLOCK {
         return false;
@@ -171,7 +171,7 @@ fn sizes_fit(b: &[u8]) -> bool
 
 fn desk_or(b: &[u8], n: usize, i: usize) -> Desk
     requires { ⌜ (n ≤ places) × (block-bytes + block-bytes * n ≤ length (now b)) ⌝ }
-    ensures { λ r. ⌜ r ≡ deskFor (now (b .entry)) n i ⌝ }
+    ensures { λ r. ⌜ r ≡ deskFor places (now (b .entry)) n i ⌝ }
 {
     if i < n {
         return read_desk(b, i);
@@ -186,7 +186,7 @@ fn desk_or(b: &[u8], n: usize, i: usize) -> Desk
 
 fn read_desks(b: &[u8], n: usize) -> [Desk; PLACES]
     requires { ⌜ (n ≤ places) × (block-bytes + block-bytes * n ≤ length (now b)) ⌝ }
-    ensures { λ r. ⌜ r ≡ tab places (deskFor (now (b .entry)) n) ⌝ }
+    ensures { λ r. ⌜ r ≡ tab places (deskFor places (now (b .entry)) n) ⌝ }
 {
     let first = desk_or(b, n, 0);
     let mut desks = [first; PLACES];
@@ -201,7 +201,7 @@ fn read_desks(b: &[u8], n: usize) -> [Desk; PLACES]
 
 // Where a field stands: r of the payload of a block, the q-th after k blocks that follow the desks'.
 fn field_place(n: usize, k: usize, q: usize, r: usize) -> usize
-    requires { ⌜ (n ≤ places) × ((k ≤ rows-most places) × ((q < opens-most places) × (r < payload-bytes))) ⌝ }
+    requires { ⌜ (n ≤ places) × ((k ≤ rows-most places) × ((q < row-most places + opens-most places) × (r < payload-bytes))) ⌝ }
     ensures { λ a. ⌜ a ≡ block-bytes + (block-bytes * n + (block-bytes * k + (block-bytes * q + (payload-at + r)))) ⌝ }
 {
     BLOCK + (BLOCK * n + (BLOCK * k + (BLOCK * q + (PAYLOAD_AT + r))))
@@ -209,8 +209,8 @@ fn field_place(n: usize, k: usize, q: usize, r: usize) -> usize
 
 // Row s of the cells, where a desk's cells take c blocks.
 fn cell_or(b: &[u8], n: usize, m: usize, c: usize, s: usize) -> Cell
-    requires { ⌜ (Fits (now b)) × ((n ≡ nIn (now b)) × ((m ≡ mIn (now b)) × ((c ≡ perDesk m) × (s < all-cells)))) ⌝ }
-    ensures { λ r. ⌜ r ≡ cellFor (now (b .entry)) n m s ⌝ }
+    requires { ⌜ (Fits places (now b)) × ((n ≡ nIn (now b)) × ((m ≡ mIn (now b)) × ((c ≡ perDesk places m) × (s < all-cells)))) ⌝ }
+    ensures { λ r. ⌜ r ≡ cellFor places (now (b .entry)) n m s ⌝ }
 {
     let i = s / CELLS;
     let x = s % CELLS;
@@ -229,8 +229,8 @@ fn cell_or(b: &[u8], n: usize, m: usize, c: usize, s: usize) -> Cell
 }
 
 fn read_cells(b: &[u8], n: usize, m: usize, c: usize, cells: &mut [u16; PLACES * CELLS * CELL])
-    requires { ⌜ (Fits (now b)) × ((n ≡ nIn (now b)) × ((m ≡ mIn (now b)) × (c ≡ perDesk m))) ⌝ }
-    ensures { λ _. ⌜ CellsRead (now (b .entry)) n m (now (cells .exit)) ⌝ }
+    requires { ⌜ (Fits places (now b)) × ((n ≡ nIn (now b)) × ((m ≡ mIn (now b)) × (c ≡ perDesk places m))) ⌝ }
+    ensures { λ _. ⌜ CellsRead places (now (b .entry)) n m (now (cells .exit)) ⌝ }
 {
     let mut s = 0;
     while s < PLACES * CELLS {
@@ -242,8 +242,8 @@ fn read_cells(b: &[u8], n: usize, m: usize, c: usize, cells: &mut [u16; PLACES *
 
 // Open write p of the image.
 fn open_of(b: &[u8], n: usize, m: usize, c: usize, count: usize, p: usize) -> Open
-    requires { ⌜ (Fits (now b)) × ((n ≡ nIn (now b)) × ((m ≡ mIn (now b)) × ((c ≡ perDesk m) × ((count ≡ countIn (now b)) × (p < count))))) ⌝ }
-    ensures { λ r. ⌜ r ≡ openFrom (now (b .entry)) (openPlace n m p) ⌝ }
+    requires { ⌜ (Fits places (now b)) × ((n ≡ nIn (now b)) × ((m ≡ mIn (now b)) × ((c ≡ perDesk places m) × ((count ≡ countIn (now b)) × (p < count))))) ⌝ }
+    ensures { λ r. ⌜ r ≡ openFrom places (now (b .entry)) (openPlace places n m p) ⌝ }
 {
     let at = field_place(n, c * n, p / OPENS_IN, OPEN_BYTES * (p % OPENS_IN));
     read_open(b, at)
@@ -264,9 +264,9 @@ fn number_of(o: Open) -> u16 {
 
 // Each goes into the entry where a search for it begins, or a free one behind that.
 fn read_opens(b: &[u8], n: usize, m: usize, c: usize, count: usize, opens: &mut [u16; OPENS * OPEN])
-    requires { ⌜ (Fits (now b)) × ((n ≡ nIn (now b)) × ((m ≡ mIn (now b)) × ((c ≡ perDesk m) × (count ≡ countIn (now b))))) ⌝ }
+    requires { ⌜ (Fits places (now b)) × ((n ≡ nIn (now b)) × ((m ≡ mIn (now b)) × ((c ≡ perDesk places m) × (count ≡ countIn (now b))))) ⌝ }
     requires { ⌜ now opens ≡ replicate (entries * open-width) 0 ⌝ }
-    ensures { λ _. ⌜ OpensRead (now (b .entry)) n m count (now (opens .exit)) ⌝ }
+    ensures { λ _. ⌜ OpensRead places (now (b .entry)) n m count (now (opens .exit)) ⌝ }
 {
     let mut p = 0;
     while p < count {
@@ -298,8 +298,8 @@ fn candidate(b: &[u8]) -> Table
 }
 
 fn read_table(b: &[u8]) -> Table
-    requires { ⌜ Fits (now b) ⌝ }
-    ensures { λ r. ⌜ ReadAs (now (b .entry)) r ⌝ }
+    requires { ⌜ Fits places (now b) ⌝ }
+    ensures { λ r. ⌜ ReadAs places (now (b .entry)) r ⌝ }
 {
     let n = size(b[PAYLOAD_AT]);
     let m = size(b[5]);
