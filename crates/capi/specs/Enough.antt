@@ -2,9 +2,11 @@
 use mathlib.Core.Path.{_≡_, refl, sym, ap, _∙_}
 use mathlib.Core.List.{List, [], _∷_}
 use mathlib.Core.Option.{none, some}
-use Prim.Native.Nat.{ℕ, _*_, _≤_}
+use Prim.Native.Nat.{ℕ, _≤_}
 use native.Mathlib.Omega.{arith}
 use lib.ListN.{length}
+use Rattle.clock.specs.Vectors.{places}
+use Rattle.image.specs.Limits.{image-bytes}
 use Rattle.image.specs.Load.{Loaded, refused, loaded, load, load-is}
 use Rattle.load.specs.Loading.{image-most}
 use Rattle.session.specs.Session.{Session}
@@ -26,7 +28,7 @@ start-kept (b ∷ l) z e = go (load (b ∷ l)) refl
 
 -- "The largest image is 37 blocks."
 abbrev pub most-image : ℕ
-most-image = 512 * 37
+most-image = image-bytes places
 
 image-few : (z : Session) → Kept z → length (imageOf z) ≤ most-image
 image-few none k = omega arith

@@ -16,6 +16,7 @@ use Rattle.image.specs.Saved.{length-is}
 use Rattle.session.specs.Session.{Session}
 use Rattle.session.specs.Holds.{Holds}
 use Rattle.capi.specs.Access.{imageOf}
+use Rattle.image.specs.Limits.{wide, block-bytes, opens-in, blocks-for}
 
 module _ (n m : ℕ) (ds : List Desk) (cs os : List ℕ) where
   -- no table
@@ -35,7 +36,7 @@ module _ (n m : ℕ) (ds : List Desk) (cs os : List ℕ) where
 
   -- its length, by the counts alone
   pub image-long : (n ≡ 0 → ⊥) → (z : Session) → Holds n m ds cs os z
-      → 512 * (1 + n + perDesk m * n + (length (counted n (appliedM ds)) + 17) / 18) ≡ length (imageOf z)
+      → block-bytes * (1 + n + perDesk places m * n + blocks-for (opens-in places) (length (counted n (appliedM ds)))) ≡ length (imageOf z)
   image-long f z h =
       let i = image-is f z h in
-      length-is n m ds cs os (i .0) ∙ ap length (sym (i .1))
+      length-is places wide n m ds cs os (i .0) (i .0 .rules .frame .ranges .desks .1) ∙ ap length (sym (i .1))

@@ -1,3 +1,5 @@
+use Rattle.image.specs.Limits.{wide}
+use Rattle.clock.specs.Vectors.{places}
 -- A schedule cut between two lines, and run by two calls.
 use mathlib.Core.Path.{_≡_, refl, sym, ap, _∙_}
 use mathlib.Core.List.{List, [], _∷_, _++_}
@@ -33,7 +35,7 @@ session-cut z a b = rw (lines-cut a b) (session-append z (linesOf (ended a)) (li
 pub start-image : (z : Session) → Kept z → startOf (imageOf z) ≡ begin z
 unfolding startOf
 start-image none k = refl
-start-image (some s) k = start-load (encode s) (λ e. omega (arith, length-encode s)) ∙ ap started (load-encode s k)
+start-image (some s) k = start-load (encode s) (λ e. omega (arith, length-encode places wide s)) ∙ ap started (load-encode s k)
 
 -- The lines a by one call, and b by a second from the image that the first wrote: where no call is refused, the answers of the two, one after the
 -- other, are those of one call over all the lines, and so is the image that the second wrote.

@@ -5,10 +5,12 @@ use mathlib.Core.Option.{Option, none, some}
 use lib.ListN.{length, getD, replicate}
 use Rattle.laws.specs.Tab.{tab}
 use Rattle.laws.specs.Cat.{cat}
-use Rattle.machine.specs.Table.{most-desks, Vec, Name, Cell, blank, set, Open, State}
+use Rattle.machine.specs.Table.{Vec, Name, Cell, blank, set, Open, State}
 use Rattle.machine.specs.Steps.{openCount}
 use Rattle.image.specs.Names.{names}
 use Rattle.image.specs.Check.{checkOf}
+use Rattle.clock.specs.Vectors.{places}
+use Rattle.image.specs.Limits.{payload-bytes, cell-bytes, open-bytes, cells-in, opens-in, blocks-for}
 
 -- "numbers little-endian": of 16 bits, of 32 bits
 abbrev pub word : ℕ → List ℕ
@@ -17,18 +19,10 @@ word x = x % 256 ∷ x / 256 ∷ []
 abbrev pub long : ℕ → List ℕ
 long x = x % 256 ∷ x / 256 % 256 ∷ x / 65536 % 256 ∷ x / 16777216 ∷ []
 
--- "8 vector places of 16 bits"
-unfoldable pub words : Vec → List ℕ
-words v = cat (λ t. word (v (suc t))) most-desks
-
--- "for each of 8 desks 0 not received, 1 held, 2 applied"
-unfoldable pub markBytes : Vec → List ℕ
-markBytes v = tab most-desks (λ t. v (suc t))
-
 -- "Blocks of 512 bytes; bytes not named are zero. Byte 0 kind, 1 edition (1), 2-3 the block's place from 0, 4-507 payload,
 -- 508-511 check."
 abbrev pub body : ℕ → ℕ → List ℕ → List ℕ
-body kind place payload = kind ∷ 1 ∷ (word place ++ (payload ++ replicate (504 - length payload) 0))
+body kind place payload = kind ∷ 1 ∷ (word place ++ (payload ++ replicate (payload-bytes - length payload) 0))
 
 abbrev pub sealed : List ℕ → List ℕ
 sealed b = b ++ long (checkOf b)
@@ -40,59 +34,74 @@ block kind place payload = sealed (body kind place payload)
 abbrev pub block1 : State → List ℕ
 block1 s = block 1 0 (s .setup .desks ∷ s .setup .cells ∷ openCount s ∷ [])
 
--- "Kind 2, one for each desk: desk number, 3 zeros, 8 applied counts, 8 clock places, 16 bits each."
-unfoldable pub deskBytes : ℕ → Vec → Vec → List ℕ
-deskBytes i applied clock = i ∷ 0 ∷ 0 ∷ 0 ∷ (words applied ++ words clock)
+-- A vector has p places: in edition 1, which the document speaks of here, 8; and a cell takes 20 bytes, an open write 28, as many to a block
+-- as fit (edition-1).
+module _ (p : ℕ) where
+  -- "8 vector places of 16 bits"
+  unfoldable pub words : Vec → List ℕ
+  words v = cat (λ t. word (v (suc t))) p
 
-abbrev pub block2 : State → ℕ → List ℕ
-block2 s i = block 2 (1 + i) (deskBytes (suc i) (s .applied (suc i)) (s .clock (suc i)))
+  -- "for each of 8 desks 0 not received, 1 held, 2 applied"
+  unfoldable pub markBytes : Vec → List ℕ
+  markBytes v = tab p (λ t. v (suc t))
 
--- "20 bytes each: writer (0 unset, then all zero), status, 2 zeros, 8 vector places"
-unfoldable pub cellBytes : Cell → List ℕ
-cellBytes blank = replicate 20 0
-cellBytes (set v u w) = u ∷ v ∷ 0 ∷ 0 ∷ words w
+  -- "Kind 2, one for each desk: desk number, 3 zeros, 8 applied counts, 8 clock places, 16 bits each."
+  unfoldable pub deskBytes : ℕ → Vec → Vec → List ℕ
+  deskBytes i applied clock = i ∷ 0 ∷ 0 ∷ 0 ∷ (words applied ++ words clock)
 
--- "Kind 3, desk by desk, each desk from a new block, 25 cells to a block": the q-th block of a desk has the cells 25 * q + 1 on
-unfoldable pub cellPart : State → ℕ → ℕ → ℕ → List ℕ
-cellPart s i q j = cellBytes (s .cell (suc i) (suc (25 * q + j)))
+  abbrev pub block2 : State → ℕ → List ℕ
+  block2 s i = block 2 (1 + i) (deskBytes (suc i) (s .applied (suc i)) (s .clock (suc i)))
 
-unfoldable pub perDesk : ℕ → ℕ
-perDesk m = (m + 24) / 25
+  -- "20 bytes each: writer (0 unset, then all zero), status, 2 zeros, 8 vector places"
+  unfoldable pub cellBytes : Cell → List ℕ
+  cellBytes blank = replicate (cell-bytes p) 0
+  cellBytes (set v u w) = u ∷ v ∷ 0 ∷ 0 ∷ words w
 
-abbrev pub block3 : State → ℕ → ℕ → List ℕ
-block3 s i q = block 3 (1 + s .setup .desks + perDesk (s .setup .cells) * i + q) (cat (cellPart s i q) 25)
+  -- "Kind 3, desk by desk, each desk from a new block, 25 cells to a block": those of the q-th block of a desk, j from 0
+  unfoldable pub cellPart : State → ℕ → ℕ → ℕ → List ℕ
+  cellPart s i q j = cellBytes (s .cell (suc i) (suc (cells-in p * q + j)))
 
--- "28 bytes each: writer, status, cell, zero, 8 vector places, then for each of 8 desks .."
-unfoldable pub openBytes : ℕ → Option Open → List ℕ
-openBytes u none = replicate 28 0
-openBytes u (some w) = u ∷ w .status ∷ w .cell ∷ 0 ∷ (words (w .vector) ++ markBytes (w .marks))
+  unfoldable pub perDesk : ℕ → ℕ
+  perDesk m = blocks-for (cells-in p) m
 
-abbrev pub named : State → Name → List ℕ
-named s w = openBytes (w .writer) (s .opens (w .writer) (w .number))
+  abbrev pub block3 : State → ℕ → ℕ → List ℕ
+  block3 s i q = block 3 (1 + s .setup .desks + perDesk (s .setup .cells) * i + q) (cat (cellPart s i q) (cells-in p))
 
--- "Kind 4, 18 open writes to a block, by writer then number": those of the q-th block, and zeros past the last
-unfoldable pub openPart : State → ℕ → ℕ → List ℕ
-openPart s q j = getD (map (named s) (names s)) (18 * q + j) (replicate 28 0)
+  -- "28 bytes each: writer, status, cell, zero, 8 vector places, then for each of 8 desks .."
+  unfoldable pub openBytes : ℕ → Option Open → List ℕ
+  openBytes u none = replicate (open-bytes p) 0
+  openBytes u (some w) = u ∷ w .status ∷ w .cell ∷ 0 ∷ (words (w .vector) ++ markBytes (w .marks))
 
--- "No kind 4 block when nothing is open."
-unfoldable pub openBlocks : State → ℕ
-openBlocks s = (openCount s + 17) / 18
+  abbrev pub named : State → Name → List ℕ
+  named s w = openBytes (w .writer) (s .opens (w .writer) (w .number))
 
-abbrev pub block4 : State → ℕ → List ℕ
-block4 s q = block 4 (1 + s .setup .desks + perDesk (s .setup .cells) * s .setup .desks + q) (cat (openPart s q) 18)
+  -- "Kind 4, 18 open writes to a block, by writer then number": those of the q-th block, and zeros past the last
+  unfoldable pub openPart : State → ℕ → ℕ → List ℕ
+  openPart s q j = getD (map (named s) (names s)) (opens-in p * q + j) (replicate (open-bytes p) 0)
 
--- "Blocks stand by kind, 1 to 4, and nothing follows them."
-abbrev pub kind2 : State → List ℕ
-kind2 s = cat (block2 s) (s .setup .desks)
+  -- "No kind 4 block when nothing is open."
+  unfoldable pub openBlocks : State → ℕ
+  openBlocks s = blocks-for (opens-in p) (openCount s)
 
-abbrev pub kind3 : State → List ℕ
-kind3 s = cat (λ i. cat (block3 s i) (perDesk (s .setup .cells))) (s .setup .desks)
+  abbrev pub block4 : State → ℕ → List ℕ
+  block4 s q = block 4 (1 + s .setup .desks + perDesk (s .setup .cells) * s .setup .desks + q) (cat (openPart s q) (opens-in p))
 
-abbrev pub kind4 : State → List ℕ
-kind4 s = cat (block4 s) (openBlocks s)
+  -- "Blocks stand by kind, 1 to 4, and nothing follows them."
+  abbrev pub kind2 : State → List ℕ
+  kind2 s = cat (block2 s) (s .setup .desks)
 
-unfoldable pub encode : State → List ℕ
-encode s = block1 s ++ (kind2 s ++ (kind3 s ++ kind4 s))
+  abbrev pub kind3 : State → List ℕ
+  kind3 s = cat (λ i. cat (block3 s i) (perDesk (s .setup .cells))) (s .setup .desks)
 
-abbrev pub blocks : State → ℕ
-blocks s = 1 + s .setup .desks + perDesk (s .setup .cells) * s .setup .desks + openBlocks s
+  abbrev pub kind4 : State → List ℕ
+  kind4 s = cat (block4 s) (openBlocks s)
+
+  unfoldable pub encodeAt : State → List ℕ
+  encodeAt s = block1 s ++ (kind2 s ++ (kind3 s ++ kind4 s))
+
+  abbrev pub blocks : State → ℕ
+  blocks s = 1 + s .setup .desks + perDesk (s .setup .cells) * s .setup .desks + openBlocks s
+
+-- document 01's image, of edition 1
+abbrev pub encode : State → List ℕ
+encode = encodeAt places

@@ -16,22 +16,23 @@ use Rattle.machine.specs.Answer.{damaged}
 use Rattle.machine.specs.Steps.{openCount, everywhere, failing, write}
 use Rattle.image.specs.Names.{names, namesOf}
 use Rattle.image.specs.Check.{checkOf}
-use Rattle.image.specs.Encode.{words, markBytes, deskBytes, cellBytes, openBytes, block, cellPart, openPart, perDesk, openBlocks, encode}
+use Rattle.image.specs.Encode.{words, markBytes, deskBytes, cellBytes, openBytes, block, cellPart, openPart, perDesk, openBlocks, encodeAt, encode}
 use Rattle.image.specs.Sound.{checkIn, sound}
 use Rattle.machine.specs.Keeps.{keeps}
 use Rattle.image.specs.Load.{refused, load}
+use Rattle.image.specs.Limits.{block-bytes, check-at}
 
 -- "A fresh table of n = 1, m = 1 is 3 blocks, and its first check is 15."
-pub fresh-blocks : length (encode (fresh 1 1)) ≡ 3 * 512
-unfolding encode block cat words deskBytes cellBytes cellPart openCount sum perDesk openBlocks checkOf
+pub fresh-blocks : length (encode (fresh 1 1)) ≡ 3 * block-bytes
+unfolding encodeAt block cat words deskBytes cellBytes cellPart openCount sum perDesk openBlocks checkOf
 fresh-blocks = refl
 
-pub first-check : part 508 4 (encode (fresh 1 1)) ≡ 15 ∷ 0 ∷ 0 ∷ 0 ∷ []
-unfolding encode block cat words deskBytes cellBytes cellPart openCount sum perDesk openBlocks checkOf part
+pub first-check : part check-at 4 (encode (fresh 1 1)) ≡ 15 ∷ 0 ∷ 0 ∷ 0 ∷ []
+unfolding encodeAt block cat words deskBytes cellBytes cellPart openCount sum perDesk openBlocks checkOf part
 first-check = refl
 
 -- "An all-zero block is damaged."
-pub zero-block : load (replicate 512 0) ≡ refused damaged
+pub zero-block : load (replicate block-bytes 0) ≡ refused damaged
 unfolding load sound checkIn checkOf sum part all scan turns
 zero-block = refl
 
@@ -39,8 +40,8 @@ zero-block = refl
 abbrev pub one-write : State
 one-write = write (fresh 2 1) 1 1 2
 
-pub open-entry : part (5 * 512) 40 (encode one-write) ≡ 4 ∷ 1 ∷ 5 ∷ 0 ∷ 1 ∷ 2 ∷ 1 ∷ 0 ∷ 1 ∷ 0 ∷ 0 ∷ 0 ∷ 0 ∷ 0 ∷ 0 ∷ 0 ∷ 0 ∷ 0 ∷ 0 ∷ 0 ∷ 0 ∷ 0 ∷ 0 ∷ 0 ∷ 2 ∷ 0 ∷ 0 ∷ 0 ∷ 0 ∷ 0 ∷ 0 ∷ 0 ∷ 0 ∷ 0 ∷ 0 ∷ 0 ∷ 0 ∷ 0 ∷ 0 ∷ 0 ∷ []
-unfolding encode block cat words markBytes deskBytes cellBytes cellPart openBytes openPart names namesOf openCount sum perDesk openBlocks checkOf part upd upd2 everywhere all scan turns tab tabFrom
+pub open-entry : part (5 * block-bytes) 40 (encode one-write) ≡ 4 ∷ 1 ∷ 5 ∷ 0 ∷ 1 ∷ 2 ∷ 1 ∷ 0 ∷ 1 ∷ 0 ∷ 0 ∷ 0 ∷ 0 ∷ 0 ∷ 0 ∷ 0 ∷ 0 ∷ 0 ∷ 0 ∷ 0 ∷ 0 ∷ 0 ∷ 0 ∷ 0 ∷ 2 ∷ 0 ∷ 0 ∷ 0 ∷ 0 ∷ 0 ∷ 0 ∷ 0 ∷ 0 ∷ 0 ∷ 0 ∷ 0 ∷ 0 ∷ 0 ∷ 0 ∷ 0 ∷ []
+unfolding encodeAt block cat words markBytes deskBytes cellBytes cellPart openBytes openPart names namesOf openCount sum perDesk openBlocks checkOf part upd upd2 everywhere all scan turns tab tabFrom
 open-entry = refl
 
 -- the rules hold of it; of the same with the clocks or the open write lost they do not

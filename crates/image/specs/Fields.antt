@@ -1,131 +1,152 @@
 -- The readers of a field, and that they read what was written.
-use Prim.Native.Nat.{ℕ, suc, _+_, _*_, _≤_}
-use mathlib.Core.Path.{_≡_, refl}
+use Prim.Native.Nat.{ℕ, zero, suc, _+_, _*_, _≤_}
+use mathlib.Core.Path.{_≡_, refl, sym, _∙_}
 use mathlib.Core.List.{List, [], _∷_, _++_}
 use mathlib.Core.Option.{Option, none, some}
 use native.Mathlib.Omega.{arith}
-use native.Mathlib.Nat.{div-add-mod'}
+use native.Mathlib.Nat.{div-add-mod', add-zero}
 use lib.Dec.{eqb}
 use borrow.Author.Tests.{ne-eqb}
-use lib.ListN.{length, getD, length-append}
+use lib.ListN.{length, getD, replicate, length-append, length-replicate, replicate-append-replicate}
+use lib.Seq.{ext-getD}
 use Rattle.laws.specs.Loop.{pick}
 use Rattle.laws.specs.Update.{same-or}
 use Rattle.laws.specs.Tab.{tab, length-tab, getD-tab}
 use Rattle.laws.specs.From.{from1, from1-is}
 use Rattle.laws.specs.Cat.{cat, part, part-whole, part-right, part-left, getD-cat, length-cat}
-use Rattle.machine.specs.Table.{most-desks, Vec, Cell, blank, set, Open}
+use Rattle.machine.specs.Table.{Vec, Cell, blank, set, Open}
 use Rattle.machine.specs.Rules.{Flat}
 use Rattle.image.specs.Encode.{word, words, markBytes, deskBytes, cellBytes, openBytes}
+use Rattle.table.specs.Begin.{zeros-at}
+use Rattle.image.specs.Limits.{vector-at, vector-bytes, after-vector, desk-bytes, cell-bytes, open-bytes}
 
--- 8 numbers of 16 bits; 8 of a byte
-unfoldable pub vecOf : List ℕ → Vec
-vecOf l = from1 0 most-desks (λ t. getD l (2 * t + 0) 0 + 256 * getD l (2 * t + 1) 0)
-
-unfoldable pub marksOf : List ℕ → Vec
-marksOf l = from1 0 most-desks (λ t. getD l t 0)
-
-unfoldable pub cellOf : List ℕ → Cell
-cellOf l = pick (eqb (getD l 0 0) 0) blank (set (getD l 1 0) (getD l 0 0) (vecOf (part 4 16 l)))
-
--- an open write's number is its writer's place in its vector
 abbrev pub writerIn : List ℕ → ℕ
 writerIn l = getD l 0 0
-
-unfoldable pub numberIn : List ℕ → ℕ
-numberIn l = vecOf (part 4 16 l) (writerIn l)
-
-unfoldable pub openOf : List ℕ → Open
-openOf l = record { cell = getD l 2 0; status = getD l 1 0; vector = vecOf (part 4 16 l); marks = marksOf (part 20 8 l) }
 
 -- what is zero past n is zero where no desk is
 pub flat-out : (n : ℕ) (v : Vec) → Flat n v → (t : ℕ) → (1 ≤ t → t ≤ n → ⊥) → v t ≡ 0
 flat-out n v f t o = same-or (v t) 0 (λ e. e) (λ e. absurd (let h = f t (omega arith) in o (h .0) (h .1)))
 
-pub length-words : (v : Vec) → length (words v) ≡ 16
-unfolding words
-length-words v = length-cat (λ t. word (v (suc t))) 2 (λ j. refl) 8
+-- a vector of zeros
+pub zero-words : (ps : ℕ) → words ps (λ t. 0) ≡ replicate (vector-bytes ps) 0
+unfolding words cat
+zero-words zero = refl
+zero-words (suc ps) =
+    let e : vector-bytes (suc ps) ≡ vector-bytes ps + 2 = omega arith in
+    let z : cat (λ (t : ℕ). word 0) ps ≡ replicate (vector-bytes ps) 0 = zero-words ps in
+    rw (e, z) (replicate-append-replicate {A = ℕ} (vector-bytes ps) 2 0)
 
-pub length-marks : (v : Vec) → length (markBytes v) ≡ 8
+pub zero-marks : (ps : ℕ) → markBytes ps (λ t. 0) ≡ replicate ps 0
 unfolding markBytes
-length-marks v = length-tab (λ t. v (suc t)) 8
+zero-marks ps =
+    let l = length-tab {A = ℕ} (λ t. 0) ps in
+    ext-getD 0 (tab ps (λ (t : ℕ). 0)) (replicate ps 0) (l ∙ sym (length-replicate {A = ℕ} ps 0)) (λ i h. rw (zeros-at ps i) (getD-tab {A = ℕ} (λ t. 0) ps i 0 (omega (arith, l))))
 
-pub vec-words : (v : Vec) → Flat most-desks v → vecOf (words v) ≡ v
-unfolding vecOf words
-vec-words v f =
-    let w : ℕ → List ℕ = λ t. word (v (suc t)) in
-    from1-is 0 8 (λ t. getD (cat w 8) (2 * t + 0) 0 + 256 * getD (cat w 8) (2 * t + 1) 0) v
-    (λ t h.
-    let k = length-cat w 2 (λ j. refl) t in
-    rw (getD-cat w 8 t (2 * t) 0 0 h k (omega arith), getD-cat w 8 t (2 * t) 1 0 h k (omega arith)) (omega (arith, div-add-mod' (v (suc t)) 256)))
-    (flat-out 8 v f)
+-- where a vector has ps places
+module _ (ps : ℕ) where
+  -- 8 numbers of 16 bits; 8 of a byte
+  unfoldable pub vecOf : List ℕ → Vec
+  vecOf l = from1 0 ps (λ t. getD l (2 * t + 0) 0 + 256 * getD l (2 * t + 1) 0)
 
-pub marks-bytes : (v : Vec) → Flat most-desks v → marksOf (markBytes v) ≡ v
-unfolding marksOf markBytes
-marks-bytes v f =
-    from1-is 0 8 (λ t. getD (tab 8 (λ t. v (suc t))) t 0) v (λ t h. getD-tab (λ t. v (suc t)) 8 t 0 h) (flat-out 8 v f)
+  unfoldable pub marksOf : List ℕ → Vec
+  marksOf l = from1 0 ps (λ t. getD l t 0)
 
-pub cell-blank : cellOf (cellBytes blank) ≡ blank
-unfolding cellOf cellBytes
-cell-blank = refl
+  unfoldable pub cellOf : List ℕ → Cell
+  cellOf l = pick (eqb (getD l 0 0) 0) blank (set (getD l 1 0) (getD l 0 0) (vecOf (part vector-at (vector-bytes ps) l)))
 
-pub cell-set : (v u : ℕ) (w : Vec) → 1 ≤ u → Flat most-desks w → cellOf (cellBytes (set v u w)) ≡ set v u w
-unfolding cellOf cellBytes
-cell-set v u w h f =
-    rw (
-      part-right (u ∷ v ∷ 0 ∷ 0 ∷ []) (words w) 4 0 16 refl,
-      part-whole (words w) 16 (length-words w),
-      vec-words w f,
-      ne-eqb u 0 (λ e. omega arith),
-    )
+  -- an open write's number is its writer's place in its vector
+  unfoldable pub numberIn : List ℕ → ℕ
+  numberIn l = vecOf (part vector-at (vector-bytes ps) l) (writerIn l)
 
--- a vector behind 4 bytes, and what follows it
-module _ (a b c d : ℕ) (v : Vec) (r : List ℕ) where
-  pub vector-part : part 4 16 (a ∷ b ∷ c ∷ d ∷ (words v ++ r)) ≡ words v
-  vector-part =
+  unfoldable pub openOf : List ℕ → Open
+  openOf l = record { cell = getD l 2 0; status = getD l 1 0; vector = vecOf (part vector-at (vector-bytes ps) l); marks = marksOf (part (after-vector ps) ps l) }
+
+  pub length-words : (v : Vec) → length (words ps v) ≡ vector-bytes ps
+  unfolding words
+  length-words v = length-cat (λ t. word (v (suc t))) 2 (λ j. refl) ps
+
+  pub length-marks : (v : Vec) → length (markBytes ps v) ≡ ps
+  unfolding markBytes
+  length-marks v = length-tab (λ t. v (suc t)) ps
+
+  pub vec-words : (v : Vec) → Flat ps v → vecOf (words ps v) ≡ v
+  unfolding vecOf words
+  vec-words v f =
+      let w : ℕ → List ℕ = λ t. word (v (suc t)) in
+      from1-is 0 ps (λ t. getD (cat w ps) (2 * t + 0) 0 + 256 * getD (cat w ps) (2 * t + 1) 0) v
+      (λ t h.
+      let k = length-cat w 2 (λ j. refl) t in
+      rw (getD-cat w ps t (2 * t) 0 0 h k (omega arith), getD-cat w ps t (2 * t) 1 0 h k (omega arith)) (omega (arith, div-add-mod' (v (suc t)) 256)))
+      (flat-out ps v f)
+
+  pub marks-bytes : (v : Vec) → Flat ps v → marksOf (markBytes ps v) ≡ v
+  unfolding marksOf markBytes
+  marks-bytes v f =
+      from1-is 0 ps (λ t. getD (tab ps (λ t. v (suc t))) t 0) v (λ t h. getD-tab (λ t. v (suc t)) ps t 0 h) (flat-out ps v f)
+
+  pub cell-blank : cellOf (cellBytes ps blank) ≡ blank
+  unfolding cellOf cellBytes
+  cell-blank = rw (zeros-at (cell-bytes ps) 0)
+
+  pub cell-set : (v u : ℕ) (w : Vec) → 1 ≤ u → Flat ps w → cellOf (cellBytes ps (set v u w)) ≡ set v u w
+  unfolding cellOf cellBytes
+  cell-set v u w h f =
       rw (
-        part-right (a ∷ b ∷ c ∷ d ∷ []) (words v ++ r) 4 0 16 refl,
-        part-left (words v) r 0 16 (omega (arith, length-words v)),
-        part-whole (words v) 16 (length-words v),
+        part-right (u ∷ v ∷ 0 ∷ 0 ∷ []) (words ps w) vector-at 0 (vector-bytes ps) refl,
+        part-whole (words ps w) (vector-bytes ps) (length-words w),
+        vec-words w f,
+        ne-eqb u 0 (λ e. omega arith),
       )
 
-  pub rest-part : (w : ℕ) → length r ≡ w → part 20 w (a ∷ b ∷ c ∷ d ∷ (words v ++ r)) ≡ r
-  rest-part w e =
-      rw (part-right (a ∷ b ∷ c ∷ d ∷ []) (words v ++ r) 4 16 w refl, part-right (words v) r 16 0 w (length-words v), part-whole r w e)
+  -- a vector behind 4 bytes, and what follows it
+  module _ (a b c d : ℕ) (v : Vec) (r : List ℕ) where
+    pub vector-part : part vector-at (vector-bytes ps) (a ∷ b ∷ c ∷ d ∷ (words ps v ++ r)) ≡ words ps v
+    vector-part =
+        rw (
+          part-right (a ∷ b ∷ c ∷ d ∷ []) (words ps v ++ r) vector-at 0 (vector-bytes ps) refl,
+          part-left (words ps v) r 0 (vector-bytes ps) (omega (arith, length-words v)),
+          part-whole (words ps v) (vector-bytes ps) (length-words v),
+        )
 
-module _ (u : ℕ) (w : Open) (fv : Flat most-desks (w .vector)) where
-  vector-back : vecOf (part 4 16 (openBytes u (some w))) ≡ w .vector
+    pub rest-part : (w : ℕ) → length r ≡ w → part (after-vector ps) w (a ∷ b ∷ c ∷ d ∷ (words ps v ++ r)) ≡ r
+    rest-part w e =
+        part-right (a ∷ b ∷ c ∷ d ∷ []) (words ps v ++ r) vector-at (vector-bytes ps) w refl
+        ∙ rw add-zero at (part-right (words ps v) r (vector-bytes ps) 0 w (length-words v)) ∙ part-whole r w e
+
+  module _ (u : ℕ) (w : Open) (fv : Flat ps (w .vector)) where
+    vector-back : vecOf (part vector-at (vector-bytes ps) (openBytes ps u (some w))) ≡ w .vector
+    unfolding openBytes
+    vector-back = rw (vector-part u (w .status) (w .cell) 0 (w .vector) (markBytes ps (w .marks))) (vec-words (w .vector) fv)
+
+    marks-back : Flat ps (w .marks) → marksOf (part (after-vector ps) ps (openBytes ps u (some w))) ≡ w .marks
+    unfolding openBytes
+    marks-back fm =
+        rw (rest-part u (w .status) (w .cell) 0 (w .vector) (markBytes ps (w .marks)) ps (length-marks (w .marks))) (marks-bytes (w .marks) fm)
+
+    pub writer-back : writerIn (openBytes ps u (some w)) ≡ u
+    unfolding openBytes
+    writer-back = refl
+
+    pub number-back : numberIn (openBytes ps u (some w)) ≡ w .vector u
+    unfolding numberIn
+    number-back = rw (vector-back, writer-back)
+
+    pub open-back : Flat ps (w .marks) → openOf (openBytes ps u (some w)) ≡ w
+    unfolding openOf openBytes
+    open-back fm = rw (vector-back, marks-back fm)
+
+  -- lengths --
+
+  pub length-desk : (i : ℕ) (a c : Vec) → length (deskBytes ps i a c) ≡ desk-bytes ps
+  unfolding deskBytes
+  length-desk i a c = rw (length-append (words ps a) (words ps c), length-words a, length-words c) (omega arith)
+
+  pub length-cell : (c : Cell) → length (cellBytes ps c) ≡ cell-bytes ps
+  unfolding cellBytes
+  length-cell blank = length-replicate {A = ℕ} (cell-bytes ps) 0
+  length-cell (set v u w) = rw (length-words w) (omega arith)
+
+  pub length-open : (u : ℕ) (o : Option Open) → length (openBytes ps u o) ≡ open-bytes ps
   unfolding openBytes
-  vector-back = rw (vector-part u (w .status) (w .cell) 0 (w .vector) (markBytes (w .marks))) (vec-words (w .vector) fv)
-
-  marks-back : Flat most-desks (w .marks) → marksOf (part 20 8 (openBytes u (some w))) ≡ w .marks
-  unfolding openBytes
-  marks-back fm =
-      rw (rest-part u (w .status) (w .cell) 0 (w .vector) (markBytes (w .marks)) 8 (length-marks (w .marks))) (marks-bytes (w .marks) fm)
-
-  pub writer-back : writerIn (openBytes u (some w)) ≡ u
-  unfolding openBytes
-  writer-back = refl
-
-  pub number-back : numberIn (openBytes u (some w)) ≡ w .vector u
-  unfolding numberIn
-  number-back = rw (vector-back, writer-back)
-
-  pub open-back : Flat most-desks (w .marks) → openOf (openBytes u (some w)) ≡ w
-  unfolding openOf openBytes
-  open-back fm = rw (vector-back, marks-back fm)
-
--- lengths --
-
-pub length-desk : (i : ℕ) (a c : Vec) → length (deskBytes i a c) ≡ 36
-unfolding deskBytes
-length-desk i a c = rw (length-append (words a) (words c), length-words a, length-words c)
-
-pub length-cell : (c : Cell) → length (cellBytes c) ≡ 20
-unfolding cellBytes
-length-cell blank = refl
-length-cell (set v u w) = rw (length-words w)
-
-pub length-open : (u : ℕ) (o : Option Open) → length (openBytes u o) ≡ 28
-unfolding openBytes
-length-open u none = refl
-length-open u (some w) = rw (length-append (words (w .vector)) (markBytes (w .marks)), length-words (w .vector), length-marks (w .marks))
+  length-open u none = length-replicate {A = ℕ} (open-bytes ps) 0
+  length-open u (some w) = rw (length-append (words ps (w .vector)) (markBytes ps (w .marks)), length-words (w .vector), length-marks (w .marks)) (omega arith)

@@ -27,7 +27,7 @@ module _ {A : Type 0} where
   tab-put f d at j =
       rw (tab-more f j) (sym (rw (length-tab f j) at (sets-append (tab j f) (f j ∷ []) d at)))
 
-drop-replicate : {A : Type 0} (a b : ℕ) (x : A) → drop a (replicate (a + b) x) ≡ replicate b x
+pub drop-replicate : {A : Type 0} (a b : ℕ) (x : A) → drop a (replicate (a + b) x) ≡ replicate b x
 drop-replicate zero b x = let e : 0 + b ≡ b = omega arith in rw e
 drop-replicate (suc a) b x = let e : suc a + b ≡ suc (a + b) = omega arith in rw e (drop-replicate a b x)
 

@@ -1,3 +1,4 @@
+pub mod Limits
 pub mod Names
 pub mod Check
 pub mod Encode

@@ -16,6 +16,9 @@ use Rattle.image.specs.Sound.{Sound, Damaged, sound, says-sound, sound-e
 use Rattle.machine.specs.Keeps.{keeps}
 use Rattle.machine.specs.Tells.{says-rules}
 use Rattle.image.specs.Shape.{shaped}
+use native.Mathlib.Omega.{arith}
+use Rattle.clock.specs.Vectors.{places}
+use Rattle.image.specs.Limits.{wide}
 
 pub data Loaded : Type 0 where
   refused : Refusal → Loaded
@@ -36,7 +39,7 @@ pub data Loads (b : List ℕ) : Loaded → Type 0 where
 
 -- an image is not damaged
 image-sound : (b : List ℕ) (s : State) → encode s ≡ b → Sound b
-image-sound b s e = rw e at (sound-encode s)
+image-sound b s e = rw e at (sound-encode places wide s)
 
 -- Any reader loads right that reads images right: what it reads has its rules tested, is saved again and compared.
 module _ (b : List ℕ) (c : State) (reads : (s : State) → Rules s → encode s ≡ b → c ≡ s) where
@@ -67,12 +70,12 @@ loads-is b x (by-rule h f) =
     rw (says-sound b .from h)
     (cases (keeps (decode b))
     (λ k. rw k (cases (same (encode (decode b)) b)
-    (λ q. absurd (f (decode b) (says-rules (decode b) (shaped b) .to k) (says-same (encode (decode b)) b .to q)))
+    (λ q. absurd (f (decode b) (says-rules (decode b) (shaped places (omega arith) b) .to k) (says-same (encode (decode b)) b .to q)))
     (λ q. rw q)))
     (λ k. rw k))
 loads-is b x (as-saved s r e) =
     let d = read-back b s r e in
-    let k : keeps (decode b) ≡ true = says-rules (decode b) (shaped b) .from (rw d r) in
+    let k : keeps (decode b) ≡ true = says-rules (decode b) (shaped places (omega arith) b) .from (rw d r) in
     let q : same (encode (decode b)) b ≡ true = says-same (encode (decode b)) b .from (rw d e) in
     rw (says-sound b .from (image-sound b s e), k, q) (ap loaded (sym d))
 
@@ -82,7 +85,7 @@ one-load b x y p q = loads-is b x p ∙ sym (loads-is b y q)
 pub load-loads : (b : List ℕ) → Loads b (load b)
 unfolding load
 load-loads b =
-    load-by b (decode b) (read-back b) (keeps (decode b)) (same (encode (decode b)) b) (says-rules (decode b) (shaped b)) (says-same (encode (decode b)) b)
+    load-by b (decode b) (read-back b) (keeps (decode b)) (same (encode (decode b)) b) (says-rules (decode b) (shaped places (omega arith) b)) (says-same (encode (decode b)) b)
 
 -- the three answers, each exactly in its condition --
 

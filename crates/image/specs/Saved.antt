@@ -9,7 +9,7 @@ use native.Mathlib.Decide.{decLt}
 use native.Mathlib.Nat.{mul-le-mul}
 use borrow.Author.Tests.{eqb-true, eqb-false, lt-ltb, le-ltb}
 use lib.Dec.{eqb, ltb}
-use lib.ListN.{length, getD, replicate, List·getD-eq-default, length-map}
+use lib.ListN.{length, getD, replicate, List·getD-eq-default, length-map, replicate-append-replicate}
 use lib.Seq.{sets}
 use Rattle.laws.specs.Loop.{pick, cases}
 use Rattle.laws.specs.Says.{apart, clash}
@@ -32,42 +32,44 @@ use Rattle.table.specs.Opens.{Unique, opens-at}
 use Rattle.table.specs.Sound.{Sound, AllZero}
 use Rattle.image.specs.Names.{names, no-name, length-names, OpenName, names-open}
 use Rattle.image.specs.Counted.{low, counted, names-counted, open-low}
-use Rattle.image.specs.Encode.{words, markBytes, cellBytes, openBytes, block, named, cellPart, openPart, perDesk, openBlocks, blocks, block1, block2, block3, block4, kind2, kind3, kind4, encode}
+use Rattle.image.specs.Encode.{words, markBytes, cellBytes, openBytes, block, named, cellPart, openPart, perDesk, openBlocks, blocks, block1, block2, block3, block4, kind2, kind3, kind4, encodeAt, encode}
 use Rattle.image.specs.Bytes.{most-blocks}
 use Rattle.image.specs.Places.{length-1, length-2, length-3s, length-4, length-encode}
 use Rattle.image.specs.Block.{cellRaw, openRaw, SmallCell, SmallOpen}
 use Rattle.image.specs.Parts.{CellFits, CellsFit, deskBlock, cellPiece, cellBlock, cellRow, OrderFits, noOpen, openOr, openPiece, openBlock}
 use Rattle.image.specs.Order.{Holds, Ordered, Known}
+use Rattle.image.specs.Limits.{Wide, some-opens, blocks-mono, block-bytes, vector-bytes, cell-bytes, open-bytes, opens-in, blocks-for, opens-most, blocks-most}
+use Rattle.table.specs.Begin.{place-zeros}
+use Rattle.image.specs.Fields.{zero-words, zero-marks}
 
 -- the image of s stands in the buffer from its start on, what lies behind it is as it was, and the result is its length
 pub record Saved (s : State) (before after : List ℕ) (r : ℕ) : Type 0 where
   pub stored : after ≡ sets before 0 (encode s)
   pub size : r ≡ length (encode s)
 
-pub record Room (n m count c k d l : ℕ) : Type 0 where
+pub record Room (ps n m count c k d l : ℕ) : Type 0 where
   pub desks : n ≤ places
   pub cells : m ≤ desk-cells
   pub count-few : count ≤ entries
-  pub some-blocks : d ≤ 4
-  pub few : k + d ≤ 37
-  pub fits : 512 * (k + d) ≤ l
-
-zero-words : words (λ t. 0) ≡ replicate 16 0
-unfolding words cat
-zero-words = refl
+  pub some-blocks : d ≤ opens-most ps
+  pub few : k + d ≤ blocks-most ps
+  pub fits : block-bytes * (k + d) ≤ l
 
 -- an unset cell is all zero
-unset-bytes : (c : Cell) → c .writer ≡ 0 → AllZero c → cellRaw c ≡ replicate 20 0
+unset-bytes : (ps : ℕ) (c : Cell) → c .writer ≡ 0 → AllZero c → cellRaw ps c ≡ replicate (cell-bytes ps) 0
 unfolding cellRaw
-unset-bytes c w z =
+unset-bytes ps c w z =
     let v : place (c .vector) ≡ (λ t. 0) = fun-ext (z .vector) in
-    rw (w, z .status) (ap (λ (r : List ℕ). 0 ∷ 0 ∷ 0 ∷ 0 ∷ r) (ap words v ∙ zero-words))
+    let e : 4 + vector-bytes ps ≡ suc (suc (suc (suc (vector-bytes ps)))) = omega arith in
+    rw (w, z .status, e) (ap (λ (r : List ℕ). 0 ∷ 0 ∷ 0 ∷ 0 ∷ r) (ap (words ps) v ∙ zero-words ps))
 
-no-open-bytes : openRaw noOpen ≡ replicate 28 0
-unfolding openRaw words markBytes cat tab tabFrom
-no-open-bytes = refl
+no-open-bytes : (ps : ℕ) → openRaw ps noOpen ≡ replicate (open-bytes ps) 0
+unfolding openRaw
+no-open-bytes ps =
+    let e : open-bytes ps ≡ suc (suc (suc (suc (vector-bytes ps + ps)))) = omega arith in
+    rw (place-zeros places, zero-words ps, zero-marks ps, replicate-append-replicate (vector-bytes ps), e)
 
-module _ (n m : ℕ) (ds : List Desk) (cs os : List ℕ) (ok : Sound n m ds cs os) where
+module _ (ps : ℕ) (wd : Wide ps) (n m : ℕ) (ds : List Desk) (cs os : List ℕ) (ok : Sound n m ds cs os) (fits : n ≤ ps) where
   abbrev st : State
   st = model n m ds cs os
 
@@ -79,7 +81,7 @@ module _ (n m : ℕ) (ds : List Desk) (cs os : List ℕ) (ok : Sound n m ds cs o
 
   -- cells --
 
-  pub cells-fit : CellsFit cs
+  pub cells-fit : CellsFit ps cs
   unfolding cellBytes cellRaw
   cells-fit s h =
       let i : ℕ = s / desk-cells in
@@ -89,7 +91,7 @@ module _ (n m : ℕ) (ds : List Desk) (cs os : List ℕ) (ok : Sound n m ds cs o
       cases (eqb (cellAt cs s .writer) 0)
       (λ t. let w = eqb-true (cellAt cs s .writer) 0 t in
       let z = ok .blanks s h w in
-      record { small = record { writer = omega arith; status = omega (arith, z .status) }; bytes = rw t (unset-bytes (cellAt cs s) w z) })
+      record { small = record { writer = omega arith; status = omega (arith, z .status) }; bytes = rw t (unset-bytes ps (cellAt cs s) w z) })
       (λ t. let q : cellsM cs (suc i) (suc x) ≡ machine.set (cellAt cs s .status) (cellAt cs s .writer) (place (cellAt cs s .vector)) = rw t at g in
       let k = r .frame .cell (suc i) (suc x) (cellAt cs s .status) (cellAt cs s .writer) (place (cellAt cs s .vector)) q in
       record { small = record { writer = omega (arith, k .writer-in .1, few-desks); status = omega (arith, k .status-in) }; bytes = rw t })
@@ -142,80 +144,77 @@ module _ (n m : ℕ) (ds : List Desk) (cs os : List ℕ) (ok : Sound n m ds cs o
               ));
         }
 
-    piece-at : (p : ℕ) → openRaw (openOr os order count p) ≡ getD (map (named st) (names st)) p (replicate 28 0)
+    piece-at : (p : ℕ) → openRaw ps (openOr os order count p) ≡ getD (map (named ps st) (names st)) p (replicate (open-bytes ps) 0)
     unfolding openOr openBytes openRaw
     piece-at p = go (decLt p count)
       where
-        go : Dec (p < count) → openRaw (openOr os order count p) ≡ getD (map (named st) (names st)) p (replicate 28 0)
+        go : Dec (p < count) → openRaw ps (openOr os order count p) ≡ getD (map (named ps st) (names st)) p (replicate (open-bytes ps) 0)
         go (yes h) =
             let w = named-is (openAt os (getD order p 0)) (at p .writer) (at p .number) (held-as p h .1) .1 in
-            rw (lt-ltb p count h, getD-map-in (named st) (names st) p no-name (replicate 28 0) (omega (arith, ord-names .size)), is-there p h, w)
+            rw (lt-ltb p count h, getD-map-in (named ps st) (names st) p no-name (replicate (open-bytes ps) 0) (omega (arith, ord-names .size)), is-there p h, w)
         go (no h) =
-            let l : length (map (named st) (names st)) ≤ p = rw (length-map (names st) (named st)) (omega (arith, ord-names .size)) in
+            let l : length (map (named ps st) (names st)) ≤ p = rw (length-map (names st) (named ps st)) (omega (arith, ord-names .size)) in
             let g : count ≤ p = omega arith in
-            rw (le-ltb p count g, List·getD-eq-default (map (named st) (names st)) (replicate 28 0) l) no-open-bytes
+            rw (le-ltb p count g, List·getD-eq-default (map (named ps st) (names st)) (replicate (open-bytes ps) 0) l) (no-open-bytes ps)
 
     abbrev opens-from : ℕ
-    opens-from = 1 + n + perDesk m * n
+    opens-from = 1 + n + perDesk ps m * n
 
     pub count-is : count ≡ openCount st
     count-is = ord .size ∙ counted-is
 
-    kind4-is : (c : ℕ) → c ≡ openBlocks st → cat (openBlock os order count opens-from) c ≡ kind4 st
+    kind4-is : (c : ℕ) → c ≡ openBlocks ps st → cat (openBlock ps os order count opens-from) c ≡ kind4 ps st
     unfolding openPart
     kind4-is c e =
-        rw e (ap (λ (f : ℕ → List ℕ). cat f (openBlocks st))
-        (fun-ext (λ q. ap (λ (f : ℕ → List ℕ). block 4 (opens-from + q) (cat f 18)) (fun-ext (λ j. piece-at (18 * q + j))))))
+        rw e (ap (λ (f : ℕ → List ℕ). cat f (openBlocks ps st))
+        (fun-ext (λ q. ap (λ (f : ℕ → List ℕ). block 4 (opens-from + q) (cat f (opens-in ps))) (fun-ext (λ j. piece-at (opens-in ps * q + j))))))
 
-    kind3-is : (c : ℕ) → c ≡ perDesk m → cat (cellRow cs n c) n ≡ kind3 st
+    kind3-is : (c : ℕ) → c ≡ perDesk ps m → cat (cellRow ps cs n c) n ≡ kind3 ps st
     unfolding cellPart
     kind3-is c e = rw e
 
     -- one kind after the other
-    pub saved : (o o1 o2 o3 o4 b : List ℕ) (c d : ℕ) → c ≡ perDesk m → d ≡ openBlocks st → b ≡ block 1 0 (n ∷ m ∷ count ∷ [])
-        → o1 ≡ sets o 0 b → o2 ≡ sets o1 512 (cat (deskBlock ds) n) → o3 ≡ sets o2 (512 * (1 + n)) (cat (cellRow cs n c) n)
-        → o4 ≡ sets o3 (512 * (1 + n + c * n)) (cat (openBlock os order count (1 + n + c * n)) d) → o4 ≡ sets o 0 (encode st)
-    unfolding encode
+    pub saved : (o o1 o2 o3 o4 b : List ℕ) (c d : ℕ) → c ≡ perDesk ps m → d ≡ openBlocks ps st → b ≡ block 1 0 (n ∷ m ∷ count ∷ [])
+        → o1 ≡ sets o 0 b → o2 ≡ sets o1 block-bytes (cat (deskBlock ps ds) n) → o3 ≡ sets o2 (block-bytes * (1 + n)) (cat (cellRow ps cs n c) n)
+        → o4 ≡ sets o3 (block-bytes * (1 + n + c * n)) (cat (openBlock ps os order count (1 + n + c * n)) d) → o4 ≡ sets o 0 (encodeAt ps st)
+    unfolding encodeAt
     saved o o1 o2 o3 o4 b c d ec ed eb e1 e2 e3 e4 =
         let b1 : b ≡ block1 st = eb ∙ rw count-is in
-        let l1 = length-1 st in
-        let l2 = length-cat (block2 st) 512 (length-2 st) n in
-        let l3 = length-cat (λ i. cat (block3 st i) (perDesk m)) (512 * perDesk m) (length-3s st) n in
-        let q3 : cat (cellRow cs n c) n ≡ kind3 st = kind3-is c ec in
-        let q4 : cat (openBlock os order count (1 + n + c * n)) d ≡ kind4 st = rw ec (kind4-is d ed) in
-        let p2 : 512 * (1 + n) ≡ 512 + 512 * n = omega arith in
-        let p3 : 512 * (1 + n + perDesk m * n) ≡ 512 + 512 * n + 512 * perDesk m * n = omega arith in
-        let s1 = sets-append (block1 st) (kind2 st ++ (kind3 st ++ kind4 st)) o 0 in
-        let s2 = sets-append (kind2 st) (kind3 st ++ kind4 st) (sets o 0 (block1 st)) 512 in
-        let s3 = sets-append (kind3 st) (kind4 st) (sets (sets o 0 (block1 st)) 512 (kind2 st)) (512 + 512 * n) in
+        let l1 = length-1 ps wd st in
+        let l2 = length-cat (block2 ps st) block-bytes (length-2 ps wd st) n in
+        let l3 = length-cat (λ i. cat (block3 ps st i) (perDesk ps m)) (block-bytes * perDesk ps m) (length-3s ps wd st) n in
+        let q3 : cat (cellRow ps cs n c) n ≡ kind3 ps st = kind3-is c ec in
+        let q4 : cat (openBlock ps os order count (1 + n + c * n)) d ≡ kind4 ps st = rw ec (kind4-is d ed) in
+        let p2 : block-bytes * (1 + n) ≡ block-bytes + block-bytes * n = omega arith in
+        let p3 : block-bytes * (1 + n + perDesk ps m * n) ≡ block-bytes + block-bytes * n + block-bytes * perDesk ps m * n = omega arith in
+        let s1 = sets-append (block1 st) (kind2 ps st ++ (kind3 ps st ++ kind4 ps st)) o 0 in
+        let s2 = sets-append (kind2 ps st) (kind3 ps st ++ kind4 ps st) (sets o 0 (block1 st)) block-bytes in
+        let s3 = sets-append (kind3 ps st) (kind4 ps st) (sets (sets o 0 (block1 st)) block-bytes (kind2 ps st)) (block-bytes + block-bytes * n) in
         e4 ∙ rw (e3, e2, e1, b1, q3, q4, ec, p2, p3)
         (sym (s1 ∙ rw l1 (s2 ∙ rw l2 (s3 ∙ rw l3))))
 
     -- as the code goes
-    pub saved-all : (o o1 o2 o3 o4 b : List ℕ) (c k d : ℕ) → c ≡ perDesk m → k ≡ 1 + n + c * n → d ≡ (count + 17) / 18 → b ≡ block 1 0 (n ∷ m ∷ count ∷ [])
-        → o1 ≡ sets o 0 b → o2 ≡ sets o1 512 (cat (deskBlock ds) n) → o3 ≡ sets o2 (512 * (1 + n)) (cat (cellRow cs n c) n)
-        → o4 ≡ sets o3 (512 * k) (cat (openBlock os order count k) d) → Saved st o o4 (512 * (k + d))
+    pub saved-all : (o o1 o2 o3 o4 b : List ℕ) (c k d : ℕ) → c ≡ perDesk ps m → k ≡ 1 + n + c * n → d ≡ blocks-for (opens-in ps) count → b ≡ block 1 0 (n ∷ m ∷ count ∷ [])
+        → o1 ≡ sets o 0 b → o2 ≡ sets o1 block-bytes (cat (deskBlock ps ds) n) → o3 ≡ sets o2 (block-bytes * (1 + n)) (cat (cellRow ps cs n c) n)
+        → o4 ≡ sets o3 (block-bytes * k) (cat (openBlock ps os order count k) d) → (o4 ≡ sets o 0 (encodeAt ps st)) × (block-bytes * (k + d) ≡ length (encodeAt ps st))
     unfolding openBlocks
     saved-all o o1 o2 o3 o4 b c k d ec ek ed eb e1 e2 e3 e4 =
-        let y : d ≡ openBlocks st = ed ∙ rw count-is in
-        record {
-          stored = saved o o1 o2 o3 o4 b c d ec y eb e1 e2 e3 (rw ek at e4);
-          size = rw (ek, y, ec) (sym (length-encode st));
-        }
+        let y : d ≡ openBlocks ps st = ed ∙ rw count-is in
+        (saved o o1 o2 o3 o4 b c d ec y eb e1 e2 e3 (rw ek at e4), rw (ek, y, ec) (sym (length-encode ps wd st)))
 
     -- the room that each part has, from that of the whole
-    pub room : (l c k d : ℕ) → c ≡ perDesk m → k ≡ 1 + n + c * n → d ≡ (count + 17) / 18 → length (encode st) ≤ l → Room n m count c k d l
+    pub room : (l c k d : ℕ) → c ≡ perDesk ps m → k ≡ 1 + n + c * n → d ≡ blocks-for (opens-in ps) count → length (encodeAt ps st) ≤ l → Room ps n m count c k d l
     unfolding openBlocks
     room l c k d ec ek ed h =
-        let b = most-blocks st r in
-        let e = length-encode st in
+        let b = most-blocks ps wd st r fits in
+        let e = length-encode ps wd st in
         let z = ap (λ (x : ℕ). x * n) ec in
-        let y = count-is in
+        let y : d ≡ openBlocks ps st = ed ∙ rw count-is in
         record {
           desks = few-desks;
           cells = r .frame .ranges .cells .1;
           count-few = order-fits .few;
-          some-blocks = omega (arith, order-fits .few);
+          some-blocks = rw ed (blocks-mono (opens-in ps) count entries (some-opens ps wd) (order-fits .few));
           few = omega arith;
           fits = omega arith;
         }
@@ -223,6 +222,6 @@ module _ (n m : ℕ) (ds : List Desk) (cs os : List ℕ) (ok : Sound n m ds cs o
   -- the length --
 
   -- by the counts alone
-  pub length-is : 512 * (1 + n + perDesk m * n + (length (counted n (appliedM ds)) + 17) / 18) ≡ length (encode st)
+  pub length-is : block-bytes * (1 + n + perDesk ps m * n + blocks-for (opens-in ps) (length (counted n (appliedM ds)))) ≡ length (encodeAt ps st)
   unfolding openBlocks
-  length-is = rw counted-is (sym (length-encode st))
+  length-is = rw counted-is (sym (length-encode ps wd st))

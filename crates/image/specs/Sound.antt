@@ -16,17 +16,17 @@ use Rattle.laws.specs.Chunk.{Chunked, chunk-one, chunk-append, chunk-cat}
 use Rattle.machine.specs.Table.{State}
 use Rattle.machine.specs.Steps.{openCount}
 use Rattle.image.specs.Check.{checkOf, check-first}
-use Rattle.image.specs.Encode.{long, body, block, deskBytes, cellPart, openPart, perDesk, openBlocks, block1, block2, block3, block4, kind2, kind3, kind4, encode}
-use Rattle.image.specs.Fields.{length-desk}
-use Rattle.image.specs.Places.{length-encode, length-body, length-block, length-cells, length-opens}
+use Rattle.image.specs.Encode.{long, body, block, deskBytes, cellPart, openPart, perDesk, openBlocks, block1, block2, block3, block4, kind2, kind3, kind4, encodeAt}
+use Rattle.image.specs.Places.{length-encode, length-body, length-block, few-bytes, few-desk, length-in, length-entry}
+use Rattle.image.specs.Limits.{Wide, block-bytes, check-at, payload-bytes, cell-bytes, open-bytes, cells-in, opens-in}
 
 -- bytes 508-511 of a block
 unfoldable pub checkIn : List ℕ → ℕ
-checkIn l = getD l 508 0 + 256 * getD l 509 0 + 65536 * getD l 510 0 + 16777216 * getD l 511 0
+checkIn l = getD l check-at 0 + 256 * getD l 509 0 + 65536 * getD l 510 0 + 16777216 * getD l 511 0
 
 -- the block at place k
 abbrev pub blockIn : List ℕ → ℕ → List ℕ
-blockIn b k = part (512 * k) 512 b
+blockIn b k = part (block-bytes * k) block-bytes b
 
 -- its check is right
 abbrev pub Right : List ℕ → Type 0
@@ -34,8 +34,8 @@ Right l = checkIn l ≡ checkOf l
 
 pub record Sound (b : List ℕ) : Type 0 where
   pub nonzero : 1 ≤ length b
-  pub multiple : length b % 512 ≡ 0
-  pub checks : (k : ℕ) → k < length b / 512 → Right (blockIn b k)
+  pub multiple : length b % block-bytes ≡ 0
+  pub checks : (k : ℕ) → k < length b / block-bytes → Right (blockIn b k)
 
 abbrev pub Damaged : List ℕ → Type 0
 Damaged b = Sound b → ⊥
@@ -46,18 +46,18 @@ rightCheck l = eqb (checkIn l) (checkOf l)
 -- as a test
 unfoldable pub sound : List ℕ → Bool
 sound b =
-    leb 1 (length b) && (eqb (length b % 512) 0 && all (λ k. rightCheck (blockIn b k)) (length b / 512) 0)
+    leb 1 (length b) && (eqb (length b % block-bytes) 0 && all (λ k. rightCheck (blockIn b k)) (length b / block-bytes) 0)
 
 pub says-sound : (b : List ℕ) → Says (sound b) (Sound b)
 unfolding sound
 says-sound b =
     says-as (sound b)
-    (says-both _ _ (says-leb 1 (length b)) (says-both _ _ (says-eqb (length b % 512) 0)
-    (says-all _ (length b / 512) (λ k _. says-eqb (checkIn (blockIn b k)) (checkOf (blockIn b k))))))
+    (says-both _ _ (says-leb 1 (length b)) (says-both _ _ (says-eqb (length b % block-bytes) 0)
+    (says-all _ (length b / block-bytes) (λ k _. says-eqb (checkIn (blockIn b k)) (checkOf (blockIn b k))))))
     (λ h. record { nonzero = h .0; multiple = h .1 .0; checks = h .1 .1 })
     (λ h. (h .nonzero, (h .multiple, h .checks)))
 
-right-block : (kind place : ℕ) (l : List ℕ) → length l ≤ 504 → Right (block kind place l)
+right-block : (kind place : ℕ) (l : List ℕ) → length l ≤ payload-bytes → Right (block kind place l)
 unfolding checkIn block
 right-block kind place l h =
     let b = body kind place l in
@@ -66,28 +66,28 @@ right-block kind place l h =
     let tail = getD-append-add b (long c) in
     rw (check-first b (long c) e, rw e at (tail 0 0), rw e at (tail 1 0), rw e at (tail 2 0), rw e at (tail 3 0)) (omega arith)
 
-one-block : (kind place : ℕ) (l : List ℕ) → length l ≤ 504 → Chunked Right 512 (block kind place l)
-one-block kind place l h = chunk-one Right 512 (block kind place l) (length-block kind place l h) (right-block kind place l h)
+one-block : (kind place : ℕ) (l : List ℕ) → length l ≤ payload-bytes → Chunked Right block-bytes (block kind place l)
+one-block kind place l h = chunk-one Right block-bytes (block kind place l) (length-block kind place l h) (right-block kind place l h)
 
-module _ (s : State) where
-  chunked : Chunked Right 512 (encode s)
-  unfolding encode
+module _ (ps : ℕ) (wd : Wide ps) (s : State) where
+  chunked : Chunked Right block-bytes (encodeAt ps s)
+  unfolding encodeAt
   chunked =
-      chunk-append Right 512 (block1 s) (kind2 s ++ (kind3 s ++ kind4 s)) (one-block 1 0 (s .setup .desks ∷ s .setup .cells ∷ openCount s ∷ []) (omega arith))
-      (chunk-append Right 512 (kind2 s) (kind3 s ++ kind4 s)
-      (chunk-cat Right 512 (block2 s) (s .setup .desks)
-      (λ i _. one-block 2 (1 + i) (deskBytes (suc i) (s .applied (suc i)) (s .clock (suc i))) (omega (arith, length-desk (suc i) (s .applied (suc i)) (s .clock (suc i))))))
-      (chunk-append Right 512 (kind3 s) (kind4 s)
-      (chunk-cat Right 512 (λ i. cat (block3 s i) (perDesk (s .setup .cells))) (s .setup .desks)
-      (λ i _. chunk-cat Right 512 (block3 s i) (perDesk (s .setup .cells))
-      (λ q _. one-block 3 (1 + s .setup .desks + perDesk (s .setup .cells) * i + q) (cat (cellPart s i q) 25) (omega (arith, length-cells s i q 25)))))
-      (chunk-cat Right 512 (block4 s) (openBlocks s)
-      (λ q _. one-block 4 (1 + s .setup .desks + perDesk (s .setup .cells) * s .setup .desks + q) (cat (openPart s q) 18) (omega (arith, length-opens s q 18))))))
+      chunk-append Right block-bytes (block1 s) (kind2 ps s ++ (kind3 ps s ++ kind4 ps s)) (one-block 1 0 (s .setup .desks ∷ s .setup .cells ∷ openCount s ∷ []) (omega arith))
+      (chunk-append Right block-bytes (kind2 ps s) (kind3 ps s ++ kind4 ps s)
+      (chunk-cat Right block-bytes (block2 ps s) (s .setup .desks)
+      (λ i _. one-block 2 (1 + i) (deskBytes ps (suc i) (s .applied (suc i)) (s .clock (suc i))) (few-desk ps wd s i)))
+      (chunk-append Right block-bytes (kind3 ps s) (kind4 ps s)
+      (chunk-cat Right block-bytes (λ i. cat (block3 ps s i) (perDesk ps (s .setup .cells))) (s .setup .desks)
+      (λ i _. chunk-cat Right block-bytes (block3 ps s i) (perDesk ps (s .setup .cells))
+      (λ q _. one-block 3 (1 + s .setup .desks + perDesk ps (s .setup .cells) * i + q) (cat (cellPart ps s i q) (cells-in ps)) (few-bytes (cell-bytes ps) (cellPart ps s i q) (length-in ps wd s i q)))))
+      (chunk-cat Right block-bytes (block4 ps s) (openBlocks ps s)
+      (λ q _. one-block 4 (1 + s .setup .desks + perDesk ps (s .setup .cells) * s .setup .desks + q) (cat (openPart ps s q) (opens-in ps)) (few-bytes (open-bytes ps) (openPart ps s q) (length-entry ps wd s q))))))
 
   -- a saved image has a length that is a nonzero multiple of 512, and every block's check is right
-  pub sound-encode : Sound (encode s)
+  pub sound-encode : Sound (encodeAt ps s)
   sound-encode =
-      let e = length-encode s in
+      let e = length-encode ps wd s in
       record {
         nonzero = omega arith;
         multiple = rw e (omega arith);
@@ -99,10 +99,10 @@ pub sound-none : (b : List ℕ) → length b ≡ 0 → sound b ≡ false
 unfolding sound
 sound-none b e = rw (lt-leb 1 (length b) (omega arith))
 
-pub sound-odd : (b : List ℕ) → (length b % 512 ≡ 0 → ⊥) → sound b ≡ false
+pub sound-odd : (b : List ℕ) → (length b % block-bytes ≡ 0 → ⊥) → sound b ≡ false
 unfolding sound
-sound-odd b e = rw (ne-eqb (length b % 512) 0 e) (cases (leb 1 (length b)) (λ t. rw t) (λ t. rw t))
+sound-odd b e = rw (ne-eqb (length b % block-bytes) 0 e) (cases (leb 1 (length b)) (λ t. rw t) (λ t. rw t))
 
-pub sound-start : (b : List ℕ) → (length b ≡ 0 → ⊥) → length b % 512 ≡ 0 → all (λ k. rightCheck (blockIn b k)) (length b / 512) 0 ≡ sound b
+pub sound-start : (b : List ℕ) → (length b ≡ 0 → ⊥) → length b % block-bytes ≡ 0 → all (λ k. rightCheck (blockIn b k)) (length b / block-bytes) 0 ≡ sound b
 unfolding sound
-sound-start b z e = rw (le-leb 1 (length b) (omega arith), eq-eqb (length b % 512) 0 e)
+sound-start b z e = rw (le-leb 1 (length b) (omega arith), eq-eqb (length b % block-bytes) 0 e)

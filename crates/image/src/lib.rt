@@ -7,6 +7,7 @@ ghost use lib.ListN.{getD, set, length};
 ghost use lib.Seq.{sets};
 ghost use Rattle.laws.specs.Cat.{cat};
 ghost use Rattle.clock.specs.Vectors.{places, place};
+ghost use Rattle.image.specs.Limits.{block-bytes, check-at, vector-bytes, cell-bytes, open-bytes, cells-in, opens-in, blocks-for, row-most, rows-most, opens-most, blocks-most};
 ghost use Rattle.image.specs.Check.{checkOf};
 ghost use Rattle.image.specs.Encode.{word, long, words, markBytes, deskBytes, block, perDesk, encode};
 ghost use Rattle.image.specs.Sound.{rightCheck, sound};
@@ -34,8 +35,31 @@ use table::Table;
 
 // Bytes to a block.
 pub const BLOCK: usize = 512;
-// Where its check stands.
-const CHECK: usize = 508;
+// Where its payload and its check stand.
+pub const PAYLOAD_AT: usize = 4;
+
+pub const CHECK: usize = 508;
+// A desk, a cell and an open write begin with 4 bytes and a vector; behind it stand a desk's clock and an open write's marks.
+pub const VECTOR_AT: usize = 4;
+
+pub const VECTOR_BYTES: usize = 2 * PLACES;
+
+pub const AFTER_VECTOR: usize = VECTOR_AT + VECTOR_BYTES;
+
+pub const APPLIED_AT: usize = PAYLOAD_AT + VECTOR_AT;
+
+const CLOCK_AT: usize = PAYLOAD_AT + AFTER_VECTOR;
+// Bytes to a cell and to an open write, and how many of them to a block.
+pub const CELL_BYTES: usize = AFTER_VECTOR;
+
+pub const OPEN_BYTES: usize = AFTER_VECTOR + PLACES;
+
+pub const CELLS_IN: usize = (CHECK - PAYLOAD_AT) / CELL_BYTES;
+
+pub const OPENS_IN: usize = (CHECK - PAYLOAD_AT) / OPEN_BYTES;
+// Bytes to the largest image: the sizes, the desks, their cells, the open writes.
+pub const IMAGE: usize = BLOCK
+    * (1 + PLACES + (CELLS + CELLS_IN - 1) / CELLS_IN * PLACES + (OPENS + OPENS_IN - 1) / OPENS_IN);
 
 // The check of a block --
 
@@ -46,15 +70,15 @@ fn wide(x: u8) -> u32
 }
 
 fn term(j: usize, x: u8) -> u32
-    requires { ⌜ j < 508 ⌝ }
+    requires { ⌜ j < check-at ⌝ }
     ensures { λ r. ⌜ r ≡ (j + 1) * x ⌝ }
-    ensures { λ r. ⌜ r ≤ 129540 ⌝ }
+    ensures { λ r. ⌜ r ≤ check-at * 255 ⌝ }
 {
     (j as u32 + 1) * wide(x)
 }
 
 fn check(b: &[u8]) -> u32
-    requires { ⌜ 508 ≤ length (now b) ⌝ }
+    requires { ⌜ check-at ≤ length (now b) ⌝ }
     ensures { λ r. ⌜ r ≡ checkOf (now (b .entry)) ⌝ }
 {
     let mut c: u32 = 1;
@@ -68,7 +92,7 @@ fn check(b: &[u8]) -> u32
 
 // The check stored, which ends a block.
 fn seal(b: &mut [u8; BLOCK])
-    ensures { λ _. ⌜ now (b .exit) ≡ sets (now (b .entry)) 508 (long (checkOf (now (b .entry)))) ⌝ }
+    ensures { λ _. ⌜ now (b .exit) ≡ sets (now (b .entry)) check-at (long (checkOf (now (b .entry)))) ⌝ }
 {
     let c = check(b);
     b[CHECK] = (c % 256) as u8;
@@ -79,7 +103,7 @@ fn seal(b: &mut [u8; BLOCK])
 
 // Is the check that stands in a block its own?
 fn right(b: &[u8]) -> bool
-    requires { ⌜ length (now b) ≡ 512 ⌝ }
+    requires { ⌜ length (now b) ≡ block-bytes ⌝ }
     ensures { λ r. ⌜ r ≡ rightCheck (now (b .entry)) ⌝ }
 {
     let c0 = wide(b[CHECK]);
@@ -124,7 +148,7 @@ fn byte(x: u16) -> u8
 
 // A number of 16 bits, low byte first.
 fn put_word(b: &mut [u8; BLOCK], at: usize, x: u16)
-    requires { ⌜ at < 511 ⌝ }
+    requires { ⌜ at + 2 ≤ block-bytes ⌝ }
     ensures { λ _. ⌜ now (b .exit) ≡ sets (now (b .entry)) at (word x) ⌝ }
 {
     b[at] = (x % 256) as u8;
@@ -132,8 +156,8 @@ fn put_word(b: &mut [u8; BLOCK], at: usize, x: u16)
 }
 
 fn put_words(b: &mut [u8; BLOCK], at: usize, v: [u16; PLACES])
-    requires { ⌜ at ≤ 496 ⌝ }
-    ensures { λ _. ⌜ now (b .exit) ≡ sets (now (b .entry)) at (words (place v)) ⌝ }
+    requires { ⌜ at + vector-bytes places ≤ block-bytes ⌝ }
+    ensures { λ _. ⌜ now (b .exit) ≡ sets (now (b .entry)) at (words places (place v)) ⌝ }
 {
     let mut t = 0;
     while t < PLACES {
@@ -143,9 +167,9 @@ fn put_words(b: &mut [u8; BLOCK], at: usize, v: [u16; PLACES])
 }
 
 fn put_marks(b: &mut [u8; BLOCK], at: usize, v: [u16; PLACES])
-    requires { ⌜ at ≤ 504 ⌝ }
+    requires { ⌜ at + places ≤ block-bytes ⌝ }
     requires { ⌜ ((t : ℕ) → getD v t 0 < 256) ⌝ }
-    ensures { λ _. ⌜ now (b .exit) ≡ sets (now (b .entry)) at (markBytes (place v)) ⌝ }
+    ensures { λ _. ⌜ now (b .exit) ≡ sets (now (b .entry)) at (markBytes places (place v)) ⌝ }
 {
     let mut t = 0;
     while t < PLACES {
@@ -155,29 +179,29 @@ fn put_marks(b: &mut [u8; BLOCK], at: usize, v: [u16; PLACES])
 }
 
 fn put_cell(b: &mut [u8; BLOCK], at: usize, c: Cell)
-    requires { ⌜ (at ≤ 492) × SmallCell c ⌝ }
-    ensures { λ _. ⌜ now (b .exit) ≡ sets (now (b .entry)) at (cellRaw c) ⌝ }
+    requires { ⌜ (at + cell-bytes places ≤ block-bytes) × SmallCell c ⌝ }
+    ensures { λ _. ⌜ now (b .exit) ≡ sets (now (b .entry)) at (cellRaw places c) ⌝ }
 {
     b[at] = byte(c.writer);
     b[at + 1] = byte(c.status);
     b[at + 2] = 0;
     b[at + 3] = 0;
     let v = c.vector;
-    put_words(b, at + 4, v);
+    put_words(b, at + VECTOR_AT, v);
 }
 
 fn put_open(b: &mut [u8; BLOCK], at: usize, o: Open)
-    requires { ⌜ (at ≤ 484) × SmallOpen o ⌝ }
-    ensures { λ _. ⌜ now (b .exit) ≡ sets (now (b .entry)) at (openRaw o) ⌝ }
+    requires { ⌜ (at + open-bytes places ≤ block-bytes) × SmallOpen o ⌝ }
+    ensures { λ _. ⌜ now (b .exit) ≡ sets (now (b .entry)) at (openRaw places o) ⌝ }
 {
     b[at] = byte(o.writer);
     b[at + 1] = byte(o.status);
     b[at + 2] = byte(o.cell);
     b[at + 3] = 0;
     let v = o.vector;
-    put_words(b, at + 4, v);
+    put_words(b, at + VECTOR_AT, v);
     let k = o.marks;
-    put_marks(b, at + 20, k);
+    put_marks(b, at + AFTER_VECTOR, k);
 }
 
 // Kind, edition and place.
@@ -192,16 +216,16 @@ fn put_head(b: &mut [u8; BLOCK], kind: u8, at: u16)
 // The block of desk i, from 1.
 fn desk_block(at: u16, i: u16, d: Desk) -> [u8; BLOCK]
     requires { ⌜ i < 256 ⌝ }
-    ensures { λ r. ⌜ r ≡ block 2 at (deskBytes i (place (d .applied)) (place (d .clock .at))) ⌝ }
+    ensures { λ r. ⌜ r ≡ block 2 at (deskBytes places i (place (d .applied)) (place (d .clock .at))) ⌝ }
 {
     let mut b = [0u8; BLOCK];
     put_head(&mut b, 2, at);
-    b[4] = byte(i);
+    b[PAYLOAD_AT] = byte(i);
     let applied = d.applied;
-    put_words(&mut b, 8, applied);
+    put_words(&mut b, APPLIED_AT, applied);
     let clock = d.clock;
     let v = clock.at;
-    put_words(&mut b, 24, v);
+    put_words(&mut b, CLOCK_AT, v);
     seal(&mut b);
     b
 }
@@ -222,8 +246,8 @@ fn size_block(n: u16, m: u16, count: u16) -> [u8; BLOCK]
 
 // Cell x of desk i, both from 0: an unset one past the last.
 fn cell_or(cells: &[u16; PLACES * CELLS * CELL], i: usize, x: usize) -> Cell
-    requires { ⌜ (i < places) × CellsFit (now cells) ⌝ }
-    ensures { λ r. ⌜ CellFor (now (cells .entry)) i x r ⌝ }
+    requires { ⌜ (i < places) × CellsFit places (now cells) ⌝ }
+    ensures { λ r. ⌜ CellFor places (now (cells .entry)) i x r ⌝ }
 {
     if x < CELLS {
         return table::cell_at(cells, i * CELLS + x);
@@ -238,15 +262,15 @@ fn cell_or(cells: &[u16; PLACES * CELLS * CELL], i: usize, x: usize) -> Cell
 
 // Block q of the cells of desk i, from 0.
 fn cell_block(at: u16, cells: &[u16; PLACES * CELLS * CELL], i: usize, q: usize) -> [u8; BLOCK]
-    requires { ⌜ (i < places) × ((q < 3) × CellsFit (now cells)) ⌝ }
-    ensures { λ r. ⌜ r ≡ block 3 at (cat (cellPiece (now (cells .entry)) i q) 25) ⌝ }
+    requires { ⌜ (i < places) × ((q < row-most places) × CellsFit places (now cells)) ⌝ }
+    ensures { λ r. ⌜ r ≡ block 3 at (cat (cellPiece places (now (cells .entry)) i q) (cells-in places)) ⌝ }
 {
     let mut b = [0u8; BLOCK];
     put_head(&mut b, 3, at);
     let mut j = 0;
-    while j < 25 {
-        let c = cell_or(cells, i, 25 * q + j);
-        put_cell(&mut b, 4 + 20 * j, c);
+    while j < CELLS_IN {
+        let c = cell_or(cells, i, CELLS_IN * q + j);
+        put_cell(&mut b, PAYLOAD_AT + CELL_BYTES * j, c);
         j += 1;
     }
     seal(&mut b);
@@ -280,15 +304,15 @@ fn open_block(
     count: usize,
     q: usize,
 ) -> [u8; BLOCK]
-    requires { ⌜ (q < 4) × OrderFits (now opens) (now order) count ⌝ }
-    ensures { λ r. ⌜ r ≡ block 4 at (cat (openPiece (now (opens .entry)) (now (order .entry)) count q) 18) ⌝ }
+    requires { ⌜ (q < opens-most places) × OrderFits (now opens) (now order) count ⌝ }
+    ensures { λ r. ⌜ r ≡ block 4 at (cat (openPiece places (now (opens .entry)) (now (order .entry)) count q) (opens-in places)) ⌝ }
 {
     let mut b = [0u8; BLOCK];
     put_head(&mut b, 4, at);
     let mut j = 0;
-    while j < 18 {
-        let o = open_or(opens, order, count, 18 * q + j);
-        put_open(&mut b, 4 + 28 * j, o);
+    while j < OPENS_IN {
+        let o = open_or(opens, order, count, OPENS_IN * q + j);
+        put_open(&mut b, PAYLOAD_AT + OPEN_BYTES * j, o);
         j += 1;
     }
     seal(&mut b);
@@ -299,8 +323,8 @@ fn open_block(
 
 // The block as block k of the image.
 fn store(out: &mut [u8], k: usize, b: [u8; BLOCK])
-    requires { ⌜ (k < 64) × (512 * k + 512 ≤ length (now out)) ⌝ }
-    ensures { λ _. ⌜ now (out .exit) ≡ sets (now (out .entry)) (512 * k) b ⌝ }
+    requires { ⌜ (k < blocks-most places) × (block-bytes * k + block-bytes ≤ length (now out)) ⌝ }
+    ensures { λ _. ⌜ now (out .exit) ≡ sets (now (out .entry)) (block-bytes * k) b ⌝ }
 {
     let at = BLOCK * k;
     let mut j = 0;
@@ -312,8 +336,8 @@ fn store(out: &mut [u8], k: usize, b: [u8; BLOCK])
 
 // Kind 2.
 fn save_desks(out: &mut [u8], desks: [Desk; PLACES], n: usize)
-    requires { ⌜ (n ≤ places) × (512 + 512 * n ≤ length (now out)) ⌝ }
-    ensures { λ _. ⌜ now (out .exit) ≡ sets (now (out .entry)) 512 (cat (deskBlock desks) n) ⌝ }
+    requires { ⌜ (n ≤ places) × (block-bytes + block-bytes * n ≤ length (now out)) ⌝ }
+    ensures { λ _. ⌜ now (out .exit) ≡ sets (now (out .entry)) block-bytes (cat (deskBlock places desks) n) ⌝ }
 {
     let mut i = 0;
     while i < n {
@@ -327,8 +351,8 @@ fn save_desks(out: &mut [u8], desks: [Desk; PLACES], n: usize)
 
 // Kind 3, of desk i: the c blocks from block k on.
 fn save_row(out: &mut [u8], k: usize, cells: &[u16; PLACES * CELLS * CELL], i: usize, c: usize)
-    requires { ⌜ ((i < places) × CellsFit (now cells)) × ((c ≤ 3) × ((k + c ≤ 64) × (512 * k + 512 * c ≤ length (now out)))) ⌝ }
-    ensures { λ _. ⌜ now (out .exit) ≡ sets (now (out .entry)) (512 * k) (cat (cellBlock (now (cells .entry)) k i) c) ⌝ }
+    requires { ⌜ ((i < places) × CellsFit places (now cells)) × ((c ≤ row-most places) × ((k + c ≤ blocks-most places) × (block-bytes * k + block-bytes * c ≤ length (now out)))) ⌝ }
+    ensures { λ _. ⌜ now (out .exit) ≡ sets (now (out .entry)) (block-bytes * k) (cat (cellBlock places (now (cells .entry)) k i) c) ⌝ }
 {
     let mut q = 0;
     while q < c {
@@ -340,8 +364,8 @@ fn save_row(out: &mut [u8], k: usize, cells: &[u16; PLACES * CELLS * CELL], i: u
 
 // Kind 3.
 fn save_cells(out: &mut [u8], cells: &[u16; PLACES * CELLS * CELL], n: usize, c: usize)
-    requires { ⌜ CellsFit (now cells) × ((n ≤ places) × ((c ≤ 3) × (512 * (1 + n) + 512 * c * n ≤ length (now out)))) ⌝ }
-    ensures { λ _. ⌜ now (out .exit) ≡ sets (now (out .entry)) (512 * (1 + n)) (cat (cellRow (now (cells .entry)) n c) n) ⌝ }
+    requires { ⌜ CellsFit places (now cells) × ((n ≤ places) × ((c ≤ row-most places) × (block-bytes * (1 + n) + block-bytes * c * n ≤ length (now out)))) ⌝ }
+    ensures { λ _. ⌜ now (out .exit) ≡ sets (now (out .entry)) (block-bytes * (1 + n)) (cat (cellRow places (now (cells .entry)) n c) n) ⌝ }
 {
     let mut i = 0;
     while i < n {
@@ -359,8 +383,8 @@ fn save_opens(
     count: usize,
     c: usize,
 )
-    requires { ⌜ OrderFits (now opens) (now order) count × ((c ≤ 4) × ((k + c ≤ 64) × (512 * k + 512 * c ≤ length (now out)))) ⌝ }
-    ensures { λ _. ⌜ now (out .exit) ≡ sets (now (out .entry)) (512 * k) (cat (openBlock (now (opens .entry)) (now (order .entry)) count k) c) ⌝ }
+    requires { ⌜ OrderFits (now opens) (now order) count × ((c ≤ opens-most places) × ((k + c ≤ blocks-most places) × (block-bytes * k + block-bytes * c ≤ length (now out)))) ⌝ }
+    ensures { λ _. ⌜ now (out .exit) ≡ sets (now (out .entry)) (block-bytes * k) (cat (openBlock places (now (opens .entry)) (now (order .entry)) count k) c) ⌝ }
 {
     let mut q = 0;
     while q < c {
@@ -479,30 +503,30 @@ fn order_all(
 // Blocks to a desk's cells.
 pub fn per_desk(m: usize) -> usize
     requires { ⌜ m ≤ desk-cells ⌝ }
-    ensures { λ r. ⌜ (r ≡ perDesk m) × (r ≤ 3) ⌝ }
+    ensures { λ r. ⌜ (r ≡ perDesk places m) × (r ≤ row-most places) ⌝ }
 {
-    (m + 24) / 25
+    (m + (CELLS_IN - 1)) / CELLS_IN
 }
 
 // Blocks to the open writes.
 fn open_blocks(count: usize) -> usize
     requires { ⌜ count ≤ 524288 ⌝ }
-    ensures { λ r. ⌜ r ≡ (count + 17) / 18 ⌝ }
+    ensures { λ r. ⌜ r ≡ blocks-for (opens-in places) count ⌝ }
 {
-    (count + 17) / 18
+    (count + (OPENS_IN - 1)) / OPENS_IN
 }
 
 // Blocks before the open writes, where a desk's cells take c.
 fn cells_end(n: usize, c: usize) -> usize
-    requires { ⌜ (n ≤ places) × (c ≤ 3) ⌝ }
-    ensures { λ r. ⌜ (r ≡ 1 + n + c * n) × (r ≤ 33) ⌝ }
+    requires { ⌜ (n ≤ places) × (c ≤ row-most places) ⌝ }
+    ensures { λ r. ⌜ (r ≡ 1 + n + c * n) × (r ≤ 1 + places + rows-most places) ⌝ }
 {
     1 + n + c * n
 }
 
 pub fn length_of(n: usize, m: usize, count: usize) -> usize
     requires { ⌜ (n ≤ places) × ((m ≤ desk-cells) × (count ≤ 524288)) ⌝ }
-    ensures { λ r. ⌜ r ≡ 512 * (1 + n + perDesk m * n + (count + 17) / 18) ⌝ }
+    ensures { λ r. ⌜ r ≡ block-bytes * (1 + n + perDesk places m * n + blocks-for (opens-in places) count) ⌝ }
 {
     let c = per_desk(m);
     let k = cells_end(n, c);
@@ -512,7 +536,7 @@ pub fn length_of(n: usize, m: usize, count: usize) -> usize
 // How long the image of a table is that keeps the rules: the counts tell.
 pub fn image_length(core: Core) -> usize
     requires { ⌜ (core .n ≤ places) × (core .m ≤ desk-cells) ⌝ }
-    ensures { λ r. ⌜ r ≡ 512 * (1 + core .n + perDesk (core .m) * core .n + (length (counted (core .n) (appliedM (core .desks))) + 17) / 18) ⌝ }
+    ensures { λ r. ⌜ r ≡ block-bytes * (1 + core .n + perDesk places (core .m) * core .n + blocks-for (opens-in places) (length (counted (core .n) (appliedM (core .desks))))) ⌝ }
 {
     let n = core.n;
     let m = core.m;

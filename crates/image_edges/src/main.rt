@@ -1,6 +1,9 @@
 // The edges of the saved image, run.
 use clock::Clock;
 use clock::PLACES;
+use image::BLOCK;
+use image::CHECK;
+use image::PAYLOAD_AT;
 use image::Saving;
 use libc::STDOUT_FILENO;
 use load::Outcome;
@@ -140,11 +143,11 @@ fn put(b: &mut [u8], at: usize, x: u8) {
 
 // A desk more in the first block, and its check made right.
 fn bend(b: &mut [u8]) {
-    if 512 <= b.len() {
-        let c = b[508];
+    if BLOCK <= b.len() {
+        let c = b[CHECK];
         if c < 250 {
-            put(b, 4, 3);
-            put(b, 508, c + 5);
+            put(b, PAYLOAD_AT, 3);
+            put(b, CHECK, c + 5);
         }
     }
 }
@@ -177,9 +180,9 @@ fn edges(out: &mut [u8], found: &[u8], again: &mut [u8], other: &mut [u8]) {
 }
 
 fn main() {
-    let zeros = [0u8; 512];
+    let zeros = [0u8; BLOCK];
     say(b"an all-zero block: ");
-    load_from(&zeros, 512);
+    load_from(&zeros, BLOCK);
     say(b"nothing: ");
     load_from(&zeros, 0);
     let found = [7u8; 4000];

@@ -4,6 +4,7 @@
 // stands, in a second run after every step. For each step: the answers of both, whether these are the same, and whether the saved images are.
 ghost use Rattle.image_reload.specs.Live.{Live};
 use clock::PLACES;
+use image::IMAGE;
 use image::Saving;
 use libc::STDIN_FILENO;
 use libc::STDOUT_FILENO;
@@ -18,8 +19,6 @@ use table::Table;
 const TEXT: usize = 4096;
 // Bytes of answers: one of any length has room.
 const ANSWER: usize = 800;
-// The largest image: 37 blocks.
-const IMAGE: usize = 18944;
 
 // What a step leaves: the table, and the answer's line.
 struct Said {

@@ -8,8 +8,12 @@
 // Every other line is a comment.
 ghost use Prim.Native.Nat.{_+_, _<_, _≤_};
 ghost use lib.ListN.{length};
+ghost use Rattle.clock.specs.Vectors.{places};
+ghost use Rattle.image.specs.Limits.{block-bytes, image-bytes};
 use clock::PLACES;
 use image::BLOCK;
+use image::CHECK;
+use image::IMAGE;
 use image::Saving;
 use libc::STDIN_FILENO;
 use libc::STDOUT_FILENO;
@@ -22,10 +26,6 @@ use table::Table;
 
 // The most bytes of the input.
 const TEXT: usize = 65536;
-// The largest image: 37 blocks.
-const IMAGE: usize = 18944;
-// Where a block's check stands.
-const CHECK: usize = 508;
 // The most numbers of a line.
 const LIST: usize = 128;
 
@@ -47,7 +47,7 @@ fn wide(x: u8) -> u32
 
 // The check of the block from a place on: 1 plus the sum, over j from 0 to 507, of (j + 1) times byte j.
 fn check(b: &[u8; IMAGE], at: usize) -> u32
-    requires { ⌜ at + 512 ≤ 18944 ⌝ }
+    requires { ⌜ at + block-bytes ≤ image-bytes places ⌝ }
 {
     let mut c: u32 = 1;
     let mut j = 0;

@@ -8,7 +8,8 @@ use native.Mathlib.Omega.{arith}
 use native.Mathlib.Decide.{decLt}
 use borrow.Author.Tests.{lt-ltb, le-ltb, eq-eqb, ne-eqb}
 use lib.Dec.{ltb, eqb}
-use lib.ListN.{length, getD, replicate}
+use lib.ListN.{length, getD, replicate, length-replicate}
+use lib.Seq.{take-all}
 use Rattle.laws.specs.Loop.{pick, cases}
 use Rattle.laws.specs.Says.{apart, clash}
 use Rattle.laws.specs.Update.{same-or}
@@ -33,299 +34,300 @@ use Rattle.table.specs.Sound.{Sound, SoundTable, AllZero}
 use Rattle.table.specs.Begin.{zeros-at, place-zeros}
 use Rattle.image.specs.Names.{names, no-name, length-names, OpenName, names-open, open-named}
 use Rattle.image.specs.Distinct.{names-distinct}
-use native.Mathlib.Nat.{div-add-mod}
-use Rattle.image.specs.Encode.{words, cellPart, cellBytes, perDesk, openBlocks, encode}
+use native.Mathlib.Nat.{div-add-mod, mod-lt, le-refl}
+use Rattle.image.specs.Encode.{words, cellPart, cellBytes, perDesk, openBlocks, encodeAt, encode}
 use Rattle.image.specs.Places.{length-encode, part-3}
-use Rattle.image.specs.Fields.{vec-words, vecOf, cellOf, openOf, writerIn, numberIn}
+use Rattle.image.specs.Fields.{zero-words, vec-words, vecOf, cellOf, openOf, writerIn, numberIn}
 use Rattle.image.specs.Decode.{nIn, mIn, countIn, deskPlace, cellPlace, openPlace, deskIn, cellIn, entryIn, decode, Shows, n-back, m-back, count-back, applied-back, clock-back, cell-back, shows-at, open-name}
 use Rattle.load.specs.Spread.{Among, Spread, OpensRead}
 use Rattle.load.specs.Read.{wordsFrom, cellFrom, openFrom, deskFrom, noDesk, noCell, deskFor, cellFor, Fits, CellsRead, getD-part, part-part, place-words, cell-read, open-read}
+use Rattle.image.specs.Limits.{Wide, some-cells, block-of, wide, vector-at, vector-bytes, after-vector, cell-bytes, open-bytes, cells-in}
+use Rattle.image.specs.Fill.{drop-replicate}
 
--- desks: one part of them, read at p of the payload
-module _ (b : List ℕ) (n : ℕ) (h : n ≤ places) (g : Desk → Vec) (p : ℕ) (reads : (i : ℕ) → g (deskFrom b i) ≡ vecOf (part (deskPlace p i) 16 b)) (past : g noDesk ≡ zeros) (none-there : g desk0 ≡ zeros) where
-  desk-at : (i : ℕ) → i < n → g (getD (tab places (deskFor b n)) i desk0) ≡ vecOf (part (deskPlace p i) 16 b)
-  unfolding deskFor
-  desk-at i l = rw (getD-tab (deskFor b n) places i desk0 (omega arith), lt-ltb i n l) (reads i)
+-- where a vector takes ps places in the image
+module _ (ps : ℕ) where
+  -- desks: one part of them, read at p of the payload
+  module _ (b : List ℕ) (n : ℕ) (h : n ≤ places) (g : Desk → Vec) (p : ℕ) (reads : (i : ℕ) → g (deskFrom ps b i) ≡ vecOf ps (part (deskPlace p i) (vector-bytes ps) b)) (past : g noDesk ≡ zeros) (none-there : g desk0 ≡ zeros) where
+    desk-at : (i : ℕ) → i < n → g (getD (tab places (deskFor ps b n)) i desk0) ≡ vecOf ps (part (deskPlace p i) (vector-bytes ps) b)
+    unfolding deskFor
+    desk-at i l = rw (getD-tab (deskFor ps b n) places i desk0 (omega arith), lt-ltb i n l) (reads i)
 
-  desk-off : (i : ℕ) → n ≤ i → g (getD (tab places (deskFor b n)) i desk0) ≡ zeros
-  unfolding deskFor
-  desk-off i l = go (decLt i places)
-    where
-      go : Dec (i < places) → g (getD (tab places (deskFor b n)) i desk0) ≡ zeros
-      go (yes q) = rw (getD-tab (deskFor b n) places i desk0 q, le-ltb i n l) past
-      go (no q) = let o : places ≤ i = omega arith in rw (getD-tab-out (deskFor b n) places i desk0 o) none-there
+    desk-off : (i : ℕ) → n ≤ i → g (getD (tab places (deskFor ps b n)) i desk0) ≡ zeros
+    unfolding deskFor
+    desk-off i l = go (decLt i places)
+      where
+        go : Dec (i < places) → g (getD (tab places (deskFor ps b n)) i desk0) ≡ zeros
+        go (yes q) = rw (getD-tab (deskFor ps b n) places i desk0 q, le-ltb i n l) past
+        go (no q) = let o : places ≤ i = omega arith in rw (getD-tab-out (deskFor ps b n) places i desk0 o) none-there
 
--- the desks that were read are those of the definition
-module _ (b : List ℕ) (n : ℕ) (h : n ≤ places) where
-  pub applied-read : appliedM (tab places (deskFor b n)) ≡ deskIn n b 4
-  unfolding appliedM
-  applied-read =
-      sym (from1-is zeros n (λ i. vecOf (part (deskPlace 4 i) 16 b)) (appliedM (tab places (deskFor b n)))
-      (λ i l. sym (desk-at b n h appliedVec 4 (λ i. place-words b (deskPlace 4 i)) (place-zeros places) (place-zeros 0) i l))
-      off)
-    where
-      off : (i : ℕ) → (1 ≤ i → i ≤ n → ⊥) → appliedM (tab places (deskFor b n)) i ≡ zeros
-      off zero o = place-zeros 0
-      off (suc i) o = desk-off b n h appliedVec 4 (λ i. place-words b (deskPlace 4 i)) (place-zeros places) (place-zeros 0) i (past (decLt i n))
-        where
-          past : Dec (i < n) → n ≤ i
-          past (yes l) = absurd (o (omega arith) l)
-          past (no l) = omega arith
+    -- all of them
+    desks-read : (f : ℕ → Vec) → f 0 ≡ zeros → ((i : ℕ) → f (suc i) ≡ g (getD (tab places (deskFor ps b n)) i desk0)) → f ≡ deskIn ps n b p
+    desks-read f z e = sym (from1-is zeros n (λ i. vecOf ps (part (deskPlace p i) (vector-bytes ps) b)) f (λ i l. sym (e i ∙ desk-at i l)) off)
+      where
+        off : (i : ℕ) → (1 ≤ i → i ≤ n → ⊥) → f i ≡ zeros
+        off zero o = z
+        off (suc i) o = e i ∙ desk-off i (beyond (decLt i n))
+          where
+            beyond : Dec (i < n) → n ≤ i
+            beyond (yes l) = absurd (o (omega arith) l)
+            beyond (no l) = omega arith
 
-  pub clock-read : clockM (tab places (deskFor b n)) ≡ deskIn n b 20
-  unfolding clockM
-  clock-read =
-      sym (from1-is zeros n (λ i. vecOf (part (deskPlace 20 i) 16 b)) (clockM (tab places (deskFor b n)))
-      (λ i l. sym (desk-at b n h clockVec 20 (λ i. place-words b (deskPlace 20 i)) (place-zeros places) (place-zeros 0) i l))
-      off)
-    where
-      off : (i : ℕ) → (1 ≤ i → i ≤ n → ⊥) → clockM (tab places (deskFor b n)) i ≡ zeros
-      off zero o = place-zeros 0
-      off (suc i) o = desk-off b n h clockVec 20 (λ i. place-words b (deskPlace 20 i)) (place-zeros places) (place-zeros 0) i (past (decLt i n))
-        where
-          past : Dec (i < n) → n ≤ i
-          past (yes l) = absurd (o (omega arith) l)
-          past (no l) = omega arith
+  -- the desks that were read are those of the definition
+  module _ (b : List ℕ) (n : ℕ) (h : n ≤ places) where
+    pub applied-read : appliedM (tab places (deskFor ps b n)) ≡ deskIn ps n b vector-at
+    unfolding appliedM
+    applied-read =
+        desks-read b n h appliedVec vector-at (λ i. place-words ps b (deskPlace vector-at i)) (place-zeros places) (place-zeros 0)
+        (appliedM (tab places (deskFor ps b n))) (place-zeros 0) (λ i. refl)
 
--- cells
-module _ (b : List ℕ) (n m : ℕ) (hn : n ≤ places) (hm : m ≤ desk-cells) (cs : List ℕ) (read : CellsRead b n m cs) where
-  row-of : (i x : ℕ) → x < desk-cells → ((i * desk-cells + x) / desk-cells ≡ i) × ((i * desk-cells + x) % desk-cells ≡ x)
-  row-of i x h = (omega arith, omega arith)
+    pub clock-read : clockM (tab places (deskFor ps b n)) ≡ deskIn ps n b (after-vector ps)
+    unfolding clockM
+    clock-read =
+        desks-read b n h clockVec (after-vector ps) (λ i. place-words ps b (deskPlace (after-vector ps) i)) (place-zeros places) (place-zeros 0)
+        (clockM (tab places (deskFor ps b n))) (place-zeros 0) (λ i. refl)
 
-  at-row : (i x : ℕ) → i < places → x < desk-cells → cellsM cs (suc i) (suc x) ≡ cellM (cellFor b n m (i * desk-cells + x))
-  at-row i x hi hx =
-      let a : suc i - 1 ≡ i = omega arith in
-      let c : suc x - 1 ≡ x = omega arith in
-      rw (a, c) at (cell-in cs (suc i) (suc x) (omega arith, omega arith) (omega arith, omega arith)) ∙ ap cellM (read (i * desk-cells + x) (omega arith))
+  -- cells
+  module _ (b : List ℕ) (n m : ℕ) (hn : n ≤ places) (hm : m ≤ desk-cells) (cs : List ℕ) (read : CellsRead ps b n m cs) where
+    row-of : (i x : ℕ) → x < desk-cells → ((i * desk-cells + x) / desk-cells ≡ i) × ((i * desk-cells + x) % desk-cells ≡ x)
+    row-of i x h = (omega arith, omega arith)
 
-  cell-on : (i x : ℕ) → i < n → x < m → cellOf (part (cellPlace n m i x) 20 b) ≡ cellsM cs (suc i) (suc x)
-  unfolding cellFor
-  cell-on i x hi hx =
-      let r = row-of i x (omega arith) in
-      sym (at-row i x (omega arith) (omega arith) ∙ rw (r .0, r .1, lt-ltb i n hi, lt-ltb x m hx) (cell-read b (cellPlace n m i x)))
+    at-row : (i x : ℕ) → i < places → x < desk-cells → cellsM cs (suc i) (suc x) ≡ cellM (cellFor ps b n m (i * desk-cells + x))
+    at-row i x hi hx =
+        let a : suc i - 1 ≡ i = omega arith in
+        let c : suc x - 1 ≡ x = omega arith in
+        rw (a, c) at (cell-in cs (suc i) (suc x) (omega arith, omega arith) (omega arith, omega arith)) ∙ ap cellM (read (i * desk-cells + x) (omega arith))
 
-  cell-off : (i x : ℕ) → ((i < n) × (x < m) → ⊥) → cellsM cs (suc i) (suc x) ≡ machine.blank
-  unfolding cellFor
-  cell-off i x o = go (decLt i places) (decLt x desk-cells)
-    where
-      off : (s : ℕ) → ((s / desk-cells < n) × (s % desk-cells < m) → ⊥) → cellM (cellFor b n m s) ≡ machine.blank
-      off s q = go2 (decLt (s / desk-cells) n) (decLt (s % desk-cells) m)
-        where
-          go2 : Dec (s / desk-cells < n) → Dec (s % desk-cells < m) → cellM (cellFor b n m s) ≡ machine.blank
-          go2 (yes a) (yes c) = absurd (q (a, c))
-          go2 (yes a) (no c) = let l : m ≤ s % desk-cells = omega arith in rw (lt-ltb (s / desk-cells) n a, le-ltb (s % desk-cells) m l)
-          go2 (no a) c = let l : n ≤ s / desk-cells = omega arith in rw (le-ltb (s / desk-cells) n l)
+    cell-on : (i x : ℕ) → i < n → x < m → cellOf ps (part (cellPlace ps n m i x) (cell-bytes ps) b) ≡ cellsM cs (suc i) (suc x)
+    unfolding cellFor
+    cell-on i x hi hx =
+        let r = row-of i x (omega arith) in
+        sym (at-row i x (omega arith) (omega arith) ∙ rw (r .0, r .1, lt-ltb i n hi, lt-ltb x m hx) (cell-read ps b (cellPlace ps n m i x)))
 
-      go : Dec (i < places) → Dec (x < desk-cells) → cellsM cs (suc i) (suc x) ≡ machine.blank
-      go (yes a) (yes c) =
-          let r = row-of i x c in
-          at-row i x a c ∙ off (i * desk-cells + x) (λ q. o (rw (r .0) at (q .0), rw (r .1) at (q .1)))
-      go (yes a) (no c) = cell-out cs (suc i) (suc x) (λ p q. c (q .1))
-      go (no a) c = cell-out cs (suc i) (suc x) (λ p q. a (p .1))
+    cell-off : (i x : ℕ) → ((i < n) × (x < m) → ⊥) → cellsM cs (suc i) (suc x) ≡ machine.blank
+    unfolding cellFor
+    cell-off i x o = go (decLt i places) (decLt x desk-cells)
+      where
+        off : (s : ℕ) → ((s / desk-cells < n) × (s % desk-cells < m) → ⊥) → cellM (cellFor ps b n m s) ≡ machine.blank
+        off s q = go2 (decLt (s / desk-cells) n) (decLt (s % desk-cells) m)
+          where
+            go2 : Dec (s / desk-cells < n) → Dec (s % desk-cells < m) → cellM (cellFor ps b n m s) ≡ machine.blank
+            go2 (yes a) (yes c) = absurd (q (a, c))
+            go2 (yes a) (no c) = let l : m ≤ s % desk-cells = omega arith in rw (lt-ltb (s / desk-cells) n a, le-ltb (s % desk-cells) m l)
+            go2 (no a) c = let l : n ≤ s / desk-cells = omega arith in rw (le-ltb (s / desk-cells) n l)
 
-  pub cells-read : cellsM cs ≡ cellIn n m b
-  cells-read =
-      sym (from1-is (λ x. machine.blank) n (λ i. from1 machine.blank m (λ x. cellOf (part (cellPlace n m i x) 20 b))) (cellsM cs)
-      (λ i hi. from1-is machine.blank m (λ x. cellOf (part (cellPlace n m i x) 20 b)) (cellsM cs (suc i)) (λ x hx. cell-on i x hi hx) (row-off i))
-      desk-off)
-    where
-      row-off : (i x : ℕ) → (1 ≤ x → x ≤ m → ⊥) → cellsM cs (suc i) x ≡ machine.blank
-      row-off i zero o = cell-out cs (suc i) zero (λ p q. omega (arith, q .0))
-      row-off i (suc x) o = cell-off i x (λ q. o (omega arith) (q .1))
+        go : Dec (i < places) → Dec (x < desk-cells) → cellsM cs (suc i) (suc x) ≡ machine.blank
+        go (yes a) (yes c) =
+            let r = row-of i x c in
+            at-row i x a c ∙ off (i * desk-cells + x) (λ q. o (rw (r .0) at (q .0), rw (r .1) at (q .1)))
+        go (yes a) (no c) = cell-out cs (suc i) (suc x) (λ p q. c (q .1))
+        go (no a) c = cell-out cs (suc i) (suc x) (λ p q. a (p .1))
 
-      desk-off : (i : ℕ) → (1 ≤ i → i ≤ n → ⊥) → cellsM cs i ≡ (λ x. machine.blank)
-      desk-off zero o = fun-ext (λ x. cell-out cs zero x (λ p q. omega (arith, p .0)))
-      desk-off (suc i) o = fun-ext (λ x. each x)
-        where
-          each : (x : ℕ) → cellsM cs (suc i) x ≡ machine.blank
-          each zero = cell-out cs (suc i) zero (λ p q. omega (arith, q .0))
-          each (suc x) = cell-off i x (λ q. o (omega arith) (q .0))
+    pub cells-read : cellsM cs ≡ cellIn ps n m b
+    cells-read =
+        sym (from1-is (λ x. machine.blank) n (λ i. from1 machine.blank m (λ x. cellOf ps (part (cellPlace ps n m i x) (cell-bytes ps) b))) (cellsM cs)
+        (λ i hi. from1-is machine.blank m (λ x. cellOf ps (part (cellPlace ps n m i x) (cell-bytes ps) b)) (cellsM cs (suc i)) (λ x hx. cell-on i x hi hx) (row-off i))
+        desk-off)
+      where
+        row-off : (i x : ℕ) → (1 ≤ x → x ≤ m → ⊥) → cellsM cs (suc i) x ≡ machine.blank
+        row-off i zero o = cell-out cs (suc i) zero (λ p q. omega (arith, q .0))
+        row-off i (suc x) o = cell-off i x (λ q. o (omega arith) (q .1))
 
--- open writes: what stands at a place of the image, as the code reads it
-module _ (b : List ℕ) (n m p : ℕ) where
-  writer-read : openFrom b (openPlace n m p) .writer ≡ writerIn (part (openPlace n m p) 28 b)
-  writer-read =
-      let z : openPlace n m p + 0 ≡ openPlace n m p = omega arith in
-      sym (getD-part b (openPlace n m p) 28 0 (omega arith) ∙ rw z)
+        desk-off : (i : ℕ) → (1 ≤ i → i ≤ n → ⊥) → cellsM cs i ≡ (λ x. machine.blank)
+        desk-off zero o = fun-ext (λ x. cell-out cs zero x (λ p q. omega (arith, p .0)))
+        desk-off (suc i) o = fun-ext (λ x. each x)
+          where
+            each : (x : ℕ) → cellsM cs (suc i) x ≡ machine.blank
+            each zero = cell-out cs (suc i) zero (λ p q. omega (arith, q .0))
+            each (suc x) = cell-off i x (λ q. o (omega arith) (q .0))
 
-  number-read : number (openFrom b (openPlace n m p)) ≡ numberIn (part (openPlace n m p) 28 b)
-  unfolding numberIn
-  number-read = rw (← writer-read, part-part b (openPlace n m p) 4 16 28 (omega arith), ← place-words b (openPlace n m p + 4))
+  -- open writes: what stands at a place of the image, as the code reads it
+  module _ (b : List ℕ) (n m p : ℕ) where
+    writer-read : openFrom ps b (openPlace ps n m p) .writer ≡ writerIn (part (openPlace ps n m p) (open-bytes ps) b)
+    writer-read =
+        let z : openPlace ps n m p + 0 ≡ openPlace ps n m p = omega arith in
+        sym (getD-part b (openPlace ps n m p) (open-bytes ps) 0 (omega arith) ∙ rw z)
 
--- all of it, of the image of a table s that keeps the rules
-module _ (s : State) (ok : Rules s) where
-  abbrev at : ℕ → Name
-  at p = getD (names s) p no-name
+    number-read : number (openFrom ps b (openPlace ps n m p)) ≡ numberIn ps (part (openPlace ps n m p) (open-bytes ps) b)
+    unfolding numberIn
+    number-read = rw (← writer-read, part-part b (openPlace ps n m p) vector-at (vector-bytes ps) (open-bytes ps) (omega arith), ← place-words ps b (openPlace ps n m p + vector-at))
 
-  is-open : (p : ℕ) → p < openCount s → OpenName s (at p)
-  is-open p h = each-in (OpenName s) (names s) no-name (names-open s) p (omega (arith, length-names s))
+  -- all of it, of the image of a table s that keeps the rules
+  module _ (wd : Wide ps) (s : State) (ok : Rules s) (few : s .setup .desks ≤ ps) where
+    abbrev at : ℕ → Name
+    at p = getD (names s) p no-name
 
-  shows : (p : ℕ) → p < openCount s → Shows s (at p .writer) (at p .number) (part (openPlace (s .setup .desks) (s .setup .cells) p) 28 (encode s))
-  shows p h = shows-at s ok p h
+    is-open : (p : ℕ) → p < openCount s → OpenName s (at p)
+    is-open p h = each-in (OpenName s) (names s) no-name (names-open s) p (omega (arith, length-names s))
 
-  abbrev from : ℕ → Open
-  from p = openFrom (encode s) (openPlace (s .setup .desks) (s .setup .cells) p)
+    shows : (p : ℕ) → p < openCount s → Shows ps s (at p .writer) (at p .number) (part (openPlace ps (s .setup .desks) (s .setup .cells) p) (open-bytes ps) (encodeAt ps s))
+    shows p h = shows-at ps wd s ok few p h
 
-  writer-from : (p : ℕ) → p < openCount s → from p .writer ≡ at p .writer
-  writer-from p h = writer-read (encode s) (s .setup .desks) (s .setup .cells) p ∙ shows p h .writer
+    abbrev from : ℕ → Open
+    from p = openFrom ps (encodeAt ps s) (openPlace ps (s .setup .desks) (s .setup .cells) p)
 
-  number-from : (p : ℕ) → p < openCount s → number (from p) ≡ at p .number
-  number-from p h = number-read (encode s) (s .setup .desks) (s .setup .cells) p ∙ shows p h .number
+    writer-from : (p : ℕ) → p < openCount s → from p .writer ≡ at p .writer
+    writer-from p h = writer-read (encodeAt ps s) (s .setup .desks) (s .setup .cells) p ∙ shows p h .writer
 
-  has-writer : (p : ℕ) → p < openCount s → from p .writer ≡ 0 → ⊥
-  has-writer p h e = let w = writer-from p h in let i = is-open p h .writer-in .0 in omega arith
+    number-from : (p : ℕ) → p < openCount s → number (from p) ≡ at p .number
+    number-from p h = number-read (encodeAt ps s) (s .setup .desks) (s .setup .cells) p ∙ shows p h .number
 
-  -- the entries, wherever they stand
-  module _ (os : List ℕ) (read : OpensRead (encode s) (s .setup .desks) (s .setup .cells) (openCount s) os) where
-    spread : Spread (encode s) (s .setup .desks) (s .setup .cells) (openCount s) os
-    spread = read has-writer
+    has-writer : (p : ℕ) → p < openCount s → from p .writer ≡ 0 → ⊥
+    has-writer p h e = let w = writer-from p h in let i = is-open p h .writer-in .0 in omega arith
 
-    writer-is : (p : ℕ) → p < openCount s → openAt os (spread .at p) .writer ≡ at p .writer
-    writer-is p h = ap (λ (o : Open). o .writer) (spread .there p h) ∙ writer-from p h
+    -- the entries, wherever they stand
+    module _ (os : List ℕ) (read : OpensRead ps (encodeAt ps s) (s .setup .desks) (s .setup .cells) (openCount s) os) where
+      spread : Spread ps (encodeAt ps s) (s .setup .desks) (s .setup .cells) (openCount s) os
+      spread = read has-writer
 
-    number-is : (p : ℕ) → p < openCount s → number (openAt os (spread .at p)) ≡ at p .number
-    number-is p h = ap number (spread .there p h) ∙ number-from p h
+      writer-is : (p : ℕ) → p < openCount s → openAt os (spread .at p) .writer ≡ at p .writer
+      writer-is p h = ap (λ (o : Open). o .writer) (spread .there p h) ∙ writer-from p h
 
-    in-use : (p : ℕ) → p < openCount s → isFree (openAt os (spread .at p)) ≡ false
-    in-use p h = ne-eqb (openAt os (spread .at p) .writer) 0 (λ e. (let w = writer-is p h in let i = is-open p h .writer-in .0 in omega arith))
+      number-is : (p : ℕ) → p < openCount s → number (openAt os (spread .at p)) ≡ at p .number
+      number-is p h = ap number (spread .there p h) ∙ number-from p h
 
-    named-so : (p : ℕ) → p < openCount s → namedAt os (at p .writer) (at p .number) (spread .at p) ≡ true
-    named-so p h = rw (← writer-is p h, ← number-is p h) (own-named (openAt os (spread .at p)) (in-use p h))
+      in-use : (p : ℕ) → p < openCount s → isFree (openAt os (spread .at p)) ≡ false
+      in-use p h = ne-eqb (openAt os (spread .at p) .writer) 0 (λ e. (let w = writer-is p h in let i = is-open p h .writer-in .0 in omega arith))
 
-    -- an entry with a name is one of those that were counted
-    is-counted : (e u k : ℕ) → e < entries → namedAt os u k e ≡ true → Among (openCount s) (spread .at) e
-    is-counted e u k h t = spread .rest e h (cases (isFree (openAt os e)) (λ f. absurd (apart (namedAt os u k e) t (free-named (openAt os e) u k f))) (λ f. f))
+      named-so : (p : ℕ) → p < openCount s → namedAt os (at p .writer) (at p .number) (spread .at p) ≡ true
+      named-so p h = rw (← writer-is p h, ← number-is p h) (own-named (openAt os (spread .at p)) (in-use p h))
 
-    -- and the name is its own
-    own-name : (p u k : ℕ) → p < openCount s → namedAt os u k (spread .at p) ≡ true → (at p .writer ≡ u) × (at p .number ≡ k)
-    own-name p u k h t = let q = named-is (openAt os (spread .at p)) u k t in (sym (writer-is p h) ∙ q .1, sym (number-is p h) ∙ q .2)
+      -- an entry with a name is one of those that were counted
+      is-counted : (e u k : ℕ) → e < entries → namedAt os u k e ≡ true → Among (openCount s) (spread .at) e
+      is-counted e u k h t = spread .rest e h (cases (isFree (openAt os e)) (λ f. absurd (apart (namedAt os u k e) t (free-named (openAt os e) u k f))) (λ f. f))
 
-    name-of : (e u k : ℕ) (a : Among (openCount s) (spread .at) e) → namedAt os u k e ≡ true → (at (a .p) .writer ≡ u) × (at (a .p) .number ≡ k)
-    name-of e u k a t = own-name (a .p) u k (a .small) (rw (a .is) at t)
+      -- and the name is its own
+      own-name : (p u k : ℕ) → p < openCount s → namedAt os u k (spread .at p) ≡ true → (at p .writer ≡ u) × (at p .number ≡ k)
+      own-name p u k h t = let q = named-is (openAt os (spread .at p)) u k t in (sym (writer-is p h) ∙ q .1, sym (number-is p h) ∙ q .2)
 
-    pub unique-read : Unique os
-    unique-read e j he hj ne u k t r =
-        let a = is-counted e u k he t in
-        let b = is-counted j u k hj r in
-        let x = name-of e u k a t in
-        let y = name-of j u k b r in
-        let w : at (a .p) .writer ≡ at (b .p) .writer = x .0 ∙ sym (y .0) in
-        let v : at (a .p) .number ≡ at (b .p) .number = x .1 ∙ sym (y .1) in
-        let z : at (a .p) ≡ at (b .p) = λ i. record { writer = w i; number = v i } in
-        let q : a .p ≡ b .p = names-distinct s ok (a .p) (b .p) (omega (arith, a .small, length-names s)) (omega (arith, b .small, length-names s)) z in
-        ne (a .is ∙ ap (spread .at) q ∙ sym (b .is))
+      name-of : (e u k : ℕ) (a : Among (openCount s) (spread .at) e) → namedAt os u k e ≡ true → (at (a .p) .writer ≡ u) × (at (a .p) .number ≡ k)
+      name-of e u k a t = own-name (a .p) u k (a .small) (rw (a .is) at t)
 
-    opens-is : (u k : ℕ) (o : Option machine.Open) → s .opens u k ≡ o → opensM os u k ≡ o
-    opens-is u k none e =
-        opens-none os u k (λ j h. cases (namedAt os u k j)
-        (λ t. let a = is-counted j u k h t in
-        let x = name-of j u k a t in
-        let i : isOpen s u k ≡ true = rw (x .0, x .1) at (is-open (a .p) (a .small) .is-open) in
-        clash (sym (ap (λ (o : Option machine.Open). not (isNone o)) e) ∙ i))
-        (λ t. t))
-    opens-is u k (some w) e =
-        let g = open-named s u k (open-name s ok u k (ap (λ (o : Option machine.Open). not (isNone o)) e)) in
-        let p : ℕ = g .at in
-        let c : p < openCount s = omega (arith, g .small, length-names s) in
-        let w1 : at p .writer ≡ u = ap (λ (x : Name). x .writer) (g .is) in
-        let w2 : at p .number ≡ k = ap (λ (x : Name). x .number) (g .is) in
-        let t : namedAt os u k (spread .at p) ≡ true = rw (w1, w2) at (named-so p c) in
-        let sh : some (openOf (part (openPlace (s .setup .desks) (s .setup .cells) p) 28 (encode s))) ≡ s .opens u k = rw (w1, w2) at (shows p c .whole) in
-        opens-at os (spread .at p) u k unique-read (spread .inside p c) t
-        ∙ ap some (ap openM (spread .there p c) ∙ open-read (encode s) (openPlace (s .setup .desks) (s .setup .cells) p)) ∙ sh ∙ e
+      pub unique-read : Unique os
+      unique-read e j he hj ne u k t r =
+          let a = is-counted e u k he t in
+          let b = is-counted j u k hj r in
+          let x = name-of e u k a t in
+          let y = name-of j u k b r in
+          let w : at (a .p) .writer ≡ at (b .p) .writer = x .0 ∙ sym (y .0) in
+          let v : at (a .p) .number ≡ at (b .p) .number = x .1 ∙ sym (y .1) in
+          let z : at (a .p) ≡ at (b .p) = λ i. record { writer = w i; number = v i } in
+          let q : a .p ≡ b .p = names-distinct s ok (a .p) (b .p) (omega (arith, a .small, length-names s)) (omega (arith, b .small, length-names s)) z in
+          ne (a .is ∙ ap (spread .at) q ∙ sym (b .is))
 
-    pub opens-read : opensM os ≡ s .opens
-    opens-read = fun-ext (λ u. fun-ext (λ k. opens-is u k (s .opens u k) refl))
+      opens-is : (u k : ℕ) (o : Option machine.Open) → s .opens u k ≡ o → opensM os u k ≡ o
+      opens-is u k none e =
+          opens-none os u k (λ j h. cases (namedAt os u k j)
+          (λ t. let a = is-counted j u k h t in
+          let x = name-of j u k a t in
+          let i : isOpen s u k ≡ true = rw (x .0, x .1) at (is-open (a .p) (a .small) .is-open) in
+          clash (sym (ap (λ (o : Option machine.Open). not (isNone o)) e) ∙ i))
+          (λ t. t))
+      opens-is u k (some w) e =
+          let g = open-named s u k (open-name ps wd s ok few u k (ap (λ (o : Option machine.Open). not (isNone o)) e)) in
+          let p : ℕ = g .at in
+          let c : p < openCount s = omega (arith, g .small, length-names s) in
+          let w1 : at p .writer ≡ u = ap (λ (x : Name). x .writer) (g .is) in
+          let w2 : at p .number ≡ k = ap (λ (x : Name). x .number) (g .is) in
+          let t : namedAt os u k (spread .at p) ≡ true = rw (w1, w2) at (named-so p c) in
+          let sh : some (openOf ps (part (openPlace ps (s .setup .desks) (s .setup .cells) p) (open-bytes ps) (encodeAt ps s))) ≡ s .opens u k = rw (w1, w2) at (shows p c .whole) in
+          opens-at os (spread .at p) u k unique-read (spread .inside p c) t
+          ∙ ap some (ap openM (spread .there p c) ∙ open-read ps (encodeAt ps s) (openPlace ps (s .setup .desks) (s .setup .cells) p)) ∙ sh ∙ e
 
--- unset cells
-zero-vector : (t : ℕ) → vecOf (replicate 16 0) t ≡ 0
-unfolding words cat
-zero-vector t = ap (λ (v : Vec). v t) (vec-words zeros (λ u l. absurd (omega arith)))
+      pub opens-read : opensM os ≡ s .opens
+      opens-read = fun-ext (λ u. fun-ext (λ k. opens-is u k (s .opens u k) refl))
 
-module _ (b : List ℕ) (p : ℕ) where
-  blank-from : part p 20 b ≡ replicate 20 0 → AllZero (cellFrom b p)
+  -- unset cells
+  zero-vector : (t : ℕ) → vecOf ps (replicate (vector-bytes ps) 0) t ≡ 0
+  zero-vector t = ap (λ (v : Vec). v t) (ap (vecOf ps) (sym (zero-words ps)) ∙ vec-words ps zeros (λ u l. absurd (omega arith)))
+
+  zero-part : part {A = ℕ} vector-at (vector-bytes ps) (replicate (cell-bytes ps) 0) ≡ replicate (vector-bytes ps) 0
   unfolding part
-  blank-from e =
-      record {
-        status = sym (getD-part b p 20 1 (omega arith)) ∙ ap (λ (l : List ℕ). getD l 1 0) e;
-        vector = λ t. ap (λ (v : Vec). v t) (place-words b (p + 4) ∙ ap vecOf (sym (part-part b p 4 16 20 (omega arith)) ∙ ap (λ (l : List ℕ). part 4 16 l) e)) ∙ zero-vector t;
-      }
+  zero-part = rw (drop-replicate {A = ℕ} vector-at (vector-bytes ps) 0) (take-all (vector-bytes ps) (replicate (vector-bytes ps) 0) (rw (length-replicate {A = ℕ} (vector-bytes ps) 0) (le-refl (vector-bytes ps))))
 
-module _ (s : State) (ok : Rules s) where
-  blank-cell : (i x p : ℕ) (c : machine.Cell) → s .cell i x ≡ c → part p 20 (encode s) ≡ cellBytes c → cellFrom (encode s) p .writer ≡ 0 → AllZero (cellFrom (encode s) p)
-  unfolding cellBytes
-  blank-cell i x p machine.blank q e w = blank-from (encode s) p e
-  blank-cell i x p (machine.set v u y) q e w =
-      let z : p + 0 ≡ p = omega arith in
-      let a : getD (part p 20 (encode s)) 0 0 ≡ 0 = getD-part (encode s) p 20 0 (omega arith) ∙ rw z w in
-      let c : u ≡ 0 = sym (ap (λ (l : List ℕ). getD l 0 0) e) ∙ a in
-      absurd (omega (arith, ok .frame .cell i x v u y q .writer-in .0))
+  module _ (b : List ℕ) (p : ℕ) where
+    blank-from : part p (cell-bytes ps) b ≡ replicate (cell-bytes ps) 0 → AllZero (cellFrom ps b p)
+    unfolding part
+    blank-from e =
+        record {
+          status = sym (getD-part b p (cell-bytes ps) 1 (omega arith)) ∙ ap (λ (l : List ℕ). getD l 1 0) e ∙ zeros-at (cell-bytes ps) 1;
+          vector = λ t. ap (λ (v : Vec). v t) (place-words ps b (p + vector-at) ∙ ap (vecOf ps) (sym (part-part b p vector-at (vector-bytes ps) (cell-bytes ps) (omega arith)) ∙ ap (λ (l : List ℕ). part vector-at (vector-bytes ps) l) e ∙ zero-part)) ∙ zero-vector t;
+        }
 
-  pub blanks-read : (cs : List ℕ) → CellsRead (encode s) (s .setup .desks) (s .setup .cells) cs → (t : ℕ) → t < all-cells → cellAt cs t .writer ≡ 0 → AllZero (cellAt cs t)
-  unfolding cellFor cellPart perDesk
-  blanks-read cs read t h w = go (decLt (t / desk-cells) (s .setup .desks)) (decLt (t % desk-cells) (s .setup .cells))
-    where
-      i : ℕ
-      i = t / desk-cells
+  module _ (wd : Wide ps) (s : State) (ok : Rules s) (few : s .setup .desks ≤ ps) where
+    blank-cell : (i x p : ℕ) (c : machine.Cell) → s .cell i x ≡ c → part p (cell-bytes ps) (encodeAt ps s) ≡ cellBytes ps c → cellFrom ps (encodeAt ps s) p .writer ≡ 0 → AllZero (cellFrom ps (encodeAt ps s) p)
+    unfolding cellBytes
+    blank-cell i x p machine.blank q e w = blank-from (encodeAt ps s) p e
+    blank-cell i x p (machine.set v u y) q e w =
+        let z : p + 0 ≡ p = omega arith in
+        let a : getD (part p (cell-bytes ps) (encodeAt ps s)) 0 0 ≡ 0 = getD-part (encodeAt ps s) p (cell-bytes ps) 0 (omega arith) ∙ rw z w in
+        let c : u ≡ 0 = sym (ap (λ (l : List ℕ). getD l 0 0) e) ∙ a in
+        absurd (omega (arith, ok .frame .cell i x v u y q .writer-in .0))
 
-      x : ℕ
-      x = t % desk-cells
+    pub blanks-read : (cs : List ℕ) → CellsRead ps (encodeAt ps s) (s .setup .desks) (s .setup .cells) cs → (t : ℕ) → t < all-cells → cellAt cs t .writer ≡ 0 → AllZero (cellAt cs t)
+    unfolding cellFor cellPart perDesk
+    blanks-read cs read t h w = go (decLt (t / desk-cells) (s .setup .desks)) (decLt (t % desk-cells) (s .setup .cells))
+      where
+        i : ℕ
+        i = t / desk-cells
 
-      none-there : cellFor (encode s) (s .setup .desks) (s .setup .cells) t ≡ noCell → AllZero (cellAt cs t)
-      none-there e = rw (read t h ∙ e) (record { status = refl; vector = λ k. ap (λ (v : Vec). v k) (place-zeros places) })
+        x : ℕ
+        x = t % desk-cells
 
-      go : Dec (t / desk-cells < s .setup .desks) → Dec (t % desk-cells < s .setup .cells) → AllZero (cellAt cs t)
-      go (yes a) (yes c) =
-          let p : ℕ = cellPlace (s .setup .desks) (s .setup .cells) (t / desk-cells) (t % desk-cells) in
-          let f : cellAt cs t ≡ cellFrom (encode s) p = read t h ∙ rw (lt-ltb (t / desk-cells) (s .setup .desks) a, lt-ltb (t % desk-cells) (s .setup .cells) c) in
-          let e : part p 20 (encode s) ≡ cellBytes (s .cell (suc (t / desk-cells)) (suc (t % desk-cells))) =
-          rw (div-add-mod (t % desk-cells) 25) at (part-3 s (t / desk-cells) (t % desk-cells / 25) (t % desk-cells % 25) a (omega arith) (omega arith)) in
-          rw f (blank-cell (suc (t / desk-cells)) (suc (t % desk-cells)) p (s .cell (suc (t / desk-cells)) (suc (t % desk-cells))) refl e (rw f at w))
-      go (yes a) (no c) = let l : s .setup .cells ≤ t % desk-cells = omega arith in none-there (rw (lt-ltb (t / desk-cells) (s .setup .desks) a, le-ltb (t % desk-cells) (s .setup .cells) l))
-      go (no a) c = let l : s .setup .desks ≤ t / desk-cells = omega arith in none-there (rw (le-ltb (t / desk-cells) (s .setup .desks) l))
+        none-there : cellFor ps (encodeAt ps s) (s .setup .desks) (s .setup .cells) t ≡ noCell → AllZero (cellAt cs t)
+        none-there e = rw (read t h ∙ e) (record { status = refl; vector = λ k. ap (λ (v : Vec). v k) (place-zeros places) })
 
-  -- its sizes fit
-  pub fits-image : Fits (encode s)
-  unfolding openBlocks
-  fits-image =
-      record {
-        desks = rw (n-back s ok) (ok .frame .ranges .desks);
-        cells = rw (m-back s ok) (ok .frame .ranges .cells);
-        few = rw (count-back s ok) (ok .frame .ranges .few);
-        size = rw (n-back s ok, m-back s ok, count-back s ok) (length-encode s);
-      }
+        go : Dec (t / desk-cells < s .setup .desks) → Dec (t % desk-cells < s .setup .cells) → AllZero (cellAt cs t)
+        go (yes a) (yes c) =
+            let p : ℕ = cellPlace ps (s .setup .desks) (s .setup .cells) (t / desk-cells) (t % desk-cells) in
+            let f : cellAt cs t ≡ cellFrom ps (encodeAt ps s) p = read t h ∙ rw (lt-ltb (t / desk-cells) (s .setup .desks) a, lt-ltb (t % desk-cells) (s .setup .cells) c) in
+            let e : part p (cell-bytes ps) (encodeAt ps s) ≡ cellBytes ps (s .cell (suc (t / desk-cells)) (suc (t % desk-cells))) =
+            rw (div-add-mod (t % desk-cells) (cells-in ps)) at (part-3 ps wd s (t / desk-cells) (t % desk-cells / cells-in ps) (t % desk-cells % cells-in ps) a (block-of (cells-in ps) (s .setup .cells) (t % desk-cells) (some-cells ps wd) c) (mod-lt (t % desk-cells) (some-cells ps wd))) in
+            rw f (blank-cell (suc (t / desk-cells)) (suc (t % desk-cells)) p (s .cell (suc (t / desk-cells)) (suc (t % desk-cells))) refl e (rw f at w))
+        go (yes a) (no c) = let l : s .setup .cells ≤ t % desk-cells = omega arith in none-there (rw (lt-ltb (t / desk-cells) (s .setup .desks) a, le-ltb (t % desk-cells) (s .setup .cells) l))
+        go (no a) c = let l : s .setup .desks ≤ t / desk-cells = omega arith in none-there (rw (le-ltb (t / desk-cells) (s .setup .desks) l))
 
--- a table whose parts were read from b
-pub record ReadAs (b : List ℕ) (t : Table) : Type 0 where
-  pub n-is : t .core .n ≡ nIn b
-  pub m-is : t .core .m ≡ mIn b
-  pub desks : t .core .desks ≡ tab places (deskFor b (nIn b))
-  pub cells : CellsRead b (nIn b) (mIn b) (t .cells)
-  pub opens : OpensRead b (nIn b) (mIn b) (countIn b) (t .opens)
+    -- its sizes fit
+    pub fits-image : Fits ps (encodeAt ps s)
+    unfolding openBlocks
+    fits-image =
+        record {
+          desks = rw (n-back ps s) (ok .frame .ranges .desks .0, few);
+          cells = rw (m-back ps s) (ok .frame .ranges .cells);
+          few = rw (count-back ps s) (ok .frame .ranges .few);
+          size = rw (n-back ps s, m-back ps s, count-back ps s) (length-encode ps wd s);
+        }
+
+  -- a table whose parts were read from b
+  pub record ReadAs (b : List ℕ) (t : Table) : Type 0 where
+    pub n-is : t .core .n ≡ nIn b
+    pub m-is : t .core .m ≡ mIn b
+    pub desks : t .core .desks ≡ tab places (deskFor ps b (nIn b))
+    pub cells : CellsRead ps b (nIn b) (mIn b) (t .cells)
+    pub opens : OpensRead ps b (nIn b) (mIn b) (countIn b) (t .opens)
+
+  pub read-image : (wd : Wide ps) (s : State) → Rules s → s .setup .desks ≤ ps → (t : Table) → ReadAs (encodeAt ps s) t → (modelOf t ≡ s) × SoundTable t
+  read-image wd s ok few t h =
+      let n8 = ok .frame .ranges .desks .1 in
+      let m64 = ok .frame .ranges .cells .1 in
+      let en : t .core .n ≡ s .setup .desks = h .n-is ∙ n-back ps s in
+      let em : t .core .m ≡ s .setup .cells = h .m-is ∙ m-back ps s in
+      let ed : t .core .desks ≡ tab places (deskFor ps (encodeAt ps s) (s .setup .desks)) = rw (n-back ps s) at (h .desks) in
+      let rc : CellsRead ps (encodeAt ps s) (s .setup .desks) (s .setup .cells) (t .cells) = rw (n-back ps s, m-back ps s) at (h .cells) in
+      let ro : OpensRead ps (encodeAt ps s) (s .setup .desks) (s .setup .cells) (openCount s) (t .opens) = rw (n-back ps s, m-back ps s, count-back ps s) at (h .opens) in
+      let e : modelOf t ≡ s = state-path (modelOf t) s en em
+      (ap appliedM ed ∙ applied-read (encodeAt ps s) (s .setup .desks) n8 ∙ applied-back ps wd s ok few)
+      (ap clockM ed ∙ clock-read (encodeAt ps s) (s .setup .desks) n8 ∙ clock-back ps wd s ok few)
+      (cells-read (encodeAt ps s) (s .setup .desks) (s .setup .cells) n8 m64 (t .cells) rc ∙ cell-back ps wd s ok few)
+      (opens-read wd s ok few (t .opens) ro) in
+      (e, record { rules = rw e ok; blanks = blanks-read wd s ok few (t .cells) rc; unique = unique-read wd s ok few (t .opens) ro })
 
 -- a reader that reads images right
 abbrev pub Reads : List ℕ → Table → Type 0
 Reads b t = (s : State) → Rules s → encode s ≡ b → (modelOf t ≡ s) × SoundTable t
 
-pub read-image : (s : State) → Rules s → (t : Table) → ReadAs (encode s) t → (modelOf t ≡ s) × SoundTable t
-read-image s ok t h =
-    let n8 = ok .frame .ranges .desks .1 in
-    let m64 = ok .frame .ranges .cells .1 in
-    let en : t .core .n ≡ s .setup .desks = h .n-is ∙ n-back s ok in
-    let em : t .core .m ≡ s .setup .cells = h .m-is ∙ m-back s ok in
-    let ed : t .core .desks ≡ tab places (deskFor (encode s) (s .setup .desks)) = rw (n-back s ok) at (h .desks) in
-    let rc : CellsRead (encode s) (s .setup .desks) (s .setup .cells) (t .cells) = rw (n-back s ok, m-back s ok) at (h .cells) in
-    let ro : OpensRead (encode s) (s .setup .desks) (s .setup .cells) (openCount s) (t .opens) = rw (n-back s ok, m-back s ok, count-back s ok) at (h .opens) in
-    let e : modelOf t ≡ s = state-path (modelOf t) s (λ j. machine.sized (en j) (em j))
-    (ap appliedM ed ∙ applied-read (encode s) (s .setup .desks) n8 ∙ applied-back s ok)
-    (ap clockM ed ∙ clock-read (encode s) (s .setup .desks) n8 ∙ clock-back s ok)
-    (cells-read (encode s) (s .setup .desks) (s .setup .cells) n8 m64 (t .cells) rc ∙ cell-back s ok)
-    (opens-read s ok (t .opens) ro) in
-    (e, record { rules = rw e ok; blanks = blanks-read s ok (t .cells) rc; unique = unique-read s ok (t .opens) ro })
-
-pub reads-right : (b : List ℕ) (t : Table) → ReadAs b t → Reads b t
-reads-right b t h s ok e = read-image s ok t (rw (← e) at h)
+pub reads-right : (b : List ℕ) (t : Table) → ReadAs places b t → Reads b t
+reads-right b t h s ok e = read-image places wide s ok (ok .frame .ranges .desks .1) t (rw (← e) at h)
 
 -- an image whose sizes do not fit is none
-pub reads-none : (b : List ℕ) (t : Table) → (Fits b → ⊥) → Reads b t
-reads-none b t f s ok e = absurd (f (rw e at (fits-image s ok)))
+pub reads-none : (b : List ℕ) (t : Table) → (Fits places b → ⊥) → Reads b t
+reads-none b t f s ok e = absurd (f (rw e at (fits-image places wide s ok (ok .frame .ranges .desks .1))))

@@ -23,6 +23,8 @@ use Rattle.image.specs.Load.{Loaded, refused, loaded, Loads, by-damage, by-rule
 use Rattle.load.specs.declared.Outcome.{Outcome}
 use Rattle.load.specs.declared.Outcome.the-variants as outcome
 use Rattle.load.specs.Back.{Reads}
+use Rattle.clock.specs.Vectors.{places}
+use Rattle.image.specs.Limits.{wide, image-bytes}
 
 -- the table, or a refusal
 abbrev pub loadedOf : Outcome → Table → Loaded
@@ -76,8 +78,8 @@ same-says r b out after vs ea e h s =
     says-as r s (λ q. same-so b out vs e h (rw ea at q)) (λ q. rw (ea, e) (sym (saved-part out vs h ∙ q)))
 
 -- "The largest image is 37 blocks."
-pub image-most : (s : State) → Rules s → length (encode s) ≤ 18944
-image-most s r = omega (arith, most-blocks s r, length-encode s)
+pub image-most : (s : State) → Rules s → length (encode s) ≤ (image-bytes places)
+image-most s r = omega (arith, most-blocks places wide s r (r .frame .ranges .desks .1), length-encode places wide s)
 
 -- the answers, by the code's tests
 pub damaged-so : (b : List ℕ) (o : Outcome) (t : Table) → o ≡ outcome.Damaged → t ≡ freshTable 0 0 → whole.sound b ≡ false → Answers b o t
@@ -87,8 +89,8 @@ pub broken-so : (b : List ℕ) (o : Outcome) (t : Table) → o ≡ outcome.Broke
 broken-so b o t eo et f g = rw eo ((whole.says-sound b .to f, g), et)
 
 -- in a buffer of 37 blocks
-pub buffer-long : (after vs : List ℕ) → after ≡ sets (replicate 18944 0) 0 vs → length after ≡ 18944
-buffer-long after vs e = ap length e ∙ length-sets (replicate 18944 0) 0 vs ∙ length-replicate {A = ℕ} 18944 0
+pub buffer-long : (after vs : List ℕ) → after ≡ sets (replicate (image-bytes places) 0) 0 vs → length after ≡ (image-bytes places)
+buffer-long after vs e = ap length e ∙ length-sets (replicate (image-bytes places) 0) 0 vs ∙ length-replicate {A = ℕ} (image-bytes places) 0
 
-pub buffer-says : (r : Bool) (b after vs : List ℕ) → after ≡ sets (replicate 18944 0) 0 vs → length b ≡ length vs → length vs ≤ 18944 → Says r (b ≡ take (length b) after) → Says r (vs ≡ b)
-buffer-says r b after vs ea e h s = same-says r b (replicate 18944 0) after vs ea e (rw (length-replicate 18944) h) s
+pub buffer-says : (r : Bool) (b after vs : List ℕ) → after ≡ sets (replicate (image-bytes places) 0) 0 vs → length b ≡ length vs → length vs ≤ (image-bytes places) → Says r (b ≡ take (length b) after) → Says r (vs ≡ b)
+buffer-says r b after vs ea e h s = same-says r b (replicate (image-bytes places) 0) after vs ea e (rw (length-replicate (image-bytes places)) h) s

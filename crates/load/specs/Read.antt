@@ -7,7 +7,7 @@ use native.Mathlib.Omega.{arith}
 use native.Mathlib.Decide.{decLt}
 use borrow.Author.Tests.{ltb-true, ltb-false, lt-ltb, le-ltb}
 use lib.Dec.{ltb, eqb}
-use native.Mathlib.Nat.{mul-le-mul, mul-le-mul-left}
+use native.Mathlib.Nat.{mul-le-mul, mul-le-mul-left, mod-lt}
 use lib.ListN.{length, getD, set, take, drop, replicate}
 use lib.Seq.{getD-take, getD-drop, take-take, drop-drop}
 use Rattle.laws.specs.Loop.{pick, cases}
@@ -26,25 +26,10 @@ use Rattle.table.specs.Model.{cellM, openM}
 use Rattle.image.specs.Encode.{perDesk}
 use Rattle.image.specs.Fields.{vecOf, marksOf, cellOf, openOf}
 use Rattle.image.specs.Decode.{nIn, mIn, countIn, deskPlace, cellPlace, openPlace}
+use Rattle.image.specs.Limits.{Wide, fit, some-cells, some-opens, block-of, blocks-mono, block-bytes, payload-at, payload-bytes, vector-at, vector-bytes, after-vector, cell-bytes, open-bytes, cells-in, opens-in, blocks-for, row-most, rows-most, opens-most}
 
 abbrev pub wordAt : List ℕ → ℕ → ℕ
 wordAt b p = getD b p 0 + 256 * getD b (p + 1) 0
-
--- 8 numbers of 16 bits; 8 of a byte
-abbrev pub wordsFrom : List ℕ → ℕ → List ℕ
-wordsFrom b p = tab places (λ t. wordAt b (p + 2 * t))
-
-abbrev pub bytesFrom : List ℕ → ℕ → List ℕ
-bytesFrom b p = tab places (λ t. getD b (p + t) 0)
-
-abbrev pub cellFrom : List ℕ → ℕ → Cell
-cellFrom b p = record { writer = getD b p 0; status = getD b (p + 1) 0; vector = wordsFrom b (p + 4) }
-
-abbrev pub openFrom : List ℕ → ℕ → Open
-openFrom b p = record { writer = getD b p 0; status = getD b (p + 1) 0; cell = getD b (p + 2) 0; vector = wordsFrom b (p + 4); marks = bytesFrom b (p + 20) }
-
-abbrev pub deskFrom : List ℕ → ℕ → Desk
-deskFrom b i = record { applied = wordsFrom b (deskPlace 4 i); clock = clockOf (wordsFrom b (deskPlace 20 i)) }
 
 -- what stands past n, past m, past the open writes
 abbrev pub noDesk : Desk
@@ -53,118 +38,12 @@ noDesk = record { applied = replicate places 0; clock = clockOf (replicate place
 abbrev pub noCell : Cell
 noCell = record { writer = 0; status = 0; vector = replicate places 0 }
 
-unfoldable pub deskFor : List ℕ → ℕ → ℕ → Desk
-deskFor b n i = pick (ltb i n) (deskFrom b i) noDesk
-
-unfoldable pub cellFor : List ℕ → ℕ → ℕ → ℕ → Cell
-cellFor b n m s = pick (ltb (s / desk-cells) n) (pick (ltb (s % desk-cells) m) (cellFrom b (cellPlace n m (s / desk-cells) (s % desk-cells))) noCell) noCell
-
--- the sizes that an image tells of itself are in range, and its length is theirs
-pub record Fits (b : List ℕ) : Type 0 where
-  pub desks : (1 ≤ nIn b) × (nIn b ≤ places)
-  pub cells : (1 ≤ mIn b) × (mIn b ≤ desk-cells)
-  pub few : countIn b ≤ entries
-  pub size : length b ≡ 512 * (1 + nIn b + perDesk (mIn b) * nIn b + (countIn b + 17) / 18)
-
 -- a test that failed, and one that did not
 pub says-no : {P : Type 0} → (P → ⊥) → Says false P
 says-no f = record { to = λ e. clash e; from = λ p. absurd (f p) }
 
 pub says-so : {P : Type 0} → P → Says true P
 says-so p = record { to = λ e. p; from = λ q. refl }
-
-pub fits-is : (b : List ℕ) (n m count : ℕ) → n ≡ nIn b → m ≡ mIn b → count ≡ countIn b → (n ≡ 0 → ⊥) → n ≤ places → (m ≡ 0 → ⊥) → m ≤ desk-cells → count ≤ entries
-    → length b ≡ 512 * (1 + n + perDesk m * n + (count + 17) / 18) → Fits b
-fits-is b n m count en em ec a n8 d m64 few e =
-    record { desks = (omega arith, omega arith); cells = (omega arith, omega arith); few = omega arith; size = rw (en, em, ec) at e }
-
--- the rows that were read
-abbrev pub CellsRead : List ℕ → ℕ → ℕ → List ℕ → Type 0
-CellsRead b n m cs = (s : ℕ) → s < all-cells → cellAt cs s ≡ cellFor b n m s
-
--- where a cell and an open write stand, and that they lie within
-pub record Within (b : List ℕ) (n k q r w at : ℕ) : Type 0 where
-  pub desks : n ≤ places
-  pub before : k ≤ 24
-  pub block : q < 4
-  pub payload : r < 504
-  pub is : 512 + (512 * n + (512 * k + (512 * q + (4 + r)))) ≡ at
-  pub ends : at + w ≤ length b
-
-module _ (b : List ℕ) (h : Fits b) where
-  few-blocks : perDesk (mIn b) ≤ 3
-  unfolding perDesk
-  few-blocks = omega (arith, h .cells .1)
-
-  cell-within : (i x c : ℕ) → c ≡ perDesk (mIn b) → i < nIn b → x < mIn b → Within b (nIn b) (c * i) (x / 25) (20 * (x % 25)) 20 (cellPlace (nIn b) (mIn b) i x)
-  unfolding perDesk
-  cell-within i x c e hi hx =
-      let z = few-blocks in
-      let n8 = h .desks .1 in
-      let m64 = h .cells .1 in
-      let z3 : c ≤ 3 = omega arith in
-      let i8 : i ≤ 8 = omega arith in
-      let k : c * i ≤ 24 = mul-le-mul z3 i8 in
-      let f = ap (λ (y : ℕ). y * i) e in
-      let g = mul-le-mul-left (perDesk (mIn b)) hi in
-      let l = h .size in
-      let a : x / 25 < perDesk (mIn b) = omega arith in
-      record { desks = n8; before = k; block = omega arith; payload = omega arith; is = omega arith; ends = omega arith }
-
-  open-within : (p c : ℕ) → c ≡ perDesk (mIn b) → p < countIn b → Within b (nIn b) (c * nIn b) (p / 18) (28 * (p % 18)) 28 (openPlace (nIn b) (mIn b) p)
-  open-within p c e hp =
-      let z = few-blocks in
-      let n8 = h .desks .1 in
-      let c64 = h .few in
-      let z3 : c ≤ 3 = omega arith in
-      let k : c * nIn b ≤ 24 = mul-le-mul z3 n8 in
-      let f = ap (λ (y : ℕ). y * nIn b) e in
-      let l = h .size in
-      record { desks = n8; before = k; block = omega arith; payload = omega arith; is = omega arith; ends = omega arith }
-
-  -- at the code's own numbers
-  pub cell-where : (n m i x c : ℕ) → n ≡ nIn b → m ≡ mIn b → c ≡ perDesk m → i < n → x < m → Within b n (c * i) (x / 25) (20 * (x % 25)) 20 (cellPlace n m i x)
-  cell-where n m i x c en em ec hi hx = rw (en, em) (cell-within i x c (ec ∙ ap perDesk em) (omega arith) (omega arith))
-
-  pub open-where : (n m p c count : ℕ) → n ≡ nIn b → m ≡ mIn b → c ≡ perDesk m → count ≡ countIn b → p < count → Within b n (c * n) (p / 18) (28 * (p % 18)) 28 (openPlace n m p)
-  open-where n m p c count en em ec eq hp = rw (en, em) (open-within p c (ec ∙ ap perDesk em) (omega arith))
-
-  pub desks-within : 512 + 512 * nIn b ≤ length b
-  desks-within = omega (arith, h .size)
-
--- as the code picks them
-pub cell-there : (b : List ℕ) (n m s i x at : ℕ) (c : Cell) → i ≡ s / desk-cells → x ≡ s % desk-cells → i < n → x < m → at ≡ cellPlace n m i x → c ≡ cellFrom b at → c ≡ cellFor b n m s
-unfolding cellFor
-cell-there b n m s i x at c ei ex hi hx ea e = e ∙ rw (← ei, ← ex, lt-ltb i n hi, lt-ltb x m hx, ea)
-
-pub cell-past : (b : List ℕ) (n m s x : ℕ) (c : Cell) → x ≡ s % desk-cells → m ≤ x → c ≡ noCell → c ≡ cellFor b n m s
-unfolding cellFor
-cell-past b n m s x c ex h e = rw (← ex, le-ltb x m h) (cases (ltb (s / desk-cells) n) (λ t. rw t e) (λ t. rw t e))
-
-pub cell-off : (b : List ℕ) (n m s i : ℕ) (c : Cell) → i ≡ s / desk-cells → n ≤ i → c ≡ noCell → c ≡ cellFor b n m s
-unfolding cellFor
-cell-off b n m s i c ei h e = rw (← ei, le-ltb i n h) e
-
-pub desk-there : (b : List ℕ) (n i : ℕ) (d : Desk) → i < n → d ≡ deskFrom b i → d ≡ deskFor b n i
-unfolding deskFor
-desk-there b n i d h e = rw (lt-ltb i n h) e
-
-pub desk-past : (b : List ℕ) (n i : ℕ) (d : Desk) → n ≤ i → d ≡ noDesk → d ≡ deskFor b n i
-unfolding deskFor
-desk-past b n i d h e = rw (le-ltb i n h) e
-
--- one row more
-pub cells-more : (b : List ℕ) (n m s : ℕ) (l r : List ℕ) (c : Cell) → ((t : ℕ) → t < s → cellAt l t ≡ cellFor b n m t) → s < all-cells → c ≡ cellFor b n m s → CellPut l s c r
-    → (t : ℕ) → t < s + 1 → cellAt r t ≡ cellFor b n m t
-cells-more b n m s l r c h hs e p t ht =
-    rw (p .is) (same-or t s
-    (λ q. rw q (cellAt-put l s c (p .full) hs (p .size) ∙ e))
-    (λ q. cellAt-other l s c (p .full) t q ∙ h t (less q)))
-  where
-    less : (t ≡ s → ⊥) → t < s
-    less q = omega arith
-
--- what is read is what the definitions of document 01's fields read --
 
 pub getD-part : (b : List ℕ) (p w y : ℕ) → y < w → getD (part p w b) y 0 ≡ getD b (p + y) 0
 unfolding part
@@ -181,38 +60,167 @@ pub part-part : (b : List ℕ) (p q v w : ℕ) → q + v ≤ w → part q v (par
 unfolding part
 part-part b p q v w h = part-head (drop p b) q v w h ∙ rw (drop-drop q p b)
 
-place-past : (f : ℕ → ℕ) (t : ℕ) → (1 ≤ t → t ≤ places → ⊥) → place (tab places f) t ≡ 0
-place-past f zero o = refl
-place-past f (suc t) o = getD-tab-out f places t 0 (past (decLt t places))
-  where
-    past : Dec (t < places) → places ≤ t
-    past (yes h) = absurd (o (omega arith) h)
-    past (no h) = omega arith
+-- where a vector takes ps places in the image
+module _ (ps : ℕ) where
+  -- 8 numbers of 16 bits; 8 of a byte
+  abbrev pub wordsFrom : List ℕ → ℕ → List ℕ
+  wordsFrom b p = tab ps (λ t. wordAt b (p + 2 * t))
 
-pub place-words : (b : List ℕ) (p : ℕ) → place (wordsFrom b p) ≡ vecOf (part p 16 b)
-unfolding vecOf
-place-words b p =
-    sym (from1-is 0 places (λ t. getD (part p 16 b) (2 * t + 0) 0 + 256 * getD (part p 16 b) (2 * t + 1) 0) (place (wordsFrom b p))
-    (λ t h.
-    let e0 : p + (2 * t + 0) ≡ p + 2 * t = omega arith in
-    let e1 : p + (2 * t + 1) ≡ p + 2 * t + 1 = omega arith in
-    rw (getD-tab (λ t. wordAt b (p + 2 * t)) places t 0 h, getD-part b p 16 (2 * t + 0) (omega arith), getD-part b p 16 (2 * t + 1) (omega arith), e0, e1))
-    (place-past (λ t. wordAt b (p + 2 * t))))
+  abbrev pub bytesFrom : List ℕ → ℕ → List ℕ
+  bytesFrom b p = tab ps (λ t. getD b (p + t) 0)
 
-pub place-bytes : (b : List ℕ) (p : ℕ) → place (bytesFrom b p) ≡ marksOf (part p 8 b)
-unfolding marksOf
-place-bytes b p =
-    sym (from1-is 0 places (λ t. getD (part p 8 b) t 0) (place (bytesFrom b p))
-    (λ t h. rw (getD-tab (λ t. getD b (p + t) 0) places t 0 h, getD-part b p 8 t h))
-    (place-past (λ t. getD b (p + t) 0)))
+  abbrev pub cellFrom : List ℕ → ℕ → Cell
+  cellFrom b p = record { writer = getD b p 0; status = getD b (p + 1) 0; vector = wordsFrom b (p + vector-at) }
 
-pub cell-read : (b : List ℕ) (p : ℕ) → cellM (cellFrom b p) ≡ cellOf (part p 20 b)
-unfolding cellOf
-cell-read b p =
-    let z : p + 0 ≡ p = omega arith in
-    rw (place-words b (p + 4), getD-part b p 20 0 (omega arith), getD-part b p 20 1 (omega arith), part-part b p 4 16 20 (omega arith), z)
+  abbrev pub openFrom : List ℕ → ℕ → Open
+  openFrom b p = record { writer = getD b p 0; status = getD b (p + 1) 0; cell = getD b (p + 2) 0; vector = wordsFrom b (p + vector-at); marks = bytesFrom b (p + after-vector ps) }
 
-pub open-read : (b : List ℕ) (p : ℕ) → openM (openFrom b p) ≡ openOf (part p 28 b)
-unfolding openOf
-open-read b p =
-    rw (place-words b (p + 4), place-bytes b (p + 20), getD-part b p 28 1 (omega arith), getD-part b p 28 2 (omega arith), part-part b p 4 16 28 (omega arith), part-part b p 20 8 28 (omega arith))
+  abbrev pub deskFrom : List ℕ → ℕ → Desk
+  deskFrom b i = record { applied = wordsFrom b (deskPlace vector-at i); clock = clockOf (wordsFrom b (deskPlace (after-vector ps) i)) }
+
+  unfoldable pub deskFor : List ℕ → ℕ → ℕ → Desk
+  deskFor b n i = pick (ltb i n) (deskFrom b i) noDesk
+
+  unfoldable pub cellFor : List ℕ → ℕ → ℕ → ℕ → Cell
+  cellFor b n m s = pick (ltb (s / desk-cells) n) (pick (ltb (s % desk-cells) m) (cellFrom b (cellPlace ps n m (s / desk-cells) (s % desk-cells))) noCell) noCell
+
+  -- the sizes that an image tells of itself are in range, and its length is theirs
+  pub record Fits (b : List ℕ) : Type 0 where
+    pub desks : (1 ≤ nIn b) × (nIn b ≤ ps)
+    pub cells : (1 ≤ mIn b) × (mIn b ≤ desk-cells)
+    pub few : countIn b ≤ entries
+    pub size : length b ≡ block-bytes * (1 + nIn b + perDesk ps (mIn b) * nIn b + blocks-for (opens-in ps) (countIn b))
+
+  pub fits-is : (b : List ℕ) (n m count : ℕ) → n ≡ nIn b → m ≡ mIn b → count ≡ countIn b → (n ≡ 0 → ⊥) → n ≤ ps → (m ≡ 0 → ⊥) → m ≤ desk-cells → count ≤ entries
+      → length b ≡ block-bytes * (1 + n + perDesk ps m * n + blocks-for (opens-in ps) count) → Fits b
+  fits-is b n m count en em ec a n8 d m64 few e =
+      record { desks = (omega arith, omega arith); cells = (omega arith, omega arith); few = omega arith; size = rw (en, em, ec) at e }
+
+  -- the rows that were read
+  abbrev pub CellsRead : List ℕ → ℕ → ℕ → List ℕ → Type 0
+  CellsRead b n m cs = (s : ℕ) → s < all-cells → cellAt cs s ≡ cellFor b n m s
+
+  -- where a cell and an open write stand, and that they lie within
+  pub record Within (b : List ℕ) (n k q r w at : ℕ) : Type 0 where
+    pub desks : n ≤ ps
+    pub before : k ≤ rows-most ps
+    pub block : q < row-most ps + opens-most ps
+    pub payload : r < payload-bytes
+    pub is : block-bytes + (block-bytes * n + (block-bytes * k + (block-bytes * q + (payload-at + r)))) ≡ at
+    pub ends : at + w ≤ length b
+
+  module _ (wd : Wide ps) (b : List ℕ) (h : Fits b) where
+    few-blocks : perDesk ps (mIn b) ≤ row-most ps
+    unfolding perDesk
+    few-blocks = blocks-mono (cells-in ps) (mIn b) desk-cells (some-cells ps wd) (h .cells .1)
+
+    row-block : (x : ℕ) → x < mIn b → x / cells-in ps < perDesk ps (mIn b)
+    unfolding perDesk
+    row-block x hx = block-of (cells-in ps) (mIn b) x (some-cells ps wd) hx
+
+    -- a piece of w bytes, the j-th of its block
+    module _ (n c i j q w : ℕ) (e : c ≡ perDesk ps (mIn b)) (hn : n ≡ nIn b) (hi : i ≤ n) (some-bytes : 1 ≤ w) (hj : j < payload-bytes / w) (hq : q < row-most ps + opens-most ps) (inside : perDesk ps (mIn b) * i + q < perDesk ps (mIn b) * n + blocks-for (opens-in ps) (countIn b)) where
+      piece-within : Within b n (c * i) q (w * j) w (block-bytes + (block-bytes * n + (block-bytes * perDesk ps (mIn b) * i + (block-bytes * q + (payload-at + w * j)))))
+      piece-within =
+          let n8 : n ≤ ps = omega (arith, h .desks .1) in
+          let i8 : i ≤ ps = omega arith in
+          let z3 : c ≤ row-most ps = omega (arith, few-blocks) in
+          let f = ap (λ (y : ℕ). y * i) e in
+          let d = ap (λ (y : ℕ). perDesk ps (mIn b) * y) hn in
+          let l = h .size in
+          let r = mul-le-mul-left w hj in
+          let a = fit w in
+          record { desks = n8; before = mul-le-mul z3 i8; block = hq; payload = omega arith; is = omega arith; ends = omega arith }
+
+    cell-within : (i x c : ℕ) → c ≡ perDesk ps (mIn b) → i < nIn b → x < mIn b → Within b (nIn b) (c * i) (x / cells-in ps) (cell-bytes ps * (x % cells-in ps)) (cell-bytes ps) (cellPlace ps (nIn b) (mIn b) i x)
+    cell-within i x c e hi hx =
+        let a = row-block x hx in
+        let z = few-blocks in
+        piece-within (nIn b) c i (x % cells-in ps) (x / cells-in ps) (cell-bytes ps) e refl (omega arith) (omega arith) (mod-lt x (some-cells ps wd)) (omega arith)
+        (let g = mul-le-mul-left (perDesk ps (mIn b)) hi in omega arith)
+
+    open-within : (p c : ℕ) → c ≡ perDesk ps (mIn b) → p < countIn b → Within b (nIn b) (c * nIn b) (p / opens-in ps) (open-bytes ps * (p % opens-in ps)) (open-bytes ps) (openPlace ps (nIn b) (mIn b) p)
+    open-within p c e hp =
+        let a = block-of (opens-in ps) (countIn b) p (some-opens ps wd) hp in
+        let z : blocks-for (opens-in ps) (countIn b) ≤ opens-most ps = blocks-mono (opens-in ps) (countIn b) entries (some-opens ps wd) (h .few) in
+        piece-within (nIn b) c (nIn b) (p % opens-in ps) (p / opens-in ps) (open-bytes ps) e refl (omega arith) (omega arith) (mod-lt p (some-opens ps wd)) (omega arith) (omega arith)
+
+    -- at the code's own numbers
+    pub cell-where : (n m i x c : ℕ) → n ≡ nIn b → m ≡ mIn b → c ≡ perDesk ps m → i < n → x < m → Within b n (c * i) (x / cells-in ps) (cell-bytes ps * (x % cells-in ps)) (cell-bytes ps) (cellPlace ps n m i x)
+    cell-where n m i x c en em ec hi hx = rw (en, em) (cell-within i x c (ec ∙ ap (perDesk ps) em) (omega arith) (omega arith))
+
+    pub open-where : (n m p c count : ℕ) → n ≡ nIn b → m ≡ mIn b → c ≡ perDesk ps m → count ≡ countIn b → p < count → Within b n (c * n) (p / opens-in ps) (open-bytes ps * (p % opens-in ps)) (open-bytes ps) (openPlace ps n m p)
+    open-where n m p c count en em ec eq hp = rw (en, em) (open-within p c (ec ∙ ap (perDesk ps) em) (omega arith))
+
+    pub desks-within : block-bytes + block-bytes * nIn b ≤ length b
+    desks-within = omega (arith, h .size)
+
+  -- as the code picks them
+  pub cell-there : (b : List ℕ) (n m s i x at : ℕ) (c : Cell) → i ≡ s / desk-cells → x ≡ s % desk-cells → i < n → x < m → at ≡ cellPlace ps n m i x → c ≡ cellFrom b at → c ≡ cellFor b n m s
+  unfolding cellFor
+  cell-there b n m s i x at c ei ex hi hx ea e = e ∙ rw (← ei, ← ex, lt-ltb i n hi, lt-ltb x m hx, ea)
+
+  pub cell-past : (b : List ℕ) (n m s x : ℕ) (c : Cell) → x ≡ s % desk-cells → m ≤ x → c ≡ noCell → c ≡ cellFor b n m s
+  unfolding cellFor
+  cell-past b n m s x c ex h e = rw (← ex, le-ltb x m h) (cases (ltb (s / desk-cells) n) (λ t. rw t e) (λ t. rw t e))
+
+  pub cell-off : (b : List ℕ) (n m s i : ℕ) (c : Cell) → i ≡ s / desk-cells → n ≤ i → c ≡ noCell → c ≡ cellFor b n m s
+  unfolding cellFor
+  cell-off b n m s i c ei h e = rw (← ei, le-ltb i n h) e
+
+  pub desk-there : (b : List ℕ) (n i : ℕ) (d : Desk) → i < n → d ≡ deskFrom b i → d ≡ deskFor b n i
+  unfolding deskFor
+  desk-there b n i d h e = rw (lt-ltb i n h) e
+
+  pub desk-past : (b : List ℕ) (n i : ℕ) (d : Desk) → n ≤ i → d ≡ noDesk → d ≡ deskFor b n i
+  unfolding deskFor
+  desk-past b n i d h e = rw (le-ltb i n h) e
+
+  -- one row more
+  pub cells-more : (b : List ℕ) (n m s : ℕ) (l r : List ℕ) (c : Cell) → ((t : ℕ) → t < s → cellAt l t ≡ cellFor b n m t) → s < all-cells → c ≡ cellFor b n m s → CellPut l s c r
+      → (t : ℕ) → t < s + 1 → cellAt r t ≡ cellFor b n m t
+  cells-more b n m s l r c h hs e p t ht =
+      rw (p .is) (same-or t s
+      (λ q. rw q (cellAt-put l s c (p .full) hs (p .size) ∙ e))
+      (λ q. cellAt-other l s c (p .full) t q ∙ h t (less q)))
+    where
+      less : (t ≡ s → ⊥) → t < s
+      less q = omega arith
+
+  -- what is read is what the definitions of document 01's fields read --
+
+  place-past : (f : ℕ → ℕ) (t : ℕ) → (1 ≤ t → t ≤ ps → ⊥) → place (tab ps f) t ≡ 0
+  place-past f zero o = refl
+  place-past f (suc t) o = getD-tab-out f ps t 0 (past (decLt t ps))
+    where
+      past : Dec (t < ps) → ps ≤ t
+      past (yes h) = absurd (o (omega arith) h)
+      past (no h) = omega arith
+
+  pub place-words : (b : List ℕ) (p : ℕ) → place (wordsFrom b p) ≡ vecOf ps (part p (vector-bytes ps) b)
+  unfolding vecOf
+  place-words b p =
+      sym (from1-is 0 ps (λ t. getD (part p (vector-bytes ps) b) (2 * t + 0) 0 + 256 * getD (part p (vector-bytes ps) b) (2 * t + 1) 0) (place (wordsFrom b p))
+      (λ t h.
+      let e0 : p + (2 * t + 0) ≡ p + 2 * t = omega arith in
+      let e1 : p + (2 * t + 1) ≡ p + 2 * t + 1 = omega arith in
+      rw (getD-tab (λ t. wordAt b (p + 2 * t)) ps t 0 h, getD-part b p (vector-bytes ps) (2 * t + 0) (omega arith), getD-part b p (vector-bytes ps) (2 * t + 1) (omega arith), e0, e1))
+      (place-past (λ t. wordAt b (p + 2 * t))))
+
+  pub place-bytes : (b : List ℕ) (p : ℕ) → place (bytesFrom b p) ≡ marksOf ps (part p ps b)
+  unfolding marksOf
+  place-bytes b p =
+      sym (from1-is 0 ps (λ t. getD (part p ps b) t 0) (place (bytesFrom b p))
+      (λ t h. rw (getD-tab (λ t. getD b (p + t) 0) ps t 0 h, getD-part b p ps t h))
+      (place-past (λ t. getD b (p + t) 0)))
+
+  pub cell-read : (b : List ℕ) (p : ℕ) → cellM (cellFrom b p) ≡ cellOf ps (part p (cell-bytes ps) b)
+  unfolding cellOf
+  cell-read b p =
+      let z : p + 0 ≡ p = omega arith in
+      rw (place-words b (p + vector-at), getD-part b p (cell-bytes ps) 0 (omega arith), getD-part b p (cell-bytes ps) 1 (omega arith), part-part b p vector-at (vector-bytes ps) (cell-bytes ps) (omega arith), z)
+
+  pub open-read : (b : List ℕ) (p : ℕ) → openM (openFrom b p) ≡ openOf ps (part p (open-bytes ps) b)
+  unfolding openOf
+  open-read b p =
+      rw (place-words b (p + vector-at), place-bytes b (p + after-vector ps), getD-part b p (open-bytes ps) 1 (omega arith), getD-part b p (open-bytes ps) 2 (omega arith), part-part b p vector-at (vector-bytes ps) (open-bytes ps) (omega arith), part-part b p (after-vector ps) ps (open-bytes ps) (omega arith))

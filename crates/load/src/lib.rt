@@ -9,6 +9,7 @@ ghost use Rattle.table.specs.Value.{desk-cells, all-cells, entries, open-width}
 ghost use Rattle.table.specs.Model.{model};
 ghost use Rattle.table.specs.Sound.{Sound};
 ghost use Rattle.table.specs.Begin.{freshTable};
+ghost use Rattle.image.specs.Limits.{block-bytes, payload-at, payload-bytes, vector-bytes, cell-bytes, open-bytes, row-most, rows-most, opens-most};
 ghost use Rattle.image.specs.Encode.{perDesk, encode};
 ghost use Rattle.image.specs.Decode.{nIn, mIn, countIn, openPlace};
 ghost use Rattle.load.specs.Read.{wordAt, wordsFrom, bytesFrom, cellFrom, openFrom, deskFrom, deskFor, cellFor, Fits, CellsRead};
@@ -17,7 +18,17 @@ ghost use Rattle.load.specs.Back.{ReadAs, Reads};
 ghost use Rattle.load.specs.Loading.{Answers};
 use clock::Clock;
 use clock::PLACES;
+use image::AFTER_VECTOR;
+use image::APPLIED_AT;
 use image::BLOCK;
+use image::CELL_BYTES;
+use image::CELLS_IN;
+use image::IMAGE;
+use image::OPEN_BYTES;
+use image::OPENS_IN;
+use image::PAYLOAD_AT;
+use image::VECTOR_AT;
+use image::VECTOR_BYTES;
 use table::CELL;
 use table::CELLS;
 use table::Cell;
@@ -53,8 +64,8 @@ fn word_at(b: &[u8], at: usize) -> u16
 }
 
 fn words_at(b: &[u8], at: usize) -> [u16; PLACES]
-    requires { ⌜ at + 16 ≤ length (now b) ⌝ }
-    ensures { λ r. ⌜ r ≡ wordsFrom (now (b .entry)) at ⌝ }
+    requires { ⌜ at + vector-bytes places ≤ length (now b) ⌝ }
+    ensures { λ r. ⌜ r ≡ wordsFrom places (now (b .entry)) at ⌝ }
 {
     let mut v = [0u16; PLACES];
     let mut t = 0;
@@ -66,8 +77,8 @@ fn words_at(b: &[u8], at: usize) -> [u16; PLACES]
 }
 
 fn bytes_at(b: &[u8], at: usize) -> [u16; PLACES]
-    requires { ⌜ at + 8 ≤ length (now b) ⌝ }
-    ensures { λ r. ⌜ r ≡ bytesFrom (now (b .entry)) at ⌝ }
+    requires { ⌜ at + places ≤ length (now b) ⌝ }
+    ensures { λ r. ⌜ r ≡ bytesFrom places (now (b .entry)) at ⌝ }
 {
     let mut v = [0u16; PLACES];
     let mut t = 0;
@@ -79,12 +90,12 @@ fn bytes_at(b: &[u8], at: usize) -> [u16; PLACES]
 }
 
 fn read_cell(b: &[u8], at: usize) -> Cell
-    requires { ⌜ at + 20 ≤ length (now b) ⌝ }
-    ensures { λ r. ⌜ r ≡ cellFrom (now (b .entry)) at ⌝ }
+    requires { ⌜ at + cell-bytes places ≤ length (now b) ⌝ }
+    ensures { λ r. ⌜ r ≡ cellFrom places (now (b .entry)) at ⌝ }
 {
     let writer = wide(b[at]);
     let status = wide(b[at + 1]);
-    let vector = words_at(b, at + 4);
+    let vector = words_at(b, at + VECTOR_AT);
     Cell {
         writer: writer,
         status: status,
@@ -93,14 +104,14 @@ fn read_cell(b: &[u8], at: usize) -> Cell
 }
 
 fn read_open(b: &[u8], at: usize) -> Open
-    requires { ⌜ at + 28 ≤ length (now b) ⌝ }
-    ensures { λ r. ⌜ r ≡ openFrom (now (b .entry)) at ⌝ }
+    requires { ⌜ at + open-bytes places ≤ length (now b) ⌝ }
+    ensures { λ r. ⌜ r ≡ openFrom places (now (b .entry)) at ⌝ }
 {
     let writer = wide(b[at]);
     let status = wide(b[at + 1]);
     let cell = wide(b[at + 2]);
-    let vector = words_at(b, at + 4);
-    let marks = bytes_at(b, at + 20);
+    let vector = words_at(b, at + VECTOR_AT);
+    let marks = bytes_at(b, at + AFTER_VECTOR);
     Open {
         writer: writer,
         status: status,
@@ -112,12 +123,12 @@ fn read_open(b: &[u8], at: usize) -> Open
 
 // The block of desk i, from 0.
 fn read_desk(b: &[u8], i: usize) -> Desk
-    requires { ⌜ (i < places) × (1024 + 512 * i ≤ length (now b)) ⌝ }
-    ensures { λ r. ⌜ r ≡ deskFrom (now (b .entry)) i ⌝ }
+    requires { ⌜ (i < places) × (block-bytes + block-bytes * i + block-bytes ≤ length (now b)) ⌝ }
+    ensures { λ r. ⌜ r ≡ deskFrom places (now (b .entry)) i ⌝ }
 {
-    let at = BLOCK + (BLOCK * i + 8);
+    let at = BLOCK + (BLOCK * i + APPLIED_AT);
     let applied = words_at(b, at);
-    let v = words_at(b, at + 16);
+    let v = words_at(b, at + VECTOR_BYTES);
     let clock = Clock { at: v };
     Desk {
         applied: applied,
@@ -129,12 +140,12 @@ fn read_desk(b: &[u8], i: usize) -> Desk
 
 // The sizes are in range, and the image is as long as they say.
 fn sizes_fit(b: &[u8]) -> bool
-    ensures { λ r. ⌜ Says r (Fits (now (b .entry))) ⌝ }
+    ensures { λ r. ⌜ Says r (Fits places (now (b .entry))) ⌝ }
 {
     if b.len() < BLOCK {
         return false;
     }
-    let n = size(b[4]);
+    let n = size(b[PAYLOAD_AT]);
     let m = size(b[5]);
     let count = size(b[6]);
     if n == 0 {
@@ -159,8 +170,8 @@ fn sizes_fit(b: &[u8]) -> bool
 }
 
 fn desk_or(b: &[u8], n: usize, i: usize) -> Desk
-    requires { ⌜ (n ≤ places) × (512 + 512 * n ≤ length (now b)) ⌝ }
-    ensures { λ r. ⌜ r ≡ deskFor (now (b .entry)) n i ⌝ }
+    requires { ⌜ (n ≤ places) × (block-bytes + block-bytes * n ≤ length (now b)) ⌝ }
+    ensures { λ r. ⌜ r ≡ deskFor places (now (b .entry)) n i ⌝ }
 {
     if i < n {
         return read_desk(b, i);
@@ -174,8 +185,8 @@ fn desk_or(b: &[u8], n: usize, i: usize) -> Desk
 }
 
 fn read_desks(b: &[u8], n: usize) -> [Desk; PLACES]
-    requires { ⌜ (n ≤ places) × (512 + 512 * n ≤ length (now b)) ⌝ }
-    ensures { λ r. ⌜ r ≡ tab places (deskFor (now (b .entry)) n) ⌝ }
+    requires { ⌜ (n ≤ places) × (block-bytes + block-bytes * n ≤ length (now b)) ⌝ }
+    ensures { λ r. ⌜ r ≡ tab places (deskFor places (now (b .entry)) n) ⌝ }
 {
     let first = desk_or(b, n, 0);
     let mut desks = [first; PLACES];
@@ -190,22 +201,22 @@ fn read_desks(b: &[u8], n: usize) -> [Desk; PLACES]
 
 // Where a field stands: r of the payload of a block, the q-th after k blocks that follow the desks'.
 fn field_place(n: usize, k: usize, q: usize, r: usize) -> usize
-    requires { ⌜ (n ≤ places) × ((k ≤ 24) × ((q < 4) × (r < 504))) ⌝ }
-    ensures { λ a. ⌜ a ≡ 512 + (512 * n + (512 * k + (512 * q + (4 + r)))) ⌝ }
+    requires { ⌜ (n ≤ places) × ((k ≤ rows-most places) × ((q < row-most places + opens-most places) × (r < payload-bytes))) ⌝ }
+    ensures { λ a. ⌜ a ≡ block-bytes + (block-bytes * n + (block-bytes * k + (block-bytes * q + (payload-at + r)))) ⌝ }
 {
-    BLOCK + (BLOCK * n + (BLOCK * k + (BLOCK * q + (4 + r))))
+    BLOCK + (BLOCK * n + (BLOCK * k + (BLOCK * q + (PAYLOAD_AT + r))))
 }
 
 // Row s of the cells, where a desk's cells take c blocks.
 fn cell_or(b: &[u8], n: usize, m: usize, c: usize, s: usize) -> Cell
-    requires { ⌜ (Fits (now b)) × ((n ≡ nIn (now b)) × ((m ≡ mIn (now b)) × ((c ≡ perDesk m) × (s < all-cells)))) ⌝ }
-    ensures { λ r. ⌜ r ≡ cellFor (now (b .entry)) n m s ⌝ }
+    requires { ⌜ (Fits places (now b)) × ((n ≡ nIn (now b)) × ((m ≡ mIn (now b)) × ((c ≡ perDesk places m) × (s < all-cells)))) ⌝ }
+    ensures { λ r. ⌜ r ≡ cellFor places (now (b .entry)) n m s ⌝ }
 {
     let i = s / CELLS;
     let x = s % CELLS;
     if i < n {
         if x < m {
-            let at = field_place(n, c * i, x / 25, 20 * (x % 25));
+            let at = field_place(n, c * i, x / CELLS_IN, CELL_BYTES * (x % CELLS_IN));
             return read_cell(b, at);
         }
     }
@@ -218,8 +229,8 @@ fn cell_or(b: &[u8], n: usize, m: usize, c: usize, s: usize) -> Cell
 }
 
 fn read_cells(b: &[u8], n: usize, m: usize, c: usize, cells: &mut [u16; PLACES * CELLS * CELL])
-    requires { ⌜ (Fits (now b)) × ((n ≡ nIn (now b)) × ((m ≡ mIn (now b)) × (c ≡ perDesk m))) ⌝ }
-    ensures { λ _. ⌜ CellsRead (now (b .entry)) n m (now (cells .exit)) ⌝ }
+    requires { ⌜ (Fits places (now b)) × ((n ≡ nIn (now b)) × ((m ≡ mIn (now b)) × (c ≡ perDesk places m))) ⌝ }
+    ensures { λ _. ⌜ CellsRead places (now (b .entry)) n m (now (cells .exit)) ⌝ }
 {
     let mut s = 0;
     while s < PLACES * CELLS {
@@ -231,10 +242,10 @@ fn read_cells(b: &[u8], n: usize, m: usize, c: usize, cells: &mut [u16; PLACES *
 
 // Open write p of the image.
 fn open_of(b: &[u8], n: usize, m: usize, c: usize, count: usize, p: usize) -> Open
-    requires { ⌜ (Fits (now b)) × ((n ≡ nIn (now b)) × ((m ≡ mIn (now b)) × ((c ≡ perDesk m) × ((count ≡ countIn (now b)) × (p < count))))) ⌝ }
-    ensures { λ r. ⌜ r ≡ openFrom (now (b .entry)) (openPlace n m p) ⌝ }
+    requires { ⌜ (Fits places (now b)) × ((n ≡ nIn (now b)) × ((m ≡ mIn (now b)) × ((c ≡ perDesk places m) × ((count ≡ countIn (now b)) × (p < count))))) ⌝ }
+    ensures { λ r. ⌜ r ≡ openFrom places (now (b .entry)) (openPlace places n m p) ⌝ }
 {
-    let at = field_place(n, c * n, p / 18, 28 * (p % 18));
+    let at = field_place(n, c * n, p / OPENS_IN, OPEN_BYTES * (p % OPENS_IN));
     read_open(b, at)
 }
 
@@ -253,9 +264,9 @@ fn number_of(o: Open) -> u16 {
 
 // Each goes into the entry where a search for it begins, or a free one behind that.
 fn read_opens(b: &[u8], n: usize, m: usize, c: usize, count: usize, opens: &mut [u16; OPENS * OPEN])
-    requires { ⌜ (Fits (now b)) × ((n ≡ nIn (now b)) × ((m ≡ mIn (now b)) × ((c ≡ perDesk m) × (count ≡ countIn (now b))))) ⌝ }
+    requires { ⌜ (Fits places (now b)) × ((n ≡ nIn (now b)) × ((m ≡ mIn (now b)) × ((c ≡ perDesk places m) × (count ≡ countIn (now b))))) ⌝ }
     requires { ⌜ now opens ≡ replicate (entries * open-width) 0 ⌝ }
-    ensures { λ _. ⌜ OpensRead (now (b .entry)) n m count (now (opens .exit)) ⌝ }
+    ensures { λ _. ⌜ OpensRead places (now (b .entry)) n m count (now (opens .exit)) ⌝ }
 {
     let mut p = 0;
     while p < count {
@@ -287,10 +298,10 @@ fn candidate(b: &[u8]) -> Table
 }
 
 fn read_table(b: &[u8]) -> Table
-    requires { ⌜ Fits (now b) ⌝ }
-    ensures { λ r. ⌜ ReadAs (now (b .entry)) r ⌝ }
+    requires { ⌜ Fits places (now b) ⌝ }
+    ensures { λ r. ⌜ ReadAs places (now (b .entry)) r ⌝ }
 {
-    let n = size(b[4]);
+    let n = size(b[PAYLOAD_AT]);
     let m = size(b[5]);
     let count = size(b[6]);
     let desks = read_desks(b, n);
@@ -340,7 +351,7 @@ fn saves_to(
     requires { ⌜ Sound (core .n) (core .m) (core .desks) (now cells) (now opens) ⌝ }
     ensures { λ r. ⌜ Says r (encode (model (core .n) (core .m) (core .desks) (now (cells .entry)) (now (opens .entry))) ≡ now (b .entry)) ⌝ }
 {
-    let mut out = [0u8; 18944];
+    let mut out = [0u8; IMAGE];
     let n = image::save_parts(core, cells, opens, &mut out);
     if b.len() != n {
         return false;

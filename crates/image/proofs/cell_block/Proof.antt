@@ -1,3 +1,5 @@
+use Rattle.clock.specs.Vectors.{places}
+use Rattle.image.specs.Limits.{payload-at, cell-bytes, cells-in}
 use Rattle.image.specs.Parts.{cellPiece, length-cellPiece, one-more, filled}
 use Rattle.laws.specs.Cat.{cat}
 use lib.Seq.{sets}
@@ -15,10 +17,10 @@ use Rattle.image.proofs.put_head.Reads as put-head-reads
 use Rattle.image.proofs.seal.Reads as seal-reads
 
 abbrev Inv-loop : tie.InvT-loop
-Inv-loop at cells i q b₀ j₀ b j = (j ≤ 25) × (b ≡ sets b₀ 4 (cat (cellPiece cells i q) j))
+Inv-loop at cells i q b₀ j₀ b j = (j ≤ cells-in places) × (b ≡ sets b₀ payload-at (cat (cellPiece places cells i q) j))
 
 abbrev μ-loop : tie.MeasureT-loop
-μ-loop at cells i q b₀ j₀ b j = 25 - j
+μ-loop at cells i q b₀ j₀ b j = cells-in places - j
 
 -- src/lib.rt:199:5
 loop-holds : tie.Need-loop-holds Inv-loop μ-loop
@@ -28,13 +30,13 @@ loop-holds c = search needs
 -- src/lib.rt:199:5
 loop-again : tie.Need-loop-again Inv-loop μ-loop
 loop-again c = let L = c .before .before .before .before .loop in let A = c .before .before .before .before .before .before .before .args in
-    (search needs, one-more (cellPiece (A .cells .now) (A .i) (A .q)) 20 (length-cellPiece (A .cells .now) (A .i) (A .q)) (c .before .before .before .before .before .put-head .last .0) (L .b) (c .put-cell .last .0) _ 4 (L .j) (4 + 20 * L .j) (L .inv .1) refl (c .before .before .cell-or .ensures .bytes) (c .put-cell .ensures))
+    (search needs, one-more (cellPiece places (A .cells .now) (A .i) (A .q)) (cell-bytes places) (length-cellPiece places (A .cells .now) (A .i) (A .q)) (c .before .before .before .before .before .put-head .last .0) (L .b) (c .put-cell .last .0) _ payload-at (L .j) (payload-at + cell-bytes places * L .j) (L .inv .1) refl (c .before .before .cell-or .ensures .bytes) (c .put-cell .ensures))
 
 -- src/lib.rt:192:1
 returns : tie.Need-returns Inv-loop μ-loop
 returns c = let L = c .before .before .before .loop in let A = c .before .before .before .before .before .before .args in
-    let e : L .j ≡ 25 = omega arith in
-    filled 3 (A .at) 25 20 (cellPiece (A .cells .now) (A .i) (A .q)) (c .before .before .before .before .put-head .last .0) (L .b) (c .seal .last .0) (length-cellPiece (A .cells .now) (A .i) (A .q)) (omega arith) (c .before .before .before .before .put-head .ensures) (L .inv .1 ∙ rw e) (c .seal .ensures)
+    let e : L .j ≡ cells-in places = omega arith in
+    filled 3 (A .at) (cells-in places) (cell-bytes places) (cellPiece places (A .cells .now) (A .i) (A .q)) (c .before .before .before .before .put-head .last .0) (L .b) (c .seal .last .0) (length-cellPiece places (A .cells .now) (A .i) (A .q)) (omega arith) (c .before .before .before .before .put-head .ensures) (L .inv .1 ∙ rw e) (c .seal .ensures)
 
 pub cell-block-spec : {M : Type 1} → statement M
 cell-block-spec =

@@ -1,3 +1,4 @@
+use Rattle.clock.specs.Vectors.{places}
 use Rattle.image.specs.Parts.{cell-there, cell-past}
 use mathlib.Core.Path.{refl}
 use borrow.Author.Needs.{needs}
@@ -21,11 +22,11 @@ cell-at-requires c κs = search needs
 
 -- src/lib.rt:181:9
 returns : tie.Need-returns
-returns c = let A = c .before .before .args in cell-there (A .cells .now) (A .i) (A .x) _ _ (c .before .before .pre .0) (c .before .if1 .taken) refl (c .before .before .pre .1) (c .cell-at .ensures)
+returns c = let A = c .before .before .args in cell-there places (A .cells .now) (A .i) (A .x) _ _ (c .before .before .pre .0) (c .before .if1 .taken) refl (c .before .before .pre .1) (c .cell-at .ensures)
 
 -- src/lib.rt:176:1
 returns-2 : tie.Need-returns-2
-returns-2 c = let A = c .before .args in cell-past (A .cells .now) (A .i) (A .x) _ (c .if1 .left) refl
+returns-2 c = let A = c .before .args in cell-past places (A .cells .now) (A .i) (A .x) _ (c .if1 .left) refl
 
 pub cell-or-spec : {M : Type 1} → statement M
 cell-or-spec = tie.close (tie.spec mul-cell-at add-cell-at cell-at-requires returns returns-2)

@@ -1,3 +1,5 @@
+use Rattle.clock.specs.Vectors.{places}
+use Rattle.image.specs.Limits.{rows-most}
 use native.Mathlib.Nat.{mul-le-mul}
 use native.Mathlib.Omega.{arith}
 use mathlib.Core.Path.{refl}
@@ -14,15 +16,15 @@ add-result c = search needs
 
 -- src/lib.rt:437:13
 mul-result : tie.Need-mul-result
-mul-result c = let h : c .args .c * c .args .n ≤ 24 = mul-le-mul (c .pre .1) (c .pre .0) in omega arith
+mul-result c = let h : c .args .c * c .args .n ≤ rows-most places = mul-le-mul (c .pre .1) (c .pre .0) in omega arith
 
 -- src/lib.rt:437:5
 add-result-2 : tie.Need-add-result-2
-add-result-2 c = let h : c .args .c * c .args .n ≤ 24 = mul-le-mul (c .pre .1) (c .pre .0) in omega arith
+add-result-2 c = let h : c .args .c * c .args .n ≤ rows-most places = mul-le-mul (c .pre .1) (c .pre .0) in omega arith
 
 -- src/lib.rt:433:1
 returns : tie.Need-returns
-returns c = let h : c .args .c * c .args .n ≤ 24 = mul-le-mul (c .pre .1) (c .pre .0) in (refl, omega arith)
+returns c = let h : c .args .c * c .args .n ≤ rows-most places = mul-le-mul (c .pre .1) (c .pre .0) in (refl, omega arith)
 
 pub cells-end-spec : {M : Type 1} → statement M
 cells-end-spec = tie.close (tie.spec add-result mul-result add-result-2 returns)

@@ -1,3 +1,4 @@
+use Rattle.image.specs.Limits.{check-at}
 use Rattle.image.specs.Check.{weighed, checkOf, check-more}
 use Rattle.laws.specs.Sum.{sum}
 use mathlib.Core.Path.{_≡_, refl, ap, _∙_, sym}
@@ -12,10 +13,10 @@ use Rattle.image.proofs.check.Lts as lts
 use Rattle.image.proofs.term.Reads as term-reads
 
 abbrev Inv-loop : tie.InvT-loop
-Inv-loop b c₀ j₀ c j = (j ≤ 508) × ((c ≤ 1 + 129540 * j) × (c ≡ 1 + sum j (weighed b)))
+Inv-loop b c₀ j₀ c j = (j ≤ check-at) × ((c ≤ 1 + check-at * 255 * j) × (c ≡ 1 + sum j (weighed b)))
 
 abbrev μ-loop : tie.MeasureT-loop
-μ-loop b c₀ j₀ c j = 508 - j
+μ-loop b c₀ j₀ c j = check-at - j
 
 -- src/lib.rt:44:5
 loop-holds : tie.Need-loop-holds Inv-loop μ-loop
@@ -30,7 +31,7 @@ loop-again c = let L = c .before .before .before .loop in
 -- src/lib.rt:38:1
 returns : tie.Need-returns Inv-loop μ-loop
 unfolding checkOf
-returns c = let L = c .before .loop in let e : L .j ≡ 508 = omega arith in L .inv .1 .1 ∙ rw e
+returns c = let L = c .before .loop in let e : L .j ≡ check-at = omega arith in L .inv .1 .1 ∙ rw e
 
 pub check-spec : {M : Type 1} → statement M
 check-spec =

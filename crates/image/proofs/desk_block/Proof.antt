@@ -1,10 +1,11 @@
+use Rattle.image.specs.Limits.{wide}
 use Prim.Native.Nat.{ℕ}
 use mathlib.Core.List.{List}
 use Rattle.image.specs.Block.{head, head-put, fill-desk, block-is, desk-steps}
 use Rattle.image.specs.Fill.{pad}
 use Rattle.image.specs.Fields.{length-desk}
 use Rattle.image.specs.Encode.{deskBytes}
-use Rattle.clock.specs.Vectors.{place}
+use Rattle.clock.specs.Vectors.{places, place}
 use lib.Seq.{sets}
 use native.Mathlib.Omega.{arith}
 use mathlib.Core.Path.{_≡_, refl, ap, _∙_, sym}
@@ -21,7 +22,7 @@ use Rattle.image.proofs.seal.Reads as seal-reads
 -- src/lib.rt:139:1
 returns : tie.Need-returns
 returns c = let A = c .before .before .before .before .before .before .before .before .before .before .before .before .args in
-    desk-steps (A .at) (A .i) (c .before .before .before .before .before .before .before .before .before .byte .result) (A .d .applied) (A .d .clock .at) (c .before .before .before .before .before .before .before .before .before .before .put-head .last .0) (c .before .before .before .before .before .before .put-words .last .0) (c .before .before .put-words2 .last .0) (c .seal .last .0)
+    desk-steps places wide (A .at) (A .i) (c .before .before .before .before .before .before .before .before .before .byte .result) (A .d .applied) (A .d .clock .at) (c .before .before .before .before .before .before .before .before .before .before .put-head .last .0) (c .before .before .before .before .before .before .put-words .last .0) (c .before .before .put-words2 .last .0) (c .seal .last .0)
     (c .before .before .before .before .before .before .before .before .before .byte .ensures) (c .before .before .before .before .before .before .before .before .before .before .put-head .ensures) (c .before .before .before .before .before .before .put-words .ensures) (c .before .before .put-words2 .ensures) (c .seal .ensures)
 
 pub desk-block-spec : {M : Type 1} → statement M

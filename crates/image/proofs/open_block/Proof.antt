@@ -1,3 +1,5 @@
+use Rattle.clock.specs.Vectors.{places}
+use Rattle.image.specs.Limits.{payload-at, open-bytes, opens-in}
 use Rattle.image.specs.Parts.{openPiece, length-openPiece, one-more, filled}
 use Rattle.image.specs.Block.{openRaw}
 use Rattle.laws.specs.Cat.{cat}
@@ -16,10 +18,10 @@ use Rattle.image.proofs.put_open.Reads as put-open-reads
 use Rattle.image.proofs.seal.Reads as seal-reads
 
 abbrev Inv-loop : tie.InvT-loop
-Inv-loop at opens order count q b₀ j₀ b j = (j ≤ 18) × (b ≡ sets b₀ 4 (cat (openPiece opens order count q) j))
+Inv-loop at opens order count q b₀ j₀ b j = (j ≤ opens-in places) × (b ≡ sets b₀ payload-at (cat (openPiece places opens order count q) j))
 
 abbrev μ-loop : tie.MeasureT-loop
-μ-loop at opens order count q b₀ j₀ b j = 18 - j
+μ-loop at opens order count q b₀ j₀ b j = opens-in places - j
 
 -- src/lib.rt:235:5
 loop-holds : tie.Need-loop-holds Inv-loop μ-loop
@@ -29,13 +31,13 @@ loop-holds c = search needs
 -- src/lib.rt:235:5
 loop-again : tie.Need-loop-again Inv-loop μ-loop
 loop-again c = let L = c .before .before .before .before .loop in let A = c .before .before .before .before .before .before .before .args in
-    (search needs, one-more (openPiece (A .opens .now) (A .order .now) (A .count) (A .q)) 28 (length-openPiece (A .opens .now) (A .order .now) (A .count) (A .q)) (c .before .before .before .before .before .put-head .last .0) (L .b) (c .put-open .last .0) _ 4 (L .j) (4 + 28 * L .j) (L .inv .1) refl (ap openRaw (c .before .before .open-or .ensures .is)) (c .put-open .ensures))
+    (search needs, one-more (openPiece places (A .opens .now) (A .order .now) (A .count) (A .q)) (open-bytes places) (length-openPiece places (A .opens .now) (A .order .now) (A .count) (A .q)) (c .before .before .before .before .before .put-head .last .0) (L .b) (c .put-open .last .0) _ payload-at (L .j) (payload-at + open-bytes places * L .j) (L .inv .1) refl (ap (openRaw places) (c .before .before .open-or .ensures .is)) (c .put-open .ensures))
 
 -- src/lib.rt:228:1
 returns : tie.Need-returns Inv-loop μ-loop
 returns c = let L = c .before .before .before .loop in let A = c .before .before .before .before .before .before .args in
-    let e : L .j ≡ 18 = omega arith in
-    filled 4 (A .at) 18 28 (openPiece (A .opens .now) (A .order .now) (A .count) (A .q)) (c .before .before .before .before .put-head .last .0) (L .b) (c .seal .last .0) (length-openPiece (A .opens .now) (A .order .now) (A .count) (A .q)) (omega arith) (c .before .before .before .before .put-head .ensures) (L .inv .1 ∙ rw e) (c .seal .ensures)
+    let e : L .j ≡ opens-in places = omega arith in
+    filled 4 (A .at) (opens-in places) (open-bytes places) (openPiece places (A .opens .now) (A .order .now) (A .count) (A .q)) (c .before .before .before .before .put-head .last .0) (L .b) (c .seal .last .0) (length-openPiece places (A .opens .now) (A .order .now) (A .count) (A .q)) (omega arith) (c .before .before .before .before .put-head .ensures) (L .inv .1 ∙ rw e) (c .seal .ensures)
 
 pub open-block-spec : {M : Type 1} → statement M
 open-block-spec =

@@ -1,3 +1,4 @@
+use Rattle.table.specs.Value.{entries}
 use Rattle.image.specs.Order.{ahead, Ordered, ordered-none, ordered-next, known-room, low-own}
 use Rattle.image.specs.Counted.{counted, low}
 use Rattle.table.specs.Model.{appliedM, opensM}
@@ -17,7 +18,7 @@ use Rattle.image.proofs.order_of.Reads as order-of-reads
 use Rattle.image.proofs.own_count.Reads as own-count-reads
 
 abbrev Inv-loop : tie.InvT-loop
-Inv-loop opens desks n order₀ count₀ u₀ order count u = (u ≤ n) × (Ordered opens (ahead n desks u) order count × (length order ≡ 64))
+Inv-loop opens desks n order₀ count₀ u₀ order count u = (u ≤ n) × (Ordered opens (ahead n desks u) order count × (length order ≡ entries))
 
 abbrev μ-loop : tie.MeasureT-loop
 μ-loop opens desks n order₀ count₀ u₀ order count u = n - u

@@ -5,14 +5,10 @@ use Rattle.image.proofs.per_desk.Tie as tie
 use Rattle.image.proofs.per_desk.Reads as reads
 use Rattle.image.proofs.per_desk.Lts as lts
 
--- src/lib.rt:421:6
-add-result : tie.Need-add-result
-add-result c = search needs
-
 -- src/lib.rt:417:1
 returns : tie.Need-returns
 unfolding perDesk
 returns c = search needs
 
 pub per-desk-spec : {M : Type 1} → statement M
-per-desk-spec = tie.close (tie.spec add-result returns)
+per-desk-spec = tie.close (tie.spec (λ c. search needs) (λ c. search needs) returns)

@@ -1,3 +1,4 @@
+use Rattle.clock.specs.Vectors.{places}
 use Rattle.image.specs.Block.{cell-steps}
 use mathlib.Core.Path.{_≡_, refl, ap, _∙_, sym}
 use borrow.Author.Needs.{needs}
@@ -10,7 +11,7 @@ use Rattle.image.proofs.put_words.Reads as put-words-reads
 
 -- src/lib.rt:103:1
 returns : tie.Need-returns
-returns c = let A = c .before .before .before .before .before .args in c .put-words .ensures ∙ rw (c .before .before .before .before .byte .ensures, c .before .before .before .byte2 .ensures) (cell-steps (A .b .now) (A .at) (A .c))
+returns c = let A = c .before .before .before .before .before .args in c .put-words .ensures ∙ rw (c .before .before .before .before .byte .ensures, c .before .before .before .byte2 .ensures) (cell-steps places (A .b .now) (A .at) (A .c))
 
 pub put-cell-spec : {M : Type 1} → statement M
 put-cell-spec =

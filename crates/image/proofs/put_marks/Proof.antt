@@ -1,3 +1,4 @@
+use Rattle.clock.specs.Vectors.{places}
 use Rattle.image.specs.Fill.{tab-put}
 use Rattle.image.specs.Encode.{markBytes}
 use Rattle.laws.specs.Tab.{tab, tabFrom}
@@ -14,10 +15,10 @@ use Rattle.image.proofs.put_marks.Lts as lts
 use Rattle.image.proofs.byte.Reads as byte-reads
 
 abbrev Inv-loop : tie.InvT-loop
-Inv-loop b₀ at v t₀ b t = (t ≤ 8) × (b ≡ sets b₀ at (tab t (λ k. getD v k 0)))
+Inv-loop b₀ at v t₀ b t = (t ≤ places) × (b ≡ sets b₀ at (tab t (λ k. getD v k 0)))
 
 abbrev μ-loop : tie.MeasureT-loop
-μ-loop b₀ at v t₀ b t = 8 - t
+μ-loop b₀ at v t₀ b t = places - t
 
 -- src/lib.rt:97:5
 loop-holds : tie.Need-loop-holds Inv-loop μ-loop
@@ -36,7 +37,7 @@ loop-again c = let L = c .before .before .loop in let A = c .before .before .bef
 -- src/lib.rt:91:1
 returns : tie.Need-returns Inv-loop μ-loop
 unfolding markBytes
-returns c = let L = c .before .loop in let e : L .t ≡ 8 = omega arith in L .inv .1 ∙ rw e
+returns c = let L = c .before .loop in let e : L .t ≡ places = omega arith in L .inv .1 ∙ rw e
 
 pub put-marks-spec : {M : Type 1} → statement M
 put-marks-spec =

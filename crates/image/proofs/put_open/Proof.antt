@@ -1,3 +1,4 @@
+use Rattle.clock.specs.Vectors.{places}
 use Rattle.image.specs.Block.{open-steps}
 use mathlib.Core.Path.{_≡_, refl, ap, _∙_, sym}
 use borrow.Author.Needs.{needs}
@@ -11,7 +12,7 @@ use Rattle.image.proofs.put_words.Reads as put-words-reads
 
 -- src/lib.rt:115:1
 returns : tie.Need-returns
-returns c = let A = c .before .before .before .before .before .before .before .before .before .args in c .put-marks .ensures ∙ rw (c .before .before .before .put-words .ensures, c .before .before .before .before .before .before .before .before .byte .ensures, c .before .before .before .before .before .before .before .byte2 .ensures, c .before .before .before .before .before .before .byte3 .ensures) (open-steps (A .b .now) (A .at) (A .o))
+returns c = let A = c .before .before .before .before .before .before .before .before .before .args in c .put-marks .ensures ∙ rw (c .before .before .before .put-words .ensures, c .before .before .before .before .before .before .before .before .byte .ensures, c .before .before .before .before .before .before .before .byte2 .ensures, c .before .before .before .before .before .before .byte3 .ensures) (open-steps places (A .b .now) (A .at) (A .o))
 
 pub put-open-spec : {M : Type 1} → statement M
 put-open-spec =

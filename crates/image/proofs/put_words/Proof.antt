@@ -1,3 +1,4 @@
+use Rattle.clock.specs.Vectors.{places}
 use Rattle.image.specs.Fill.{sets-more}
 use Rattle.image.specs.Encode.{word, words}
 use Rattle.laws.specs.Cat.{cat, length-cat}
@@ -14,10 +15,10 @@ use Rattle.image.proofs.put_words.Lts as lts
 use Rattle.image.proofs.put_word.Reads as put-word-reads
 
 abbrev Inv-loop : tie.InvT-loop
-Inv-loop b₀ at v t₀ b t = (t ≤ 8) × (b ≡ sets b₀ at (cat (λ k. word (getD v k 0)) t))
+Inv-loop b₀ at v t₀ b t = (t ≤ places) × (b ≡ sets b₀ at (cat (λ k. word (getD v k 0)) t))
 
 abbrev μ-loop : tie.MeasureT-loop
-μ-loop b₀ at v t₀ b t = 8 - t
+μ-loop b₀ at v t₀ b t = places - t
 
 -- src/lib.rt:85:5
 loop-holds : tie.Need-loop-holds Inv-loop μ-loop
@@ -32,7 +33,7 @@ loop-again c = let L = c .before .before .before .loop in let A = c .before .bef
 -- src/lib.rt:80:1
 returns : tie.Need-returns Inv-loop μ-loop
 unfolding words
-returns c = let L = c .before .loop in let e : L .t ≡ 8 = omega arith in L .inv .1 ∙ rw e
+returns c = let L = c .before .loop in let e : L .t ≡ places = omega arith in L .inv .1 ∙ rw e
 
 pub put-words-spec : {M : Type 1} → statement M
 put-words-spec =

@@ -1,3 +1,5 @@
+use Rattle.image.specs.Limits.{wide}
+use Rattle.clock.specs.Vectors.{places}
 use Rattle.image.specs.Saving.{by-rule, by-room, as-image}
 use Rattle.image.specs.Saved.{length-is}
 use Rattle.laws.specs.Says.{apart}
@@ -23,15 +25,15 @@ image-length-requires c κs = let A = (c .before .before .before .before .before
 
 -- src/lib.rt:539:9
 returns-2 : tie.Need-returns-2
-returns-2 c = let A = (c .before .before .before .before .before .before .before .before .before .before .args) in let t = A .t in let S = c .before .before .before .keeps-rules .ensures .to (not-false _ (c .before .before .if1 .left)) in by-room S (omega (arith, length-is (t .core .n) (t .core .m) (t .core .desks) (t .cells) (t .opens) S, c .before .image-length .ensures, c .if2 .taken)) refl
+returns-2 c = let A = (c .before .before .before .before .before .before .before .before .before .before .args) in let t = A .t in let S = c .before .before .before .keeps-rules .ensures .to (not-false _ (c .before .before .if1 .left)) in by-room S (omega (arith, length-is places wide (t .core .n) (t .core .m) (t .core .desks) (t .cells) (t .opens) S (S .rules .frame .ranges .desks .1), c .before .image-length .ensures, c .if2 .taken)) refl
 
 -- src/lib.rt:541:9
 save-parts-requires : tie.Need-save-parts-requires
-save-parts-requires c κs = let A = (c .before .before .before .before .before .before .before .before .before .before .before .before .before .args) in let t = A .t in let S = c .before .before .before .before .before .before .keeps-rules .ensures .to (not-false _ (c .before .before .before .before .before .if1 .left)) in (S, omega (arith, length-is (t .core .n) (t .core .m) (t .core .desks) (t .cells) (t .opens) S, c .before .before .before .before .image-length .ensures, c .before .before .before .if2 .left))
+save-parts-requires c κs = let A = (c .before .before .before .before .before .before .before .before .before .before .before .before .before .args) in let t = A .t in let S = c .before .before .before .before .before .before .keeps-rules .ensures .to (not-false _ (c .before .before .before .before .before .if1 .left)) in (S, omega (arith, length-is places wide (t .core .n) (t .core .m) (t .core .desks) (t .cells) (t .opens) S (S .rules .frame .ranges .desks .1), c .before .before .before .before .image-length .ensures, c .before .before .before .if2 .left))
 
 -- src/lib.rt:529:1
 returns-3 : tie.Need-returns-3
-returns-3 c = let A = (c .before .before .before .before .before .before .before .before .before .before .before .before .before .before .before .before .args) in let t = A .t in let S = c .before .before .before .before .before .before .before .before .before .keeps-rules .ensures .to (not-false _ (c .before .before .before .before .before .before .before .before .if1 .left)) in as-image (c .before .before .save-parts .result) S (omega (arith, length-is (t .core .n) (t .core .m) (t .core .desks) (t .cells) (t .opens) S, c .before .before .before .before .before .before .before .image-length .ensures, c .before .before .before .before .before .before .if2 .left)) (c .before .before .save-parts .ensures .stored) (c .before .before .save-parts .ensures .size)
+returns-3 c = let A = (c .before .before .before .before .before .before .before .before .before .before .before .before .before .before .before .before .args) in let t = A .t in let S = c .before .before .before .before .before .before .before .before .before .keeps-rules .ensures .to (not-false _ (c .before .before .before .before .before .before .before .before .if1 .left)) in as-image (c .before .before .save-parts .result) S (omega (arith, length-is places wide (t .core .n) (t .core .m) (t .core .desks) (t .cells) (t .opens) S (S .rules .frame .ranges .desks .1), c .before .before .before .before .before .before .before .image-length .ensures, c .before .before .before .before .before .before .if2 .left)) (c .before .before .save-parts .ensures .stored) (c .before .before .save-parts .ensures .size)
 
 pub save-spec : {M : Type 1} → statement M
 save-spec =

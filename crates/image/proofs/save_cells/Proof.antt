@@ -1,3 +1,5 @@
+use Rattle.clock.specs.Vectors.{places}
+use Rattle.image.specs.Limits.{block-bytes}
 use Rattle.image.specs.Parts.{cellRow, length-cellRow, one-more, row-room}
 use Rattle.laws.specs.Cat.{cat}
 use lib.Seq.{sets, length-sets}
@@ -14,7 +16,7 @@ use Rattle.image.proofs.save_cells.Lts as lts
 use Rattle.image.proofs.save_row.Reads as save-row-reads
 
 abbrev Inv-loop : tie.InvT-loop
-Inv-loop out₀ cells n c i₀ out i = (i ≤ n) × ((out ≡ sets out₀ (512 * (1 + n)) (cat (cellRow cells n c) i)) × (length out ≡ length out₀))
+Inv-loop out₀ cells n c i₀ out i = (i ≤ n) × ((out ≡ sets out₀ (block-bytes * (1 + n)) (cat (cellRow places cells n c) i)) × (length out ≡ length out₀))
 
 abbrev μ-loop : tie.MeasureT-loop
 μ-loop out₀ cells n c i₀ out i = n - i
@@ -26,23 +28,23 @@ loop-holds c = search needs
 
 -- src/lib.rt:294:31
 mul-save-row : tie.Need-mul-save-row Inv-loop μ-loop
-mul-save-row c = let A = (c .before .before .before .before .args) in let L = (c .before .before .loop) in let r = row-room (A .n) (A .c) (L .i) (c .before .before .before .before .pre .1 .0) (c .before .before .before .before .pre .1 .1 .0) (c .before .loop-test .taken) in omega arith
+mul-save-row c = let A = (c .before .before .before .before .args) in let L = (c .before .before .loop) in let r = row-room places (A .n) (A .c) (L .i) (c .before .before .before .before .pre .1 .0) (c .before .before .before .before .pre .1 .1 .0) (c .before .loop-test .taken) in omega arith
 
 -- src/lib.rt:294:23
 add-save-row-2 : tie.Need-add-save-row-2 Inv-loop μ-loop
-add-save-row-2 c = let A = (c .before .before .before .before .args) in let L = (c .before .before .loop) in let r = row-room (A .n) (A .c) (L .i) (c .before .before .before .before .pre .1 .0) (c .before .before .before .before .pre .1 .1 .0) (c .before .loop-test .taken) in omega arith
+add-save-row-2 c = let A = (c .before .before .before .before .args) in let L = (c .before .before .loop) in let r = row-room places (A .n) (A .c) (L .i) (c .before .before .before .before .pre .1 .0) (c .before .before .before .before .pre .1 .1 .0) (c .before .loop-test .taken) in omega arith
 
 -- src/lib.rt:294:9
 save-row-requires : tie.Need-save-row-requires Inv-loop μ-loop
-save-row-requires c κs = let A = (c .before .before .before .before .args) in let L = (c .before .before .loop) in let r = row-room (A .n) (A .c) (L .i) (c .before .before .before .before .pre .1 .0) (c .before .before .before .before .pre .1 .1 .0) (c .before .loop-test .taken) in
+save-row-requires c κs = let A = (c .before .before .before .before .args) in let L = (c .before .before .loop) in let r = row-room places (A .n) (A .c) (L .i) (c .before .before .before .before .pre .1 .0) (c .before .before .before .before .pre .1 .1 .0) (c .before .loop-test .taken) in
     ((omega arith, c .before .before .before .before .pre .0), (c .before .before .before .before .pre .1 .1 .0, (omega arith, omega arith)))
 
 -- src/lib.rt:293:5
 loop-again : tie.Need-loop-again Inv-loop μ-loop
 loop-again c = let L = (c .before .before .before .before .before .loop) in let A = (c .before .before .before .before .before .before .before .args) in
-    let f = cellRow (A .cells .now) (A .n) (A .c) in
-    let e = one-more f (512 * A .c) (length-cellRow (A .cells .now) (A .n) (A .c)) (A .out .now) (L .out) (c .before .before .save-row .last .0) (f (L .i)) (512 * (1 + A .n)) (L .i) (512 * (1 + A .n + A .c * L .i)) (L .inv .1 .0) (omega arith) refl (c .before .before .save-row .ensures) in
-    (search needs, (e, ap length e ∙ length-sets (A .out .now) (512 * (1 + A .n)) (cat f (L .i + 1))))
+    let f = cellRow places (A .cells .now) (A .n) (A .c) in
+    let e = one-more f (block-bytes * A .c) (length-cellRow places (A .cells .now) (A .n) (A .c)) (A .out .now) (L .out) (c .before .before .save-row .last .0) (f (L .i)) (block-bytes * (1 + A .n)) (L .i) (block-bytes * (1 + A .n + A .c * L .i)) (L .inv .1 .0) (omega arith) refl (c .before .before .save-row .ensures) in
+    (search needs, (e, ap length e ∙ length-sets (A .out .now) (block-bytes * (1 + A .n)) (cat f (L .i + 1))))
 
 -- src/lib.rt:288:1
 returns : tie.Need-returns Inv-loop μ-loop

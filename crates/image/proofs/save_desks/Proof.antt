@@ -1,3 +1,5 @@
+use Rattle.clock.specs.Vectors.{places}
+use Rattle.image.specs.Limits.{wide, block-bytes}
 use Rattle.image.specs.Parts.{deskBlock, length-deskBlock, desk-block-is, one-more}
 use Rattle.laws.specs.Cat.{cat}
 use lib.Seq.{sets, length-sets}
@@ -14,7 +16,7 @@ use Rattle.image.proofs.desk_block.Reads as desk-block-reads
 use Rattle.image.proofs.store.Reads as store-reads
 
 abbrev Inv-loop : tie.InvT-loop
-Inv-loop out₀ n desks i₀ out i = (i ≤ n) × ((out ≡ sets out₀ 512 (cat (deskBlock desks) i)) × (length out ≡ length out₀))
+Inv-loop out₀ n desks i₀ out i = (i ≤ n) × ((out ≡ sets out₀ block-bytes (cat (deskBlock places desks) i)) × (length out ≡ length out₀))
 
 abbrev μ-loop : tie.MeasureT-loop
 μ-loop out₀ n desks i₀ out i = n - i
@@ -27,9 +29,9 @@ loop-holds c = search needs
 -- src/lib.rt:265:5
 loop-again : tie.Need-loop-again Inv-loop μ-loop
 loop-again c = let L = (c .before .before .before .before .before .before .before .loop) in let A = (c .before .before .before .before .before .before .before .before .before .args) in
-    let f = desk-block-is (A .t2) (L .i) (1 + L .i) (c .before .before .before .before .desk-block .result) refl (c .before .before .before .before .desk-block .ensures) in
-    let e = one-more (deskBlock (A .t2)) 512 (length-deskBlock (A .t2)) (A .out .now) (L .out) (c .before .before .store .last .0) (c .before .before .before .before .desk-block .result) 512 (L .i) (512 * (1 + L .i)) (L .inv .1 .0) (omega arith) f (c .before .before .store .ensures) in
-    (search needs, (e, ap length e ∙ length-sets (A .out .now) 512 (cat (deskBlock (A .t2)) (L .i + 1))))
+    let f = desk-block-is places (A .t2) (L .i) (1 + L .i) (c .before .before .before .before .desk-block .result) refl (c .before .before .before .before .desk-block .ensures) in
+    let e = one-more (deskBlock places (A .t2)) block-bytes (length-deskBlock places wide (A .t2)) (A .out .now) (L .out) (c .before .before .store .last .0) (c .before .before .before .before .desk-block .result) block-bytes (L .i) (block-bytes * (1 + L .i)) (L .inv .1 .0) (omega arith) f (c .before .before .store .ensures) in
+    (search needs, (e, ap length e ∙ length-sets (A .out .now) block-bytes (cat (deskBlock places (A .t2)) (L .i + 1))))
 
 -- src/lib.rt:260:1
 returns : tie.Need-returns Inv-loop μ-loop

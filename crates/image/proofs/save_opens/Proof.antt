@@ -1,3 +1,5 @@
+use Rattle.clock.specs.Vectors.{places}
+use Rattle.image.specs.Limits.{block-bytes}
 use Rattle.image.specs.Parts.{openBlock, length-openBlock, one-more}
 use Rattle.laws.specs.Cat.{cat}
 use lib.Seq.{sets, length-sets}
@@ -14,7 +16,7 @@ use Rattle.image.proofs.open_block.Reads as open-block-reads
 use Rattle.image.proofs.store.Reads as store-reads
 
 abbrev Inv-loop : tie.InvT-loop
-Inv-loop out₀ k opens order count c q₀ out q = (q ≤ c) × ((out ≡ sets out₀ (512 * k) (cat (openBlock opens order count k) q)) × (length out ≡ length out₀))
+Inv-loop out₀ k opens order count c q₀ out q = (q ≤ c) × ((out ≡ sets out₀ (block-bytes * k) (cat (openBlock places opens order count k) q)) × (length out ≡ length out₀))
 
 abbrev μ-loop : tie.MeasureT-loop
 μ-loop out₀ k opens order count c q₀ out q = c - q
@@ -27,9 +29,9 @@ loop-holds c = search needs
 -- src/lib.rt:305:5
 loop-again : tie.Need-loop-again Inv-loop μ-loop
 loop-again c = let L = (c .before .before .before .before .before .before .loop) in let A = (c .before .before .before .before .before .before .before .before .args) in
-    let f = openBlock (A .opens .now) (A .order .now) (A .count) (A .k) in
-    let e = one-more f 512 (length-openBlock (A .opens .now) (A .order .now) (A .count) (A .k)) (A .out .now) (L .out) (c .before .before .store .last .0) (c .before .before .before .before .open-block .result) (512 * A .k) (L .q) (512 * (A .k + L .q)) (L .inv .1 .0) (omega arith) (c .before .before .before .before .open-block .ensures) (c .before .before .store .ensures) in
-    (search needs, (e, ap length e ∙ length-sets (A .out .now) (512 * A .k) (cat f (L .q + 1))))
+    let f = openBlock places (A .opens .now) (A .order .now) (A .count) (A .k) in
+    let e = one-more f block-bytes (length-openBlock places (A .opens .now) (A .order .now) (A .count) (A .k)) (A .out .now) (L .out) (c .before .before .store .last .0) (c .before .before .before .before .open-block .result) (block-bytes * A .k) (L .q) (block-bytes * (A .k + L .q)) (L .inv .1 .0) (omega arith) (c .before .before .before .before .open-block .ensures) (c .before .before .store .ensures) in
+    (search needs, (e, ap length e ∙ length-sets (A .out .now) (block-bytes * A .k) (cat f (L .q + 1))))
 
 -- src/lib.rt:300:1
 returns : tie.Need-returns Inv-loop μ-loop

@@ -1,3 +1,4 @@
+use Rattle.image.specs.Limits.{block-bytes}
 use Rattle.image.specs.Sound.{blockIn, rightCheck, sound, sound-none, sound-odd, sound-start}
 use Rattle.laws.specs.Cat.{part}
 use Rattle.laws.specs.All.{all, all-next, all-end, all-fails}
@@ -39,16 +40,16 @@ right-requires c κs = simp (length-take, length-drop) (omega arith)
 -- src/lib.rt:107:13
 returns-3 : tie.Need-returns-3 Inv-loop μ-loop
 unfolding part
-returns-3 c = let L = (c .before .before .before .before .loop) in let b = c .before .before .before .before .before .before .before .before .args .b .now in let q : 512 * L .k + 512 - 512 * L .k ≡ 512 = omega arith in
-    let t : c .before .right .result ≡ rightCheck (take (512 * L .k + 512 - 512 * L .k) (drop (512 * L .k) b)) = c .before .right .ensures in
-    let e : rightCheck (blockIn b (L .k)) ≡ c .before .right .result = sym (t ∙ rw q) in sym (all-fails (λ k. rightCheck (blockIn b k)) (length b / 512) (L .k) (search needs) (e ∙ not-true _ (c .if3 .taken))) ∙ L .inv .1
+returns-3 c = let L = (c .before .before .before .before .loop) in let b = c .before .before .before .before .before .before .before .before .args .b .now in let q : block-bytes * L .k + block-bytes - block-bytes * L .k ≡ block-bytes = omega arith in
+    let t : c .before .right .result ≡ rightCheck (take (block-bytes * L .k + block-bytes - block-bytes * L .k) (drop (block-bytes * L .k) b)) = c .before .right .ensures in
+    let e : rightCheck (blockIn b (L .k)) ≡ c .before .right .result = sym (t ∙ rw q) in sym (all-fails (λ k. rightCheck (blockIn b k)) (length b / block-bytes) (L .k) (search needs) (e ∙ not-true _ (c .if3 .taken))) ∙ L .inv .1
 
 -- src/lib.rt:103:5
 loop-again : tie.Need-loop-again Inv-loop μ-loop
 unfolding part
-loop-again c = let L = (c .before .before .before .before .loop) in let b = c .before .before .before .before .before .before .before .before .args .b .now in let q : 512 * L .k + 512 - 512 * L .k ≡ 512 = omega arith in
-    let t : c .before .right .result ≡ rightCheck (take (512 * L .k + 512 - 512 * L .k) (drop (512 * L .k) b)) = c .before .right .ensures in
-    let e : rightCheck (blockIn b (L .k)) ≡ c .before .right .result = sym (t ∙ rw q) in (search needs, sym (all-next (λ k. rightCheck (blockIn b k)) (length b / 512) (L .k) (search needs) (e ∙ not-false _ (c .if3 .left))) ∙ L .inv .1)
+loop-again c = let L = (c .before .before .before .before .loop) in let b = c .before .before .before .before .before .before .before .before .args .b .now in let q : block-bytes * L .k + block-bytes - block-bytes * L .k ≡ block-bytes = omega arith in
+    let t : c .before .right .result ≡ rightCheck (take (block-bytes * L .k + block-bytes - block-bytes * L .k) (drop (block-bytes * L .k) b)) = c .before .right .ensures in
+    let e : rightCheck (blockIn b (L .k)) ≡ c .before .right .result = sym (t ∙ rw q) in (search needs, sym (all-next (λ k. rightCheck (blockIn b k)) (length b / block-bytes) (L .k) (search needs) (e ∙ not-false _ (c .if3 .left))) ∙ L .inv .1)
 
 -- src/lib.rt:91:1
 returns-4 : tie.Need-returns-4 Inv-loop μ-loop

@@ -1,3 +1,4 @@
+use Rattle.image.specs.Limits.{block-bytes}
 use Rattle.image.specs.Fill.{set-more}
 use lib.Seq.{sets, take-all}
 use lib.ListN.{length, take}
@@ -11,16 +12,16 @@ use Rattle.image.proofs.store.Reads as reads
 use Rattle.image.proofs.store.Lts as lts
 
 abbrev Inv-loop : tie.InvT-loop
-Inv-loop out₀ k b at j₀ out j = (j ≤ 512) × ((out ≡ sets out₀ at (take j b)) × (length out ≡ length out₀))
+Inv-loop out₀ k b at j₀ out j = (j ≤ block-bytes) × ((out ≡ sets out₀ at (take j b)) × (length out ≡ length out₀))
 
 abbrev μ-loop : tie.MeasureT-loop
-μ-loop out₀ k b at j₀ out j = 512 - j
+μ-loop out₀ k b at j₀ out j = block-bytes - j
 
 -- src/lib.rt:253:5
 loop-again : tie.Need-loop-again Inv-loop μ-loop
 loop-again c = let L = c .before .loop in let a = c .before .before .args in
-    let l : length (a .t3) ≡ 512 = search needs in
-    (search needs, (rw (L .inv .1 .0) (set-more (a .t3) (a .out .now) 0 (512 * a .k) (L .j) (omega arith)), search needs))
+    let l : length (a .t3) ≡ block-bytes = search needs in
+    (search needs, (rw (L .inv .1 .0) (set-more (a .t3) (a .out .now) 0 (block-bytes * a .k) (L .j) (omega arith)), search needs))
 
 -- src/lib.rt:247:1
 returns : tie.Need-returns Inv-loop μ-loop

@@ -1,3 +1,4 @@
+use Rattle.image.specs.Limits.{check-at}
 use mathlib.Core.Path.{refl}
 use Prim.Native.Nat.{_+_, _*_, _≤_}
 use native.Mathlib.Omega.{arith}
@@ -23,11 +24,11 @@ wide-requires c κs = search needs
 
 -- src/lib.rt:35:5
 mul-result : tie.Need-mul-result
-mul-result c = let w = c .wide .ensures in let h : (c .before .args .j + 1) * c .wide .result ≤ 129540 = mul-le-mul {n₂ = 508} {m₂ = 255} (omega arith) (omega arith) in omega arith
+mul-result c = let w = c .wide .ensures in let h : (c .before .args .j + 1) * c .wide .result ≤ check-at * 255 = mul-le-mul {n₂ = check-at} {m₂ = 255} (omega arith) (omega arith) in omega arith
 
 -- src/lib.rt:30:1
 returns : tie.Need-returns
-returns c = let w = c .wide .ensures in let h : (c .before .args .j + 1) * c .wide .result ≤ 129540 = mul-le-mul {n₂ = 508} {m₂ = 255} (omega arith) (omega arith) in (rw (w .0), h)
+returns c = let w = c .wide .ensures in let h : (c .before .args .j + 1) * c .wide .result ≤ check-at * 255 = mul-le-mul {n₂ = check-at} {m₂ = 255} (omega arith) (omega arith) in (rw (w .0), h)
 
 pub term-spec : {M : Type 1} → statement M
 term-spec = tie.close (tie.spec cast-result add-result wide-requires mul-result returns)

@@ -1,3 +1,4 @@
+use Rattle.image.specs.Limits.{check-at}
 use Prim.Native.Nat.{_+_, _*_, _≤_, _-_}
 use native.Mathlib.Omega.{arith}
 use native.Mathlib.Nat.{mul-le-mul}
@@ -6,13 +7,13 @@ use Rattle.image_rules.proofs.check.Statement.{statement}
 use Rattle.image_rules.proofs.check.Tie as tie
 
 abbrev Inv-loop : tie.InvT-loop
-Inv-loop b at c₀ j₀ c j = (j ≤ 508) × (c ≤ 1 + 129540 * j)
+Inv-loop b at c₀ j₀ c j = (j ≤ check-at) × (c ≤ 1 + check-at * 255 * j)
 
 abbrev μ-loop : tie.MeasureT-loop
-μ-loop b at c₀ j₀ c j = 508 - j
+μ-loop b at c₀ j₀ c j = check-at - j
 
-term : (c : tie.After-wide Inv-loop μ-loop) → (c .before .before .before .loop .j + 1) * c .wide .result ≤ 129540
-term c = mul-le-mul {n₂ = 508} {m₂ = 255} (omega arith) (omega (arith, c .wide .ensures))
+term : (c : tie.After-wide Inv-loop μ-loop) → (c .before .before .before .loop .j + 1) * c .wide .result ≤ check-at * 255
+term c = mul-le-mul {n₂ = check-at} {m₂ = 255} (omega arith) (omega (arith, c .wide .ensures))
 
 mul-c : tie.Need-mul-c Inv-loop μ-loop
 mul-c c = omega (arith, term c)

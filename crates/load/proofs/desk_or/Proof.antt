@@ -1,3 +1,4 @@
+use Rattle.clock.specs.Vectors.{places}
 use Rattle.load.specs.Read.{desk-there, desk-past}
 use mathlib.Core.Path.{refl}
 use borrow.Author.Needs.{needs}
@@ -13,11 +14,11 @@ read-desk-requires c κs = search needs
 
 -- src/lib.rt:159:9
 returns : tie.Need-returns
-returns c = let A = (c .before .before .before .args) in desk-there (A .b .now) (A .n) (A .i) _ (c .before .if1 .taken) (c .read-desk .ensures)
+returns c = let A = (c .before .before .before .args) in desk-there places (A .b .now) (A .n) (A .i) _ (c .before .if1 .taken) (c .read-desk .ensures)
 
 -- src/lib.rt:154:1
 returns-2 : tie.Need-returns-2
-returns-2 c = let A = (c .before .before .args) in desk-past (A .b .now) (A .n) (A .i) _ (c .if1 .left) refl
+returns-2 c = let A = (c .before .before .args) in desk-past places (A .b .now) (A .n) (A .i) _ (c .if1 .left) refl
 
 pub desk-or-spec : {M : Type 1} → statement M
 desk-or-spec = tie.close (tie.spec read-desk-requires returns returns-2)

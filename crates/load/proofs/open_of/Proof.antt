@@ -1,3 +1,5 @@
+use Rattle.clock.specs.Vectors.{places}
+use Rattle.image.specs.Limits.{wide, open-bytes, opens-in}
 use Rattle.load.specs.Read.{Within, open-where}
 use Rattle.image.specs.Decode.{openPlace}
 use Rattle.load.specs.Read.{openFrom}
@@ -8,11 +10,11 @@ use borrow.Author.Needs.{needs}
 use Rattle.load.proofs.open_of.Statement.{statement}
 use Rattle.load.proofs.open_of.Tie as tie
 
-stands : (c : tie.Start) → (let A = c .args in Within (A .b .now) (A .n) (A .c * A .n) (A .p / 18) (28 * (A .p % 18)) 28 (openPlace (A .n) (A .m) (A .p)))
+stands : (c : tie.Start) → (let A = c .args in Within places (A .b .now) (A .n) (A .c * A .n) (A .p / opens-in places) (open-bytes places * (A .p % opens-in places)) (open-bytes places) (openPlace places (A .n) (A .m) (A .p)))
 stands c =
     let A = c .args in
     let P = c .pre in
-    open-where (A .b .now) (P .0) (A .n) (A .m) (A .p) (A .c) (A .count) (P .1 .0) (P .1 .1 .0) (P .1 .1 .1 .0) (P .1 .1 .1 .1 .0) (P .1 .1 .1 .1 .1)
+    open-where places wide (A .b .now) (P .0) (A .n) (A .m) (A .p) (A .c) (A .count) (P .1 .0) (P .1 .1 .0) (P .1 .1 .1 .0) (P .1 .1 .1 .1 .0) (P .1 .1 .1 .1 .1)
 
 mul-field-place : tie.Need-mul-field-place
 mul-field-place c = omega (arith, stands (c .before) .before)
@@ -26,7 +28,7 @@ read-open-requires c κs = let w = stands (c .before .before) in omega (arith, w
 returns : tie.Need-returns
 returns c =
     let w = stands (c .before .before .before) in
-    c .read-open .ensures ∙ ap (λ (k : ℕ). openFrom (c .before .before .before .args .b .now) k) (c .before .field-place .ensures ∙ w .is)
+    c .read-open .ensures ∙ ap (λ (k : ℕ). openFrom places (c .before .before .before .args .b .now) k) (c .before .field-place .ensures ∙ w .is)
 
 pub open-of-spec : {M : Type 1} → statement M
 open-of-spec =

@@ -16,7 +16,7 @@ use Rattle.load.proofs.cell_or.Reads as cell-or-reads
 use Rattle.table.proofs.put_cell.Reads as put-cell-reads
 
 abbrev Inv-loop : tie.InvT-loop
-Inv-loop b n m c cells₀ s₀ cells s = (s ≤ all-cells) × ((t : ℕ) → t < s → cellAt cells t ≡ cellFor b n m t)
+Inv-loop b n m c cells₀ s₀ cells s = (s ≤ all-cells) × ((t : ℕ) → t < s → cellAt cells t ≡ cellFor places b n m t)
 
 abbrev μ-loop : tie.MeasureT-loop
 μ-loop b n m c cells₀ s₀ cells s = all-cells - s
@@ -32,7 +32,7 @@ cell-or-requires c κs = let P = (c .before .before .before .pre) in let L = (c 
 -- src/lib.rt:211:5
 loop-again : tie.Need-loop-again Inv-loop μ-loop
 loop-again c = let L = (c .before .before .before .before .loop) in let A = (c .before .before .before .before .before .before .args) in
-    (search needs, cells-more (A .b .now) (A .n) (A .m) (L .s) (L .cells) (c .put-cell .last .0) (c .before .before .cell-or .result) (L .inv .1) (omega arith) (c .before .before .cell-or .ensures) (c .put-cell .ensures))
+    (search needs, cells-more places (A .b .now) (A .n) (A .m) (L .s) (L .cells) (c .put-cell .last .0) (c .before .before .cell-or .result) (L .inv .1) (omega arith) (c .before .before .cell-or .ensures) (c .put-cell .ensures))
 
 -- src/lib.rt:206:1
 returns : tie.Need-returns Inv-loop μ-loop

@@ -1,3 +1,5 @@
+use Rattle.clock.specs.Vectors.{places}
+use Rattle.image.specs.Limits.{block-bytes, payload-at, vector-at, vector-bytes, after-vector}
 use native.Mathlib.Omega.{arith}
 use mathlib.Core.Path.{_≡_, _∙_}
 use Prim.Native.Nat.{_+_, _*_}
@@ -34,7 +36,7 @@ words-at-requires-2 c κs = search needs
 
 -- src/lib.rt:107:1
 returns : tie.Need-returns
-returns c = let i = c .before .before .before .args .i in let e : 512 + (512 * i + 8) + 16 ≡ 512 + (512 * i + 24) = omega arith in rw (c .before .words-at .ensures, c .words-at2 .ensures, e)
+returns c = let i = c .before .before .before .args .i in let e : block-bytes + (block-bytes * i + (payload-at + vector-at)) + vector-bytes places ≡ block-bytes + (block-bytes * i + (payload-at + after-vector places)) = omega arith in rw (c .before .words-at .ensures, c .words-at2 .ensures, e)
 
 pub read-desk-spec : {M : Type 1} → statement M
 read-desk-spec =

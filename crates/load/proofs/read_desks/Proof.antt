@@ -15,7 +15,7 @@ use Rattle.load.proofs.read_desks.Lts as lts
 use Rattle.load.proofs.desk_or.Reads as desk-or-reads
 
 abbrev Inv-loop : tie.InvT-loop
-Inv-loop b n desks₀ i₀ desks i = (i ≤ places) × ((desks ≡ tab i (deskFor b n) ++ drop i desks₀) × (length desks₀ ≡ places))
+Inv-loop b n desks₀ i₀ desks i = (i ≤ places) × ((desks ≡ tab i (deskFor places b n) ++ drop i desks₀) × (length desks₀ ≡ places))
 
 abbrev μ-loop : tie.MeasureT-loop
 μ-loop b n desks₀ i₀ desks i = places - i
@@ -27,7 +27,7 @@ loop-holds c = (search needs, (fill-start _ _, search needs))
 -- src/lib.rt:176:5
 loop-again : tie.Need-loop-again Inv-loop μ-loop
 loop-again c = let L = (c .before .before .loop) in let g = (c .before .before .before .before .before .args) in
-    (search needs, (rw (c .desk-or2 .ensures, L .inv .1 .0) (fill-more (deskFor (g .b .now) (g .n)) _ desk0 (L .i) (omega (arith, L .inv .1 .1))), L .inv .1 .1))
+    (search needs, (rw (c .desk-or2 .ensures, L .inv .1 .0) (fill-more (deskFor places (g .b .now) (g .n)) _ desk0 (L .i) (omega (arith, L .inv .1 .1))), L .inv .1 .1))
 
 -- src/lib.rt:169:1
 returns : tie.Need-returns Inv-loop μ-loop

@@ -1,3 +1,4 @@
+use Rattle.clock.specs.Vectors.{places}
 use Rattle.load.specs.Spread.{Writers, Spread, spread-start, spread-room, spread-more}
 use Rattle.table.specs.Value.{entries, open-width}
 use Rattle.table.specs.Names.{freeAt, found-at, found-nothing}
@@ -9,13 +10,13 @@ use Rattle.load.proofs.read_opens.Statement.{statement}
 use Rattle.load.proofs.read_opens.Tie as tie
 
 abbrev Inv-loop : tie.InvT-loop
-Inv-loop b n m c count opens₀ p₀ opens p = (p ≤ count) × (Writers b n m p → Spread b n m p opens)
+Inv-loop b n m c count opens₀ p₀ opens p = (p ≤ count) × (Writers places b n m p → Spread places b n m p opens)
 
 abbrev μ-loop : tie.MeasureT-loop
 μ-loop b n m c count opens₀ p₀ opens p = count - p
 
 loop-holds : tie.Need-loop-holds Inv-loop μ-loop
-loop-holds c = let A = c .before .args in (search needs, λ w. rw (c .before .pre .1) (spread-start (A .b .now) (A .n) (A .m) (entries * open-width)))
+loop-holds c = let A = c .before .args in (search needs, λ w. rw (c .before .pre .1) (spread-start places (A .b .now) (A .n) (A .m) (entries * open-width)))
 
 open-of-requires : tie.Need-open-of-requires Inv-loop μ-loop
 open-of-requires c κs =
@@ -27,7 +28,7 @@ returns c =
     let L = c .before .before .before .before .before .before .before .before .loop in
     let A = c .before .before .before .before .before .before .before .before .before .before .args in
     let P = c .before .before .before .before .before .before .before .before .before .before .pre .0 in
-    λ w. absurd (spread-room (A .b .now) (A .n) (A .m) (L .p) (L .opens) (λ q h. w q (omega arith)) (L .inv .1 (λ q h. w q (omega arith))) (omega (arith, P .0 .few, P .1 .1 .1 .1))
+    λ w. absurd (spread-room places (A .b .now) (A .n) (A .m) (L .p) (L .opens) (λ q h. w q (omega arith)) (L .inv .1 (λ q h. w q (omega arith))) (omega (arith, P .0 .few, P .1 .1 .1 .1))
     (found-nothing (freeAt (L .opens)) (c .before .before .find-free .result) (c .before .before .find-free .ensures) (c .enum-told .given .1)))
 
 put-open-requires : tie.Need-put-open-requires Inv-loop μ-loop
@@ -41,7 +42,7 @@ loop-again c =
     let e = c .before .before .before .found .given .0 .0 in
     let f = found-at (freeAt (L .opens)) (c .before .before .before .before .before .find-free .result) e (c .before .before .before .before .before .find-free .ensures) (c .before .before .before .found .given .1) in (
       search needs,
-      λ w. spread-more (A .b .now) (A .n) (A .m) (L .p) (L .opens) w (L .inv .1 (λ q h. w q (omega arith))) e _ _ (f .0) (f .1) (c .put-open .ensures)
+      λ w. spread-more places (A .b .now) (A .n) (A .m) (L .p) (L .opens) w (L .inv .1 (λ q h. w q (omega arith))) e _ _ (f .0) (f .1) (c .put-open .ensures)
           (c .before .before .before .before .before .before .before .before .before .open-of .ensures),
     )
 

@@ -1,0 +1,113 @@
+-- Document 01, "Saved image": the numbers of the layout, each named once. A vector has p places: 8 in edition 1, and from that the document's
+-- 20, 25, 28, 18 and 37 follow (edition-1).
+use Prim.Native.Nat.{ℕ, suc, _+_, _-_, _*_, _/_, _<_, _≤_}
+use mathlib.Core.Path.{_≡_, refl}
+use native.Mathlib.Omega.{arith}
+use native.Mathlib.Nat.{mul-div-le, div-mul-le-self, le-div-iff-mul-le, div-lt-iff-lt-mul, lt-div-mul-add}
+use Rattle.machine.specs.Table.{most-writes, most-cells, most-open}
+use Rattle.clock.specs.Vectors.{places}
+
+-- "Blocks of 512 bytes .. 4-507 payload, 508-511 check."
+abbrev pub block-bytes : ℕ
+block-bytes = 512
+
+abbrev pub payload-at : ℕ
+payload-at = 4
+
+abbrev pub check-at : ℕ
+check-at = 508
+
+abbrev pub payload-bytes : ℕ
+payload-bytes = check-at - payload-at
+
+-- a desk, a cell and an open write begin with 4 bytes, and then have a vector, each place of 16 bits
+abbrev pub vector-at : ℕ
+vector-at = 4
+
+abbrev pub vector-bytes : ℕ → ℕ
+vector-bytes p = 2 * p
+
+abbrev pub after-vector : ℕ → ℕ
+after-vector p = vector-at + vector-bytes p
+
+-- a desk's clock is a second vector; a cell has nothing more; an open write's marks are a byte each
+abbrev pub desk-bytes : ℕ → ℕ
+desk-bytes p = after-vector p + vector-bytes p
+
+abbrev pub cell-bytes : ℕ → ℕ
+cell-bytes p = after-vector p
+
+abbrev pub open-bytes : ℕ → ℕ
+open-bytes p = after-vector p + p
+
+-- to a block: as many as fit
+abbrev pub cells-in : ℕ → ℕ
+cells-in p = payload-bytes / cell-bytes p
+
+abbrev pub opens-in : ℕ → ℕ
+opens-in p = payload-bytes / open-bytes p
+
+-- the blocks that x of them take, c to a block
+abbrev pub blocks-for : ℕ → ℕ → ℕ
+blocks-for c x = (x + (c - 1)) / c
+
+-- at most: the blocks of a desk's cells, of all desks' cells, of the open writes; the whole image
+abbrev pub row-most : ℕ → ℕ
+row-most p = blocks-for (cells-in p) most-cells
+
+abbrev pub rows-most : ℕ → ℕ
+rows-most p = row-most p * p
+
+abbrev pub opens-most : ℕ → ℕ
+opens-most p = blocks-for (opens-in p) most-open
+
+abbrev pub blocks-most : ℕ → ℕ
+blocks-most p = 1 + p + rows-most p + opens-most p
+
+abbrev pub image-bytes : ℕ → ℕ
+image-bytes p = block-bytes * blocks-most p
+
+-- the document's numbers
+pub record Edition (p cell cells open-write opens blocks : ℕ) : Type 0 where
+  pub cell-takes : cell-bytes p ≡ cell
+  pub cells-fit : cells-in p ≡ cells
+  pub open-takes : open-bytes p ≡ open-write
+  pub opens-fit : opens-in p ≡ opens
+  pub largest : blocks-most p ≡ blocks
+
+-- "25 cells to a block: 20 bytes each", "18 open writes to a block .. 28 bytes each", "The largest image is 37 blocks."
+pub edition-1 : Edition places 20 25 28 18 37
+edition-1 = record { cell-takes = refl; cells-fit = refl; open-takes = refl; opens-fit = refl; largest = refl }
+
+-- what an edition needs: a desk fits in a block, and the place of every block in 16 bits
+pub record Wide (p : ℕ) : Type 0 where
+  pub desk : desk-bytes p ≤ payload-bytes
+  pub few : blocks-most p ≤ most-writes
+
+pub wide : Wide places
+wide = record { desk = omega arith; few = omega arith }
+
+-- as many as fit do fit, and one does
+pub fit : (w : ℕ) → w * (payload-bytes / w) ≤ payload-bytes
+fit w = mul-div-le payload-bytes w
+
+pub one-fits : (w : ℕ) → 1 ≤ w → w ≤ payload-bytes → 1 ≤ payload-bytes / w
+one-fits w h g = le-div-iff-mul-le {k = w} {x = 1} {y = payload-bytes} h .1 (omega arith)
+
+module _ (p : ℕ) (h : Wide p) where
+  pub some-cells : 1 ≤ cells-in p
+  some-cells = one-fits (cell-bytes p) (omega arith) (omega (arith, h .desk))
+
+  pub some-opens : 1 ≤ opens-in p
+  some-opens = one-fits (open-bytes p) (omega arith) (omega (arith, h .desk))
+
+-- one of x stands in one of their blocks; fewer take no more blocks
+pub block-of : (c x y : ℕ) → 1 ≤ c → y < x → y / c < blocks-for c x
+block-of c x y h g =
+    div-lt-iff-lt-mul {k = c} {x = y} {y = blocks-for c x} h .1
+    (let z : x + (c - 1) < blocks-for c x * c + c = lt-div-mul-add {a = x + (c - 1)} {b = c} h in omega arith)
+
+pub blocks-mono : (c x y : ℕ) → 1 ≤ c → x ≤ y → blocks-for c x ≤ blocks-for c y
+blocks-mono c x y h g =
+    le-div-iff-mul-le {k = c} {x = blocks-for c x} {y = y + (c - 1)} h .1
+    (let z : blocks-for c x * c ≤ x + (c - 1) = div-mul-le-self (x + (c - 1)) c in omega arith)
