@@ -314,7 +314,7 @@ module _ (ps : ℕ) where
       let ed : t .core .desks ≡ tab places (deskFor ps (encodeAt ps s) (s .setup .desks)) = rw (n-back ps s) at (h .desks) in
       let rc : CellsRead ps (encodeAt ps s) (s .setup .desks) (s .setup .cells) (t .cells) = rw (n-back ps s, m-back ps s) at (h .cells) in
       let ro : OpensRead ps (encodeAt ps s) (s .setup .desks) (s .setup .cells) (openCount s) (t .opens) = rw (n-back ps s, m-back ps s, count-back ps s) at (h .opens) in
-      let e : modelOf t ≡ s = state-path (modelOf t) s en em
+      let e : modelOf t ≡ s = state-path (modelOf t) s (λ j. machine.sized (en j) (em j))
       (ap appliedM ed ∙ applied-read (encodeAt ps s) (s .setup .desks) n8 ∙ applied-back ps wd s ok few)
       (ap clockM ed ∙ clock-read (encodeAt ps s) (s .setup .desks) n8 ∙ clock-back ps wd s ok few)
       (cells-read (encodeAt ps s) (s .setup .desks) (s .setup .cells) n8 m64 (t .cells) rc ∙ cell-back ps wd s ok few)
