@@ -29,13 +29,13 @@ use Rattle.image.specs.Limits.{Wide, wide, some-cells, some-opens, block
 
 -- n, m and the open count of the block of kind 1
 abbrev pub nIn : List ℕ → ℕ
-nIn b = getD b 4 0
+nIn b = getD b payload-at 0
 
 abbrev pub mIn : List ℕ → ℕ
-mIn b = getD b 5 0
+mIn b = getD b (payload-at + 1) 0
 
 abbrev pub countIn : List ℕ → ℕ
-countIn b = getD b 6 0
+countIn b = getD b (payload-at + 2) 0
 
 -- where the fields stand: p of a desk's payload; a cell; an open write
 abbrev pub deskPlace : ℕ → ℕ → ℕ
@@ -49,7 +49,7 @@ module _ (ps : ℕ) where
   abbrev pub openPlace : ℕ → ℕ → ℕ → ℕ
   openPlace n m p = block-bytes + (block-bytes * n + (block-bytes * perDesk ps m * n + (block-bytes * (p / opens-in ps) + (payload-at + open-bytes ps * (p % opens-in ps)))))
 
-  -- of n desks, the 8 numbers at p
+  -- of n desks, the ps numbers at p
   abbrev pub deskIn : ℕ → List ℕ → ℕ → ℕ → Vec
   deskIn n b p = from1 zeros n (λ i. vecOf ps (part (deskPlace p i) (vector-bytes ps) b))
 

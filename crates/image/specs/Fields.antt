@@ -44,7 +44,7 @@ zero-marks ps =
 
 -- where a vector has ps places
 module _ (ps : ℕ) where
-  -- 8 numbers of 16 bits; 8 of a byte
+  -- ps numbers of 16 bits; ps of a byte
   unfoldable pub vecOf : List ℕ → Vec
   vecOf l = from1 0 ps (λ t. getD l (2 * t + 0) 0 + 256 * getD l (2 * t + 1) 0)
 

@@ -1,12 +1,12 @@
 -- Stores one after the other: what a loop that puts a piece each turn has put so far; and a block of zeros that is filled from its start on.
 use Prim.Native.Nat.{ℕ, zero, suc, _+_, _-_, _<_, _≤_}
-use mathlib.Core.Path.{_≡_, refl, sym, ap, _∙_}
+use mathlib.Core.Path.{_≡_, sym, _∙_}
 use mathlib.Core.List.{List, [], _∷_, _++_, append-assoc}
 use native.Mathlib.Omega.{arith}
 use native.Mathlib.Numerals.{add-one}
 use lib.ListN.{length, getD, set, take, drop, replicate, length-append, length-replicate, replicate-append-replicate}
-use lib.Seq.{sets, sets-eq, take-suc, take-at, drop-append-add, length-take-le, length-sets}
-use Rattle.laws.specs.Cat.{cat, cat-le}
+use lib.Seq.{sets, sets-eq, take-suc, take-at, drop-append-add, length-take-le}
+use Rattle.laws.specs.Cat.{cat}
 use Rattle.laws.specs.Tab.{tab, tab-more, length-tab}
 use Rattle.laws.specs.Stores.{sets-append}
 

@@ -1,6 +1,6 @@
 -- The bytes of a table's parts, as the code puts them: of the desks, of the flat cells, of the entries in their order.
 use Prim.Native.Nat.{ℕ, zero, suc, _+_, _*_, _<_, _≤_}
-use mathlib.Core.Path.{_≡_, refl, sym, ap, _∙_}
+use mathlib.Core.Path.{_≡_, refl, ap, _∙_}
 use mathlib.Core.List.{List, [], _∷_}
 use mathlib.Core.Bool.{Bool, true, false}
 use native.Mathlib.Omega.{arith}
@@ -8,9 +8,8 @@ use native.Mathlib.Nat.{mul-le-mul, mul-le-mul-left}
 use borrow.Author.Tests.{lt-ltb, le-ltb}
 use lib.Dec.{ltb}
 use lib.ListN.{length, getD, replicate}
-use lib.Seq.{sets}
+use lib.Seq.{sets, length-sets}
 use Rattle.laws.specs.Loop.{pick}
-use Rattle.laws.specs.Tab.{tab, tabFrom}
 use Rattle.laws.specs.Cat.{cat, length-cat}
 use Rattle.clock.specs.Vectors.{places, place}
 use Rattle.machine.specs.Table as machine
@@ -20,10 +19,10 @@ use Rattle.table.specs.declared.Open.{Open}
 use Rattle.table.specs.Value.{desk0, desk-cells, all-cells, cellAt, entries, openAt}
 use Rattle.table.specs.Model.{cellM, appliedM, clockM, cellsM}
 use Rattle.image.specs.Check.{checkOf}
-use Rattle.image.specs.Encode.{word, long, words, markBytes, deskBytes, cellBytes, block}
+use Rattle.image.specs.Encode.{long, deskBytes, cellBytes, block}
 use Rattle.image.specs.Fields.{length-desk, length-cell, zero-words}
 use Rattle.image.specs.Places.{length-block, length-full}
-use Rattle.image.specs.Fill.{pad, pad-sets, sets-more}
+use Rattle.image.specs.Fill.{sets-more}
 use Rattle.image.specs.Block.{cellRaw, openRaw, SmallCell, SmallOpen, length-openRaw, head, head-put, block-is}
 use Rattle.image.specs.Limits.{Wide, vector-bytes, block-bytes, payload-at, check-at, payload-bytes, cell-bytes, open-bytes, cells-in, opens-in, row-most, rows-most}
 use Rattle.table.specs.Begin.{place-zeros}
@@ -44,6 +43,12 @@ filled kind at n w f b0 b1 b l h e0 e1 e =
 pub one-more : (f : ℕ → List ℕ) (w : ℕ) → ((j : ℕ) → length (f j) ≡ w) → (d₀ d r b : List ℕ) (at i p : ℕ) → d ≡ sets d₀ at (cat f i) → p ≡ at + w * i → b ≡ f i
     → r ≡ sets d p b → r ≡ sets d₀ at (cat f (i + 1))
 one-more f w l d₀ d r b at i p e ep eb er = er ∙ rw (e, ep, eb) (sets-more f d₀ at i (w * i) (length-cat f w l i))
+
+-- .. into a buffer, whose length stays
+pub stored-more : (f : ℕ → List ℕ) (w : ℕ) → ((j : ℕ) → length (f j) ≡ w) → (d₀ d r b : List ℕ) (at i p : ℕ) → d ≡ sets d₀ at (cat f i) → p ≡ at + w * i → b ≡ f i
+    → r ≡ sets d p b → (r ≡ sets d₀ at (cat f (i + 1))) × (length r ≡ length d₀)
+stored-more f w l d₀ d r b at i p e ep eb er =
+    let q = one-more f w l d₀ d r b at i p e ep eb er in (q, ap length q ∙ length-sets d₀ at (cat f (i + 1)))
 
 -- past the last cell of a desk
 abbrev pub noCell : Cell

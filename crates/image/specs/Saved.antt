@@ -1,42 +1,40 @@
 -- What the code puts for a table that keeps the rules is the image of its model.
-use Prim.Native.Nat.{ℕ, suc, _+_, _-_, _*_, _/_, _%_, _<_, _≤_}
-use mathlib.Core.Path.{_≡_, refl, sym, ap, _∙_, fun-ext}
-use mathlib.Core.Bool.{Bool, true, false, not}
+use Prim.Native.Nat.{ℕ, suc, _+_, _*_, _/_, _%_, _<_, _≤_}
+use mathlib.Core.Path.{_≡_, sym, ap, _∙_, fun-ext}
+use mathlib.Core.Bool.{not}
 use mathlib.Core.List.{List, [], _∷_, _++_, map}
-use mathlib.Core.Option.{Option, none, some}
+use mathlib.Core.Option.{Option, some}
 use native.Mathlib.Omega.{arith}
 use native.Mathlib.Decide.{decLt}
-use native.Mathlib.Nat.{mul-le-mul}
-use borrow.Author.Tests.{eqb-true, eqb-false, lt-ltb, le-ltb}
-use lib.Dec.{eqb, ltb}
+use borrow.Author.Tests.{eqb-true, lt-ltb, le-ltb}
+use lib.Dec.{eqb}
 use lib.ListN.{length, getD, replicate, List·getD-eq-default, length-map, replicate-append-replicate}
 use lib.Seq.{sets}
-use Rattle.laws.specs.Loop.{pick, cases}
-use Rattle.laws.specs.Says.{apart, clash}
+use Rattle.laws.specs.Loop.{cases}
+use Rattle.laws.specs.Says.{clash}
 use Rattle.laws.specs.Stores.{sets-append}
-use Rattle.laws.specs.Tab.{tab, tabFrom}
 use Rattle.laws.specs.Cat.{cat, length-cat}
 use Rattle.laws.specs.Each.{each-in, getD-map-in}
 use Rattle.clock.specs.Vectors.{places, place}
 use Rattle.machine.specs.Table as machine
-use Rattle.machine.specs.Table.{Name, State, written}
-use Rattle.machine.specs.Steps.{isNone, isOpen, openCount}
-use Rattle.machine.specs.Rules.{In, Rules}
+use Rattle.machine.specs.Table.{Name, State}
+use Rattle.machine.specs.Steps.{isNone, openCount}
+use Rattle.machine.specs.Rules.{Rules}
 use Rattle.table.specs.declared.Cell.{Cell}
 use Rattle.table.specs.declared.Desk.{Desk}
 use Rattle.table.specs.declared.Open.{Open}
-use Rattle.table.specs.Value.{all-cells, desk-cells, cellAt, entries, openAt}
+use Rattle.table.specs.Value.{desk-cells, cellAt, entries, openAt}
 use Rattle.table.specs.Names.{named-is}
-use Rattle.table.specs.Model.{model, cellM, openM, appliedM, clockM, cellsM, opensM, slot, cell-in}
-use Rattle.table.specs.Opens.{Unique, opens-at}
+use Rattle.table.specs.Model.{model, cellM, openM, appliedM, cellsM, opensM, slot, cell-in}
+use Rattle.table.specs.Opens.{opens-at}
 use Rattle.table.specs.Sound.{Sound, AllZero}
 use Rattle.image.specs.Names.{names, no-name, length-names, OpenName, names-open}
 use Rattle.image.specs.Counted.{low, counted, names-counted, open-low}
-use Rattle.image.specs.Encode.{words, markBytes, cellBytes, openBytes, block, named, cellPart, openPart, perDesk, openBlocks, blocks, block1, block2, block3, block4, kind2, kind3, kind4, encodeAt, encode}
+use Rattle.image.specs.Encode.{words, cellBytes, openBytes, block, named, cellPart, openPart, perDesk, openBlocks, block1, block2, block3, kind2, kind3, kind4, encodeAt, encode}
 use Rattle.image.specs.Bytes.{most-blocks}
-use Rattle.image.specs.Places.{length-1, length-2, length-3s, length-4, length-encode}
-use Rattle.image.specs.Block.{cellRaw, openRaw, SmallCell, SmallOpen}
-use Rattle.image.specs.Parts.{CellFits, CellsFit, deskBlock, cellPiece, cellBlock, cellRow, OrderFits, noOpen, openOr, openPiece, openBlock}
+use Rattle.image.specs.Places.{length-1, length-2, length-3s, length-encode}
+use Rattle.image.specs.Block.{cellRaw, openRaw}
+use Rattle.image.specs.Parts.{CellsFit, deskBlock, cellRow, OrderFits, noOpen, openOr, openBlock}
 use Rattle.image.specs.Order.{Holds, Ordered, Known}
 use Rattle.image.specs.Limits.{Wide, some-opens, blocks-mono, block-bytes, vector-bytes, cell-bytes, open-bytes, opens-in, blocks-for, opens-most, blocks-most}
 use Rattle.table.specs.Begin.{place-zeros}

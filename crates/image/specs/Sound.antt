@@ -1,7 +1,7 @@
 -- What 12 is given for: "image length not a nonzero multiple of 512, or a block check wrong". No saved image is damaged.
 use Prim.Native.Nat.{ℕ, suc, _+_, _*_, _/_, _%_, _<_, _≤_}
 use mathlib.Core.Path.{_≡_}
-use mathlib.Core.Bool.{Bool, true, false, _&&_}
+use mathlib.Core.Bool.{Bool, false, _&&_}
 use mathlib.Core.List.{List, [], _∷_, _++_}
 use native.Mathlib.Omega.{arith}
 use borrow.Author.Tests.{lt-leb, le-leb, eq-eqb, ne-eqb}
@@ -22,7 +22,7 @@ use Rattle.image.specs.Limits.{Wide, block-bytes, check-at, payload-byte
 
 -- bytes 508-511 of a block
 unfoldable pub checkIn : List ℕ → ℕ
-checkIn l = getD l check-at 0 + 256 * getD l 509 0 + 65536 * getD l 510 0 + 16777216 * getD l 511 0
+checkIn l = getD l check-at 0 + 256 * getD l (check-at + 1) 0 + 65536 * getD l (check-at + 2) 0 + 16777216 * getD l (check-at + 3) 0
 
 -- the block at place k
 abbrev pub blockIn : List ℕ → ℕ → List ℕ

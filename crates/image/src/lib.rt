@@ -3,7 +3,7 @@ ghost use mathlib.Core.Path.{_≡_};
 ghost use mathlib.Core.List.{[], _∷_};
 ghost use mathlib.Core.Option.{none};
 ghost use Prim.Native.Nat.{ℕ, suc, _+_, _-_, _*_, _/_, _<_, _≤_, min};
-ghost use lib.ListN.{getD, set, length};
+ghost use lib.ListN.{getD, length};
 ghost use lib.Seq.{sets};
 ghost use Rattle.laws.specs.Cat.{cat};
 ghost use Rattle.clock.specs.Vectors.{places, place};
@@ -13,6 +13,7 @@ ghost use Rattle.image.specs.Encode.{word, long, words, markBytes, deskB
 ghost use Rattle.image.specs.Sound.{rightCheck, sound};
 ghost use Rattle.image.specs.Block.{head, cellRaw, openRaw, SmallCell, SmallOpen};
 ghost use Rattle.image.specs.Parts.{CellsFit, CellFor, cellPiece, cellBlock, cellRow, deskBlock, OrderFits, OpenFor, openPiece, openBlock};
+ghost use Rattle.machine.specs.Table.{most-writes};
 ghost use Rattle.machine.specs.Rules.{In};
 ghost use Rattle.table.specs.Value.{desk-cells, entries};
 ghost use Rattle.table.specs.Model.{appliedM, opensM, model};
@@ -35,27 +36,27 @@ use table::Table;
 
 // Bytes to a block.
 pub const BLOCK: usize = 512;
-// Where its payload and its check stand.
+// Where its payload stands.
 pub const PAYLOAD_AT: usize = 4;
-
+// Where its check stands.
 pub const CHECK: usize = 508;
-// A desk, a cell and an open write begin with 4 bytes and a vector; behind it stand a desk's clock and an open write's marks.
+// Where the vector of a desk, a cell and an open write stands: behind 4 bytes.
 pub const VECTOR_AT: usize = 4;
-
+// Bytes to a vector.
 pub const VECTOR_BYTES: usize = 2 * PLACES;
-
+// Where a desk's clock and an open write's marks stand.
 pub const AFTER_VECTOR: usize = VECTOR_AT + VECTOR_BYTES;
-
+// The same of a desk's vectors in its block.
 pub const APPLIED_AT: usize = PAYLOAD_AT + VECTOR_AT;
-
+// The clock is the second.
 const CLOCK_AT: usize = PAYLOAD_AT + AFTER_VECTOR;
-// Bytes to a cell and to an open write, and how many of them to a block.
+// Bytes to a cell.
 pub const CELL_BYTES: usize = AFTER_VECTOR;
-
+// Bytes to an open write.
 pub const OPEN_BYTES: usize = AFTER_VECTOR + PLACES;
-
+// Cells to a block.
 pub const CELLS_IN: usize = (CHECK - PAYLOAD_AT) / CELL_BYTES;
-
+// Open writes to a block.
 pub const OPENS_IN: usize = (CHECK - PAYLOAD_AT) / OPEN_BYTES;
 // Bytes to the largest image: the sizes, the desks, their cells, the open writes.
 pub const IMAGE: usize = BLOCK
@@ -437,7 +438,7 @@ fn lowest(desks: [Desk; PLACES], n: usize, u: usize) -> u16
 // How many writes are open.
 fn open_count(desks: [Desk; PLACES], n: usize) -> usize
     requires { ⌜ n ≤ places ⌝ }
-    ensures { λ r. ⌜ (r ≡ length (counted n (appliedM desks))) × (r ≤ 524288) ⌝ }
+    ensures { λ r. ⌜ (r ≡ length (counted n (appliedM desks))) × (r ≤ places * (most-writes + 1)) ⌝ }
 {
     let mut r = 0;
     let mut u = 0;
@@ -510,7 +511,7 @@ pub fn per_desk(m: usize) -> usize
 
 // Blocks to the open writes.
 fn open_blocks(count: usize) -> usize
-    requires { ⌜ count ≤ 524288 ⌝ }
+    requires { ⌜ count ≤ places * (most-writes + 1) ⌝ }
     ensures { λ r. ⌜ r ≡ blocks-for (opens-in places) count ⌝ }
 {
     (count + (OPENS_IN - 1)) / OPENS_IN
@@ -525,7 +526,7 @@ fn cells_end(n: usize, c: usize) -> usize
 }
 
 pub fn length_of(n: usize, m: usize, count: usize) -> usize
-    requires { ⌜ (n ≤ places) × ((m ≤ desk-cells) × (count ≤ 524288)) ⌝ }
+    requires { ⌜ (n ≤ places) × ((m ≤ desk-cells) × (count ≤ places * (most-writes + 1))) ⌝ }
     ensures { λ r. ⌜ r ≡ block-bytes * (1 + n + perDesk places m * n + blocks-for (opens-in places) count) ⌝ }
 {
     let c = per_desk(m);

@@ -1,46 +1,44 @@
 -- What the code reads of an image that a table has is that table.
 use Prim.Native.Nat.{ℕ, zero, suc, _+_, _-_, _*_, _/_, _%_, _<_, _≤_}
 use mathlib.Core.Path.{_≡_, refl, sym, ap, _∙_, fun-ext}
-use mathlib.Core.Bool.{Bool, true, false, not}
-use mathlib.Core.List.{List, []}
+use mathlib.Core.Bool.{true, false, not}
+use mathlib.Core.List.{List}
 use mathlib.Core.Option.{Option, none, some}
 use native.Mathlib.Omega.{arith}
 use native.Mathlib.Decide.{decLt}
-use borrow.Author.Tests.{lt-ltb, le-ltb, eq-eqb, ne-eqb}
-use lib.Dec.{ltb, eqb}
-use lib.ListN.{length, getD, replicate, length-replicate}
+use borrow.Author.Tests.{lt-ltb, le-ltb, ne-eqb}
+use lib.ListN.{getD, replicate, length-replicate}
 use lib.Seq.{take-all}
-use Rattle.laws.specs.Loop.{pick, cases}
+use Rattle.laws.specs.Loop.{cases}
 use Rattle.laws.specs.Says.{apart, clash}
-use Rattle.laws.specs.Update.{same-or}
 use Rattle.laws.specs.From.{from1, from1-is}
-use Rattle.laws.specs.Tab.{tab, length-tab, getD-tab, getD-tab-out}
+use Rattle.laws.specs.Tab.{tab, getD-tab, getD-tab-out}
 use Rattle.laws.specs.Each.{each-in}
-use Rattle.laws.specs.Cat.{cat, part}
-use Rattle.clock.specs.Vectors.{places, place}
+use Rattle.laws.specs.Cat.{part}
+use Rattle.clock.specs.Vectors.{places}
 use Rattle.machine.specs.Table as machine
 use Rattle.machine.specs.Table.{State, Vec, zeros, Name}
 use Rattle.machine.specs.Steps.{isNone, isOpen, openCount}
-use Rattle.machine.specs.Rules.{In, Rules}
+use Rattle.machine.specs.Rules.{Rules}
 use Rattle.table.specs.declared.Cell.{Cell}
 use Rattle.table.specs.declared.Desk.{Desk}
 use Rattle.table.specs.declared.Open.{Open}
 use Rattle.table.specs.declared.Table.{Table}
 use Rattle.table.specs.Value.{desk0, desk-cells, all-cells, cellAt, entries, openAt, isFree}
-use Rattle.table.specs.Names.{number, named, namedAt, free-named, own-named, named-is}
-use Rattle.table.specs.Model.{cellM, openM, appliedVec, clockVec, appliedM, clockM, cellsM, opensM, slot, cell-in, cell-out, modelOf, model, state-path}
+use Rattle.table.specs.Names.{number, namedAt, free-named, own-named, named-is}
+use Rattle.table.specs.Model.{cellM, openM, appliedVec, clockVec, appliedM, clockM, cellsM, opensM, cell-in, cell-out, modelOf, state-path}
 use Rattle.table.specs.Opens.{Unique, opens-at, opens-none}
-use Rattle.table.specs.Sound.{Sound, SoundTable, AllZero}
+use Rattle.table.specs.Sound.{SoundTable, AllZero}
 use Rattle.table.specs.Begin.{zeros-at, place-zeros}
 use Rattle.image.specs.Names.{names, no-name, length-names, OpenName, names-open, open-named}
 use Rattle.image.specs.Distinct.{names-distinct}
 use native.Mathlib.Nat.{div-add-mod, mod-lt, le-refl}
-use Rattle.image.specs.Encode.{words, cellPart, cellBytes, perDesk, openBlocks, encodeAt, encode}
+use Rattle.image.specs.Encode.{cellPart, cellBytes, perDesk, openBlocks, encodeAt, encode}
 use Rattle.image.specs.Places.{length-encode, part-3}
 use Rattle.image.specs.Fields.{zero-words, vec-words, vecOf, cellOf, openOf, writerIn, numberIn}
-use Rattle.image.specs.Decode.{nIn, mIn, countIn, deskPlace, cellPlace, openPlace, deskIn, cellIn, entryIn, decode, Shows, n-back, m-back, count-back, applied-back, clock-back, cell-back, shows-at, open-name}
+use Rattle.image.specs.Decode.{nIn, mIn, countIn, deskPlace, cellPlace, openPlace, deskIn, cellIn, Shows, n-back, m-back, count-back, applied-back, clock-back, cell-back, shows-at, open-name}
 use Rattle.load.specs.Spread.{Among, Spread, OpensRead}
-use Rattle.load.specs.Read.{wordsFrom, cellFrom, openFrom, deskFrom, noDesk, noCell, deskFor, cellFor, Fits, CellsRead, getD-part, part-part, place-words, cell-read, open-read}
+use Rattle.load.specs.Read.{cellFrom, openFrom, deskFrom, noDesk, noCell, deskFor, cellFor, Fits, CellsRead, getD-part, part-part, place-words, cell-read, open-read}
 use Rattle.image.specs.Limits.{Wide, some-cells, block-of, wide, vector-at, vector-bytes, after-vector, cell-bytes, open-bytes, cells-in}
 use Rattle.image.specs.Fill.{drop-replicate}
 

@@ -1,15 +1,15 @@
 -- The answer to a load: document 01's number and values for every case of it.
 use Prim.Native.Nat.{ℕ, _+_, _<_, _≤_}
-use mathlib.Core.Path.{_≡_, refl, sym, ap, _∙_}
+use mathlib.Core.Path.{_≡_, sym, ap, _∙_}
 use mathlib.Core.Bool.{Bool, true, false}
-use mathlib.Core.List.{List, _++_}
+use mathlib.Core.List.{List}
 use native.Mathlib.Omega.{arith}
 use native.Mathlib.Nat.{zero-add}
 use lib.ListN.{length, getD, take, drop, replicate, length-replicate}
 use lib.Seq.{sets, sets-eq, take-append-seam, length-sets, ext-getD, getD-take, length-take-le}
 use Rattle.laws.specs.Says.{Says, apart, says-as}
 use Rattle.machine.specs.Table.{State}
-use Rattle.machine.specs.Answer.{Refusal, damaged, broken}
+use Rattle.machine.specs.Answer.{damaged, broken}
 use Rattle.machine.specs.Rules.{Rules}
 use Rattle.table.specs.declared.Table.{Table}
 use Rattle.table.specs.Begin.{freshTable}

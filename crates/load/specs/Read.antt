@@ -1,19 +1,19 @@
 -- The fields of an image as the code reads them: the code's desk, cell and open write from a place on.
-use Prim.Native.Nat.{ℕ, zero, suc, _+_, _-_, _*_, _/_, _%_, _<_, _≤_}
-use mathlib.Core.Path.{_≡_, refl, sym, ap, _∙_, fun-ext}
-use mathlib.Core.Bool.{Bool, true, false}
+use Prim.Native.Nat.{ℕ, zero, suc, _+_, _*_, _/_, _%_, _<_, _≤_}
+use mathlib.Core.Path.{_≡_, refl, sym, ap, _∙_}
+use mathlib.Core.Bool.{true, false}
 use mathlib.Core.List.{List, [], _∷_}
 use native.Mathlib.Omega.{arith}
 use native.Mathlib.Decide.{decLt}
-use borrow.Author.Tests.{ltb-true, ltb-false, lt-ltb, le-ltb}
-use lib.Dec.{ltb, eqb}
+use borrow.Author.Tests.{lt-ltb, le-ltb}
+use lib.Dec.{ltb}
 use native.Mathlib.Nat.{mul-le-mul, mul-le-mul-left, mod-lt}
-use lib.ListN.{length, getD, set, take, drop, replicate}
+use lib.ListN.{length, getD, take, drop, replicate}
 use lib.Seq.{getD-take, getD-drop, take-take, drop-drop}
 use Rattle.laws.specs.Loop.{pick, cases}
 use Rattle.laws.specs.Says.{Says, clash}
 use Rattle.laws.specs.Update.{same-or}
-use Rattle.laws.specs.From.{from1, from1-is}
+use Rattle.laws.specs.From.{from1-is}
 use Rattle.laws.specs.Tab.{tab, getD-tab, getD-tab-out}
 use Rattle.laws.specs.Cat.{part}
 use Rattle.clock.specs.Vectors.{places, place, clockOf}
@@ -21,7 +21,7 @@ use Rattle.machine.specs.Table as machine
 use Rattle.table.specs.declared.Cell.{Cell}
 use Rattle.table.specs.declared.Desk.{Desk}
 use Rattle.table.specs.declared.Open.{Open}
-use Rattle.table.specs.Value.{desk-cells, all-cells, cellAt, cellAt-put, cellAt-other, entries, openAt, entriesOf, entriesOf-put, openAt-stored, openAt-kept, CellPut, OpenPut}
+use Rattle.table.specs.Value.{desk-cells, all-cells, cellAt, cellAt-put, cellAt-other, entries, CellPut}
 use Rattle.table.specs.Model.{cellM, openM}
 use Rattle.image.specs.Encode.{perDesk}
 use Rattle.image.specs.Fields.{vecOf, marksOf, cellOf, openOf}
@@ -62,7 +62,7 @@ part-part b p q v w h = part-head (drop p b) q v w h ∙ rw (drop-drop q p b)
 
 -- where a vector takes ps places in the image
 module _ (ps : ℕ) where
-  -- 8 numbers of 16 bits; 8 of a byte
+  -- ps numbers of 16 bits; ps of a byte
   abbrev pub wordsFrom : List ℕ → ℕ → List ℕ
   wordsFrom b p = tab ps (λ t. wordAt b (p + 2 * t))
 

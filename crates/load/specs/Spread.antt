@@ -1,13 +1,13 @@
 -- The open writes of an image, each put into an entry of its own: whichever entry that is makes no difference.
-use Prim.Native.Nat.{ℕ, zero, suc, _+_, _*_, _<_, _≤_}
+use Prim.Native.Nat.{ℕ, _+_, _*_, _<_}
 use mathlib.Core.Path.{_≡_, refl, sym, ap, _∙_}
 use mathlib.Core.Bool.{Bool, true, false, not}
-use mathlib.Core.List.{List, [], _∷_}
+use mathlib.Core.List.{List}
 use native.Mathlib.Omega.{arith}
-use borrow.Author.Tests.{eqb-true, eqb-false, eq-eqb, ne-eqb}
+use borrow.Author.Tests.{eq-eqb, ne-eqb}
 use lib.Dec.{eqb}
-use lib.ListN.{length, getD, set, replicate}
-use Rattle.laws.specs.Loop.{pick, cases}
+use lib.ListN.{set, replicate}
+use Rattle.laws.specs.Loop.{pick}
 use Rattle.laws.specs.Says.{apart}
 use Rattle.laws.specs.Update.{same-or}
 use Rattle.laws.specs.Count.{count, count-all, count-none, count-more}

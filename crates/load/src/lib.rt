@@ -1,11 +1,11 @@
 // A table read from its saved image (document 01, "Saved image").
 ghost use mathlib.Core.Path.{_≡_};
-ghost use Prim.Native.Nat.{ℕ, _+_, _*_, _/_, _<_, _≤_};
+ghost use Prim.Native.Nat.{_+_, _*_, _/_, _<_, _≤_};
 ghost use lib.ListN.{length, take, replicate};
 ghost use Rattle.laws.specs.Says.{Says};
 ghost use Rattle.laws.specs.Tab.{tab};
 ghost use Rattle.clock.specs.Vectors.{places};
-ghost use Rattle.table.specs.Value.{desk-cells, all-cells, entries, open-width};
+ghost use Rattle.table.specs.Value.{all-cells, entries, open-width};
 ghost use Rattle.table.specs.Model.{model};
 ghost use Rattle.table.specs.Sound.{Sound};
 ghost use Rattle.table.specs.Begin.{freshTable};

@@ -3,7 +3,7 @@ use Rattle.image.specs.Limits.{payload-at, cell-bytes, cells-in}
 use Rattle.image.specs.Parts.{cellPiece, length-cellPiece, one-more, filled}
 use Rattle.laws.specs.Cat.{cat}
 use lib.Seq.{sets}
-use mathlib.Core.Path.{_≡_, refl, ap, _∙_, sym}
+use mathlib.Core.Path.{_≡_, refl, _∙_}
 use native.Mathlib.Omega.{arith}
 use Prim.Native.Nat.{_+_, _≤_, _-_, _*_}
 use borrow.Author.Needs.{needs}

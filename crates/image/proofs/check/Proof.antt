@@ -1,10 +1,9 @@
 use Rattle.image.specs.Limits.{check-at}
 use Rattle.image.specs.Check.{weighed, checkOf, check-more}
 use Rattle.laws.specs.Sum.{sum}
-use mathlib.Core.Path.{_≡_, refl, ap, _∙_, sym}
+use mathlib.Core.Path.{_≡_, _∙_}
 use Prim.Native.Nat.{_+_, _*_, _≤_, _-_}
 use native.Mathlib.Omega.{arith}
-use native.Mathlib.Numerals.{add-one}
 use borrow.Author.Needs.{needs}
 use Rattle.image.proofs.check.Statement.{statement}
 use Rattle.image.proofs.check.Tie as tie

@@ -1,14 +1,6 @@
 use Rattle.image.specs.Limits.{wide}
-use Prim.Native.Nat.{ℕ}
-use mathlib.Core.List.{List}
-use Rattle.image.specs.Block.{head, head-put, fill-desk, block-is, desk-steps}
-use Rattle.image.specs.Fill.{pad}
-use Rattle.image.specs.Fields.{length-desk}
-use Rattle.image.specs.Encode.{deskBytes}
-use Rattle.clock.specs.Vectors.{places, place}
-use lib.Seq.{sets}
-use native.Mathlib.Omega.{arith}
-use mathlib.Core.Path.{_≡_, refl, ap, _∙_, sym}
+use Rattle.image.specs.Block.{desk-steps}
+use Rattle.clock.specs.Vectors.{places}
 use borrow.Author.Needs.{needs}
 use Rattle.image.proofs.desk_block.Statement.{statement}
 use Rattle.image.proofs.desk_block.Tie as tie

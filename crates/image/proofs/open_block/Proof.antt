@@ -4,7 +4,7 @@ use Rattle.image.specs.Parts.{openPiece, length-openPiece, one-more, fil
 use Rattle.image.specs.Block.{openRaw}
 use Rattle.laws.specs.Cat.{cat}
 use lib.Seq.{sets}
-use mathlib.Core.Path.{_≡_, refl, ap, _∙_, sym}
+use mathlib.Core.Path.{_≡_, refl, ap, _∙_}
 use native.Mathlib.Omega.{arith}
 use Prim.Native.Nat.{_+_, _≤_, _-_, _*_}
 use borrow.Author.Needs.{needs}

@@ -1,13 +1,13 @@
 use Rattle.table.specs.Value.{entries}
 use Rattle.image.specs.Order.{ahead, Ordered, ordered-none, ordered-next, known-room, low-own}
-use Rattle.image.specs.Counted.{counted, low}
-use Rattle.table.specs.Model.{appliedM, opensM}
+use Rattle.image.specs.Counted.{counted}
+use Rattle.table.specs.Model.{appliedM}
 use Rattle.laws.specs.Cat.{cat}
 use lib.ListN.{length}
 use native.Mathlib.Numerals.{add-one}
 use native.Mathlib.Omega.{arith}
-use mathlib.Core.Path.{_≡_, _∙_, ap}
-use Prim.Native.Nat.{_+_, _≤_, _-_, _*_, suc, _<_}
+use mathlib.Core.Path.{_≡_, _∙_}
+use Prim.Native.Nat.{_≤_, _-_, suc}
 use borrow.Author.Needs.{needs}
 use Rattle.image.proofs.order_all.Statement.{statement}
 use Rattle.image.proofs.order_all.Tie as tie

@@ -1,6 +1,6 @@
 use Rattle.clock.specs.Vectors.{places}
 use Rattle.image.specs.Block.{cell-steps}
-use mathlib.Core.Path.{_≡_, refl, ap, _∙_, sym}
+use mathlib.Core.Path.{_∙_}
 use borrow.Author.Needs.{needs}
 use Rattle.image.proofs.put_cell.Statement.{statement}
 use Rattle.image.proofs.put_cell.Tie as tie

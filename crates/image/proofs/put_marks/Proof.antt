@@ -4,9 +4,9 @@ use Rattle.image.specs.Encode.{markBytes}
 use Rattle.laws.specs.Tab.{tab, tabFrom}
 use lib.Seq.{sets}
 use lib.ListN.{getD}
-use mathlib.Core.Path.{_≡_, refl, ap, _∙_, sym}
+use mathlib.Core.Path.{_≡_, _∙_}
 use native.Mathlib.Omega.{arith}
-use Prim.Native.Nat.{_+_, _≤_, _-_}
+use Prim.Native.Nat.{_≤_, _-_}
 use borrow.Author.Needs.{needs}
 use Rattle.image.proofs.put_marks.Statement.{statement}
 use Rattle.image.proofs.put_marks.Tie as tie

@@ -4,9 +4,9 @@ use Rattle.image.specs.Encode.{word, words}
 use Rattle.laws.specs.Cat.{cat, length-cat}
 use lib.Seq.{sets}
 use lib.ListN.{getD}
-use mathlib.Core.Path.{_≡_, refl, ap, _∙_, sym}
+use mathlib.Core.Path.{_≡_, refl, _∙_}
 use native.Mathlib.Omega.{arith}
-use Prim.Native.Nat.{_+_, _≤_, _-_, _*_}
+use Prim.Native.Nat.{_≤_, _-_, _*_}
 use borrow.Author.Needs.{needs}
 use Rattle.image.proofs.put_words.Statement.{statement}
 use Rattle.image.proofs.put_words.Tie as tie

@@ -1,13 +1,12 @@
 use Rattle.clock.specs.Vectors.{places}
 use Rattle.image.specs.Limits.{block-bytes}
-use Rattle.image.specs.Parts.{cellRow, length-cellRow, one-more, row-room}
+use Rattle.image.specs.Parts.{cellRow, length-cellRow, stored-more, row-room}
 use Rattle.laws.specs.Cat.{cat}
-use lib.Seq.{sets, length-sets}
+use lib.Seq.{sets}
 use lib.ListN.{length}
-use mathlib.Core.Path.{_≡_, refl, ap, _∙_, sym}
-use native.Mathlib.Nat.{mul-le-mul, mul-le-mul-left}
+use mathlib.Core.Path.{_≡_, refl, _∙_}
 use native.Mathlib.Omega.{arith}
-use Prim.Native.Nat.{_+_, _≤_, _-_, _*_, _<_}
+use Prim.Native.Nat.{_+_, _≤_, _-_, _*_}
 use borrow.Author.Needs.{needs}
 use Rattle.image.proofs.save_cells.Statement.{statement}
 use Rattle.image.proofs.save_cells.Tie as tie
@@ -43,8 +42,7 @@ save-row-requires c κs = let A = (c .before .before .before .before .args) in l
 loop-again : tie.Need-loop-again Inv-loop μ-loop
 loop-again c = let L = (c .before .before .before .before .before .loop) in let A = (c .before .before .before .before .before .before .before .args) in
     let f = cellRow places (A .cells .now) (A .n) (A .c) in
-    let e = one-more f (block-bytes * A .c) (length-cellRow places (A .cells .now) (A .n) (A .c)) (A .out .now) (L .out) (c .before .before .save-row .last .0) (f (L .i)) (block-bytes * (1 + A .n)) (L .i) (block-bytes * (1 + A .n + A .c * L .i)) (L .inv .1 .0) (omega arith) refl (c .before .before .save-row .ensures) in
-    (search needs, (e, ap length e ∙ length-sets (A .out .now) (block-bytes * (1 + A .n)) (cat f (L .i + 1))))
+    (search needs, stored-more f (block-bytes * A .c) (length-cellRow places (A .cells .now) (A .n) (A .c)) (A .out .now) (L .out) (c .before .before .save-row .last .0) (f (L .i)) (block-bytes * (1 + A .n)) (L .i) (block-bytes * (1 + A .n + A .c * L .i)) (L .inv .1 .0) (omega arith) refl (c .before .before .save-row .ensures))
 
 -- src/lib.rt:288:1
 returns : tie.Need-returns Inv-loop μ-loop

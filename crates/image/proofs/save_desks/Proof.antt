@@ -1,10 +1,10 @@
 use Rattle.clock.specs.Vectors.{places}
 use Rattle.image.specs.Limits.{wide, block-bytes}
-use Rattle.image.specs.Parts.{deskBlock, length-deskBlock, desk-block-is, one-more}
+use Rattle.image.specs.Parts.{deskBlock, length-deskBlock, desk-block-is, stored-more}
 use Rattle.laws.specs.Cat.{cat}
-use lib.Seq.{sets, length-sets}
+use lib.Seq.{sets}
 use lib.ListN.{length}
-use mathlib.Core.Path.{_≡_, refl, ap, _∙_, sym}
+use mathlib.Core.Path.{_≡_, refl, _∙_}
 use native.Mathlib.Omega.{arith}
 use Prim.Native.Nat.{_+_, _≤_, _-_, _*_}
 use borrow.Author.Needs.{needs}
@@ -30,8 +30,7 @@ loop-holds c = search needs
 loop-again : tie.Need-loop-again Inv-loop μ-loop
 loop-again c = let L = (c .before .before .before .before .before .before .before .loop) in let A = (c .before .before .before .before .before .before .before .before .before .args) in
     let f = desk-block-is places (A .t2) (L .i) (1 + L .i) (c .before .before .before .before .desk-block .result) refl (c .before .before .before .before .desk-block .ensures) in
-    let e = one-more (deskBlock places (A .t2)) block-bytes (length-deskBlock places wide (A .t2)) (A .out .now) (L .out) (c .before .before .store .last .0) (c .before .before .before .before .desk-block .result) block-bytes (L .i) (block-bytes * (1 + L .i)) (L .inv .1 .0) (omega arith) f (c .before .before .store .ensures) in
-    (search needs, (e, ap length e ∙ length-sets (A .out .now) block-bytes (cat (deskBlock places (A .t2)) (L .i + 1))))
+    (search needs, stored-more (deskBlock places (A .t2)) block-bytes (length-deskBlock places wide (A .t2)) (A .out .now) (L .out) (c .before .before .store .last .0) (c .before .before .before .before .desk-block .result) block-bytes (L .i) (block-bytes * (1 + L .i)) (L .inv .1 .0) (omega arith) f (c .before .before .store .ensures))
 
 -- src/lib.rt:260:1
 returns : tie.Need-returns Inv-loop μ-loop

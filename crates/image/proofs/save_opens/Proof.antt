@@ -1,10 +1,10 @@
 use Rattle.clock.specs.Vectors.{places}
 use Rattle.image.specs.Limits.{block-bytes}
-use Rattle.image.specs.Parts.{openBlock, length-openBlock, one-more}
+use Rattle.image.specs.Parts.{openBlock, length-openBlock, stored-more}
 use Rattle.laws.specs.Cat.{cat}
-use lib.Seq.{sets, length-sets}
+use lib.Seq.{sets}
 use lib.ListN.{length}
-use mathlib.Core.Path.{_≡_, refl, ap, _∙_, sym}
+use mathlib.Core.Path.{_≡_, _∙_}
 use native.Mathlib.Omega.{arith}
 use Prim.Native.Nat.{_+_, _≤_, _-_, _*_}
 use borrow.Author.Needs.{needs}
@@ -30,8 +30,7 @@ loop-holds c = search needs
 loop-again : tie.Need-loop-again Inv-loop μ-loop
 loop-again c = let L = (c .before .before .before .before .before .before .loop) in let A = (c .before .before .before .before .before .before .before .before .args) in
     let f = openBlock places (A .opens .now) (A .order .now) (A .count) (A .k) in
-    let e = one-more f block-bytes (length-openBlock places (A .opens .now) (A .order .now) (A .count) (A .k)) (A .out .now) (L .out) (c .before .before .store .last .0) (c .before .before .before .before .open-block .result) (block-bytes * A .k) (L .q) (block-bytes * (A .k + L .q)) (L .inv .1 .0) (omega arith) (c .before .before .before .before .open-block .ensures) (c .before .before .store .ensures) in
-    (search needs, (e, ap length e ∙ length-sets (A .out .now) (block-bytes * A .k) (cat f (L .q + 1))))
+    (search needs, stored-more f block-bytes (length-openBlock places (A .opens .now) (A .order .now) (A .count) (A .k)) (A .out .now) (L .out) (c .before .before .store .last .0) (c .before .before .before .before .open-block .result) (block-bytes * A .k) (L .q) (block-bytes * (A .k + L .q)) (L .inv .1 .0) (omega arith) (c .before .before .before .before .open-block .ensures) (c .before .before .store .ensures))
 
 -- src/lib.rt:300:1
 returns : tie.Need-returns Inv-loop μ-loop

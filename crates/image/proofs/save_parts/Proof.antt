@@ -1,11 +1,9 @@
 use Rattle.image.specs.Limits.{wide}
 use Rattle.clock.specs.Vectors.{places}
-use Rattle.image.specs.Saved.{known, room, saved, order-fits, cells-fit, saved-all}
-use Rattle.image.specs.Encode.{openBlocks}
+use Rattle.image.specs.Saved.{Room, known, room, order-fits, cells-fit, saved-all}
+use Rattle.image.specs.Parts.{OrderFits}
 use lib.ListN.{length}
 use native.Mathlib.Omega.{arith}
-use mathlib.Core.Path.{refl, _∙_, sym, ap}
-use Prim.Native.Nat.{_+_, _*_, _≤_}
 use borrow.Author.Needs.{needs}
 use Rattle.image.proofs.save_parts.Statement.{statement}
 use Rattle.image.proofs.save_parts.Tie as tie
@@ -21,70 +19,95 @@ use Rattle.image.proofs.save_opens.Reads as save-opens-reads
 use Rattle.image.proofs.size_block.Reads as size-block-reads
 use Rattle.image.proofs.store.Reads as store-reads
 
--- src/lib.rt:471:9
 order-all-requires : tie.Need-order-all-requires
-order-all-requires c κs = let A = (c .before .before .before .args) in (search needs, known places wide (A .core .n) (A .core .m) (A .core .desks) (A .cells .now) (A .opens .now) (c .before .before .before .pre .0) (c .before .before .before .pre .0 .rules .frame .ranges .desks .1))
+order-all-requires c κs =
+    let A = c .before .before .before .args in
+    let ok = c .before .before .before .pre .0 in
+    (search needs, known places wide (A .core .n) (A .core .m) (A .core .desks) (A .cells .now) (A .opens .now) ok (ok .rules .frame .ranges .desks .1))
 
--- src/lib.rt:472:9
 per-desk-requires : tie.Need-per-desk-requires
 per-desk-requires c κs = let r = c .before .before .before .before .before .pre .0 .rules .frame .ranges .cells .1 in omega arith
 
--- src/lib.rt:473:9
 cells-end-requires : tie.Need-cells-end-requires
 cells-end-requires c κs = let r = c .before .before .before .before .before .before .pre .0 .rules .frame .ranges .desks .1 in let q = c .per-desk .ensures .1 in omega arith
 
--- src/lib.rt:474:9
+-- once the open writes are in order, and the blocks before them counted
+ordered : (c : tie.After-cells-end) → OrderFits (c .before .before .before .before .before .before .before .args .opens .now) (c .before .before .before .order-all .last .1 .1 .1 .0) (c .before .before .before .order-all .result)
+ordered c =
+    let A = c .before .before .before .before .before .before .before .args in
+    let ok = c .before .before .before .before .before .before .before .pre .0 in
+    let o = c .before .before .before .order-all in
+    order-fits places wide (A .core .n) (A .core .m) (A .core .desks) (A .cells .now) (A .opens .now) ok (ok .rules .frame .ranges .desks .1) (o .last .1 .1 .1 .0) (o .result) (o .ensures)
+
 open-blocks-requires : tie.Need-open-blocks-requires
-open-blocks-requires c κs = let A = (c .before .before .before .before .before .before .before .args) in let r = order-fits places wide (A .core .n) (A .core .m) (A .core .desks) (A .cells .now) (A .opens .now) (c .before .before .before .before .before .before .before .pre .0) (c .before .before .before .before .before .before .before .pre .0 .rules .frame .ranges .desks .1) (c .before .before .before .order-all .last .1 .1 .1 .0) (c .before .before .before .order-all .result) (c .before .before .before .order-all .ensures) .few in omega arith
+open-blocks-requires c κs = let r = ordered c .few in omega arith
 
--- src/lib.rt:475:24
+-- once all blocks are counted: the room that each part has
+planned : (c : tie.After-open-blocks)
+    → (let A = c .before .before .before .before .before .before .before .before .args in Room places (A .core .n) (A .core .m) (c .before .before .before .before .order-all .result) (c .before .before .per-desk .result) (c .before .cells-end .result) (c .open-blocks .result) (length (A .out .now)))
+planned c =
+    let A = c .before .before .before .before .before .before .before .before .args in
+    let ok = c .before .before .before .before .before .before .before .before .pre .0 in
+    let o = c .before .before .before .before .order-all in
+    room places wide (A .core .n) (A .core .m) (A .core .desks) (A .cells .now) (A .opens .now) ok (ok .rules .frame .ranges .desks .1) (o .last .1 .1 .1 .0) (o .result) (o .ensures)
+    (length (A .out .now)) (c .before .before .per-desk .result) (c .before .cells-end .result) (c .open-blocks .result) (c .before .before .per-desk .ensures .0) (c .before .cells-end .ensures .0) (c .open-blocks .ensures) (c .before .before .before .before .before .before .before .before .pre .1)
+
 cast-size-block : tie.Need-cast-size-block
-cast-size-block c = let A = (c .before .before .before .before .before .before .before .before .args) in let R = room places wide (A .core .n) (A .core .m) (A .core .desks) (A .cells .now) (A .opens .now) (c .before .before .before .before .before .before .before .before .pre .0) (c .before .before .before .before .before .before .before .before .pre .0 .rules .frame .ranges .desks .1) (c .before .before .before .before .order-all .last .1 .1 .1 .0) (c .before .before .before .before .order-all .result) (c .before .before .before .before .order-all .ensures) (length (A .out .now)) (c .before .before .per-desk .result) (c .before .cells-end .result) (c .open-blocks .result) (c .before .before .per-desk .ensures .0) (c .before .cells-end .ensures .0) (c .open-blocks .ensures) (c .before .before .before .before .before .before .before .before .pre .1) in omega arith
+cast-size-block c = let R = planned c in omega arith
 
--- src/lib.rt:475:34
 cast-size-block-2 : tie.Need-cast-size-block-2
-cast-size-block-2 c = let A = (c .before .before .before .before .before .before .before .before .args) in let R = room places wide (A .core .n) (A .core .m) (A .core .desks) (A .cells .now) (A .opens .now) (c .before .before .before .before .before .before .before .before .pre .0) (c .before .before .before .before .before .before .before .before .pre .0 .rules .frame .ranges .desks .1) (c .before .before .before .before .order-all .last .1 .1 .1 .0) (c .before .before .before .before .order-all .result) (c .before .before .before .before .order-all .ensures) (length (A .out .now)) (c .before .before .per-desk .result) (c .before .cells-end .result) (c .open-blocks .result) (c .before .before .per-desk .ensures .0) (c .before .cells-end .ensures .0) (c .open-blocks .ensures) (c .before .before .before .before .before .before .before .before .pre .1) in omega arith
+cast-size-block-2 c = let R = planned c in omega arith
 
--- src/lib.rt:475:44
 cast-size-block-3 : tie.Need-cast-size-block-3
-cast-size-block-3 c = let A = (c .before .before .before .before .before .before .before .before .args) in let R = room places wide (A .core .n) (A .core .m) (A .core .desks) (A .cells .now) (A .opens .now) (c .before .before .before .before .before .before .before .before .pre .0) (c .before .before .before .before .before .before .before .before .pre .0 .rules .frame .ranges .desks .1) (c .before .before .before .before .order-all .last .1 .1 .1 .0) (c .before .before .before .before .order-all .result) (c .before .before .before .before .order-all .ensures) (length (A .out .now)) (c .before .before .per-desk .result) (c .before .cells-end .result) (c .open-blocks .result) (c .before .before .per-desk .ensures .0) (c .before .cells-end .ensures .0) (c .open-blocks .ensures) (c .before .before .before .before .before .before .before .before .pre .1) in omega arith
+cast-size-block-3 c = let R = planned c in omega arith
 
--- src/lib.rt:475:9
 size-block-requires : tie.Need-size-block-requires
-size-block-requires c κs = let A = (c .before .before .before .before .before .before .before .before .args) in let R = room places wide (A .core .n) (A .core .m) (A .core .desks) (A .cells .now) (A .opens .now) (c .before .before .before .before .before .before .before .before .pre .0) (c .before .before .before .before .before .before .before .before .pre .0 .rules .frame .ranges .desks .1) (c .before .before .before .before .order-all .last .1 .1 .1 .0) (c .before .before .before .before .order-all .result) (c .before .before .before .before .order-all .ensures) (length (A .out .now)) (c .before .before .per-desk .result) (c .before .cells-end .result) (c .open-blocks .result) (c .before .before .per-desk .ensures .0) (c .before .cells-end .ensures .0) (c .open-blocks .ensures) (c .before .before .before .before .before .before .before .before .pre .1) in omega arith
+size-block-requires c κs = let R = planned c in omega arith
 
--- src/lib.rt:476:5
 store-requires : tie.Need-store-requires
-store-requires c κs = let A = (c .before .before .before .before .before .before .before .before .before .before .args) in let R = room places wide (A .core .n) (A .core .m) (A .core .desks) (A .cells .now) (A .opens .now) (c .before .before .before .before .before .before .before .before .before .before .pre .0) (c .before .before .before .before .before .before .before .before .before .before .pre .0 .rules .frame .ranges .desks .1) (c .before .before .before .before .before .before .order-all .last .1 .1 .1 .0) (c .before .before .before .before .before .before .order-all .result) (c .before .before .before .before .before .before .order-all .ensures) (length (A .out .now)) (c .before .before .before .before .per-desk .result) (c .before .before .before .cells-end .result) (c .before .before .open-blocks .result) (c .before .before .before .before .per-desk .ensures .0) (c .before .before .before .cells-end .ensures .0) (c .before .before .open-blocks .ensures) (c .before .before .before .before .before .before .before .before .before .before .pre .1) in omega arith
+store-requires c κs = let R = planned (c .before .before) in omega arith
 
--- src/lib.rt:477:5
 save-desks-requires : tie.Need-save-desks-requires
-save-desks-requires c κs = let A = (c .before .before .before .before .before .before .before .before .before .before .before .before .before .before .args) in let R = room places wide (A .core .n) (A .core .m) (A .core .desks) (A .cells .now) (A .opens .now) (c .before .before .before .before .before .before .before .before .before .before .before .before .before .before .pre .0) (c .before .before .before .before .before .before .before .before .before .before .before .before .before .before .pre .0 .rules .frame .ranges .desks .1) (c .before .before .before .before .before .before .before .before .before .before .order-all .last .1 .1 .1 .0) (c .before .before .before .before .before .before .before .before .before .before .order-all .result) (c .before .before .before .before .before .before .before .before .before .before .order-all .ensures) (length (A .out .now)) (c .before .before .before .before .before .before .before .before .per-desk .result) (c .before .before .before .before .before .before .before .cells-end .result) (c .before .before .before .before .before .before .open-blocks .result) (c .before .before .before .before .before .before .before .before .per-desk .ensures .0) (c .before .before .before .before .before .before .before .cells-end .ensures .0) (c .before .before .before .before .before .before .open-blocks .ensures) (c .before .before .before .before .before .before .before .before .before .before .before .before .before .before .pre .1) in let l = c .before .before .before .store .kept .0 in (R .desks, omega (arith, c .before .before .before .before .before .before .before .cells-end .ensures .0))
+save-desks-requires c κs =
+    let R = planned (c .before .before .before .before .before .before) in
+    let l = c .before .before .before .store .kept .0 in
+    (R .desks, omega (arith, c .before .before .before .before .before .before .before .cells-end .ensures .0))
 
--- src/lib.rt:478:5
 save-cells-requires : tie.Need-save-cells-requires
-save-cells-requires c κs = let A = (c .before .before .before .before .before .before .before .before .before .before .before .before .before .before .before .before .before .before .args) in let R = room places wide (A .core .n) (A .core .m) (A .core .desks) (A .cells .now) (A .opens .now) (c .before .before .before .before .before .before .before .before .before .before .before .before .before .before .before .before .before .before .pre .0) (c .before .before .before .before .before .before .before .before .before .before .before .before .before .before .before .before .before .before .pre .0 .rules .frame .ranges .desks .1) (c .before .before .before .before .before .before .before .before .before .before .before .before .before .before .order-all .last .1 .1 .1 .0) (c .before .before .before .before .before .before .before .before .before .before .before .before .before .before .order-all .result) (c .before .before .before .before .before .before .before .before .before .before .before .before .before .before .order-all .ensures) (length (A .out .now)) (c .before .before .before .before .before .before .before .before .before .before .before .before .per-desk .result) (c .before .before .before .before .before .before .before .before .before .before .before .cells-end .result) (c .before .before .before .before .before .before .before .before .before .before .open-blocks .result) (c .before .before .before .before .before .before .before .before .before .before .before .before .per-desk .ensures .0) (c .before .before .before .before .before .before .before .before .before .before .before .cells-end .ensures .0) (c .before .before .before .before .before .before .before .before .before .before .open-blocks .ensures) (c .before .before .before .before .before .before .before .before .before .before .before .before .before .before .before .before .before .before .pre .1) in let l = c .before .before .before .before .before .before .before .store .kept .0 in let k = c .before .before .before .save-desks .kept .0 in
-    (cells-fit places wide (A .core .n) (A .core .m) (A .core .desks) (A .cells .now) (A .opens .now) (c .before .before .before .before .before .before .before .before .before .before .before .before .before .before .before .before .before .before .pre .0) (c .before .before .before .before .before .before .before .before .before .before .before .before .before .before .before .before .before .before .pre .0 .rules .frame .ranges .desks .1), (R .desks, (c .before .before .before .before .before .before .before .before .before .before .before .before .per-desk .ensures .1, omega (arith, c .before .before .before .before .before .before .before .before .before .before .before .cells-end .ensures .0))))
+save-cells-requires c κs =
+    let p = c .before .before .before .before .before .before .before .before .before .before in
+    let R = planned p in
+    let l = c .before .before .before .before .before .before .before .store .kept .0 in
+    let k = c .before .before .before .save-desks .kept .0 in
+    let A = p .before .before .before .before .before .before .before .before .args in
+    let ok = p .before .before .before .before .before .before .before .before .pre .0 in
+    (cells-fit places wide (A .core .n) (A .core .m) (A .core .desks) (A .cells .now) (A .opens .now) ok (ok .rules .frame .ranges .desks .1), (R .desks, (p .before .before .per-desk .ensures .1, omega (arith, p .before .cells-end .ensures .0))))
 
--- src/lib.rt:479:5
 save-opens-requires : tie.Need-save-opens-requires
-save-opens-requires c κs = let A = (c .before .before .before .before .before .before .before .before .before .before .before .before .before .before .before .before .before .before .before .before .before .before .before .args) in let R = room places wide (A .core .n) (A .core .m) (A .core .desks) (A .cells .now) (A .opens .now) (c .before .before .before .before .before .before .before .before .before .before .before .before .before .before .before .before .before .before .before .before .before .before .before .pre .0) (c .before .before .before .before .before .before .before .before .before .before .before .before .before .before .before .before .before .before .before .before .before .before .before .pre .0 .rules .frame .ranges .desks .1) (c .before .before .before .before .before .before .before .before .before .before .before .before .before .before .before .before .before .before .before .order-all .last .1 .1 .1 .0) (c .before .before .before .before .before .before .before .before .before .before .before .before .before .before .before .before .before .before .before .order-all .result) (c .before .before .before .before .before .before .before .before .before .before .before .before .before .before .before .before .before .before .before .order-all .ensures) (length (A .out .now)) (c .before .before .before .before .before .before .before .before .before .before .before .before .before .before .before .before .before .per-desk .result) (c .before .before .before .before .before .before .before .before .before .before .before .before .before .before .before .before .cells-end .result) (c .before .before .before .before .before .before .before .before .before .before .before .before .before .before .before .open-blocks .result) (c .before .before .before .before .before .before .before .before .before .before .before .before .before .before .before .before .before .per-desk .ensures .0) (c .before .before .before .before .before .before .before .before .before .before .before .before .before .before .before .before .cells-end .ensures .0) (c .before .before .before .before .before .before .before .before .before .before .before .before .before .before .before .open-blocks .ensures) (c .before .before .before .before .before .before .before .before .before .before .before .before .before .before .before .before .before .before .before .before .before .before .before .pre .1) in let l = c .before .before .before .before .before .before .before .before .before .before .before .before .store .kept .0 in let k = c .before .before .before .before .before .before .before .before .save-desks .kept .0 in let q = c .before .before .before .before .save-cells .kept .0 in
-    (order-fits places wide (A .core .n) (A .core .m) (A .core .desks) (A .cells .now) (A .opens .now) (c .before .before .before .before .before .before .before .before .before .before .before .before .before .before .before .before .before .before .before .before .before .before .before .pre .0) (c .before .before .before .before .before .before .before .before .before .before .before .before .before .before .before .before .before .before .before .before .before .before .before .pre .0 .rules .frame .ranges .desks .1) (c .before .before .before .before .before .before .before .before .before .before .before .before .before .before .before .before .before .before .before .order-all .last .1 .1 .1 .0) (c .before .before .before .before .before .before .before .before .before .before .before .before .before .before .before .before .before .before .before .order-all .result) (c .before .before .before .before .before .before .before .before .before .before .before .before .before .before .before .before .before .before .before .order-all .ensures), (R .some-blocks, (omega arith, omega arith)))
+save-opens-requires c κs =
+    let p = c .before .before .before .before .before .before .before .before .before .before .before .before .before .before .before in
+    let R = planned p in
+    let l = c .before .before .before .before .before .before .before .before .before .before .before .before .store .kept .0 in
+    let k = c .before .before .before .before .before .before .before .before .save-desks .kept .0 in
+    let q = c .before .before .before .before .save-cells .kept .0 in
+    (ordered (p .before), (R .some-blocks, (omega arith, omega arith)))
 
--- src/lib.rt:480:14
 add-result : tie.Need-add-result
-add-result c = let A = (c .before .before .before .before .before .before .before .before .before .before .before .before .before .before .before .before .before .before .before .before .before .before .before .before .before .before .args) in let R = room places wide (A .core .n) (A .core .m) (A .core .desks) (A .cells .now) (A .opens .now) (c .before .before .before .before .before .before .before .before .before .before .before .before .before .before .before .before .before .before .before .before .before .before .before .before .before .before .pre .0) (c .before .before .before .before .before .before .before .before .before .before .before .before .before .before .before .before .before .before .before .before .before .before .before .before .before .before .pre .0 .rules .frame .ranges .desks .1) (c .before .before .before .before .before .before .before .before .before .before .before .before .before .before .before .before .before .before .before .before .before .before .order-all .last .1 .1 .1 .0) (c .before .before .before .before .before .before .before .before .before .before .before .before .before .before .before .before .before .before .before .before .before .before .order-all .result) (c .before .before .before .before .before .before .before .before .before .before .before .before .before .before .before .before .before .before .before .before .before .before .order-all .ensures) (length (A .out .now)) (c .before .before .before .before .before .before .before .before .before .before .before .before .before .before .before .before .before .before .before .before .per-desk .result) (c .before .before .before .before .before .before .before .before .before .before .before .before .before .before .before .before .before .before .before .cells-end .result) (c .before .before .before .before .before .before .before .before .before .before .before .before .before .before .before .before .before .before .open-blocks .result) (c .before .before .before .before .before .before .before .before .before .before .before .before .before .before .before .before .before .before .before .before .per-desk .ensures .0) (c .before .before .before .before .before .before .before .before .before .before .before .before .before .before .before .before .before .before .before .cells-end .ensures .0) (c .before .before .before .before .before .before .before .before .before .before .before .before .before .before .before .before .before .before .open-blocks .ensures) (c .before .before .before .before .before .before .before .before .before .before .before .before .before .before .before .before .before .before .before .before .before .before .before .before .before .before .pre .1) in omega arith
+add-result c = let R = planned (c .before .before .before .before .before .before .before .before .before .before .before .before .before .before .before .before .before .before) in omega arith
 
--- src/lib.rt:480:5
 mul-result : tie.Need-mul-result
-mul-result c = let A = (c .before .before .before .before .before .before .before .before .before .before .before .before .before .before .before .before .before .before .before .before .before .before .before .before .before .before .args) in let R = room places wide (A .core .n) (A .core .m) (A .core .desks) (A .cells .now) (A .opens .now) (c .before .before .before .before .before .before .before .before .before .before .before .before .before .before .before .before .before .before .before .before .before .before .before .before .before .before .pre .0) (c .before .before .before .before .before .before .before .before .before .before .before .before .before .before .before .before .before .before .before .before .before .before .before .before .before .before .pre .0 .rules .frame .ranges .desks .1) (c .before .before .before .before .before .before .before .before .before .before .before .before .before .before .before .before .before .before .before .before .before .before .order-all .last .1 .1 .1 .0) (c .before .before .before .before .before .before .before .before .before .before .before .before .before .before .before .before .before .before .before .before .before .before .order-all .result) (c .before .before .before .before .before .before .before .before .before .before .before .before .before .before .before .before .before .before .before .before .before .before .order-all .ensures) (length (A .out .now)) (c .before .before .before .before .before .before .before .before .before .before .before .before .before .before .before .before .before .before .before .before .per-desk .result) (c .before .before .before .before .before .before .before .before .before .before .before .before .before .before .before .before .before .before .before .cells-end .result) (c .before .before .before .before .before .before .before .before .before .before .before .before .before .before .before .before .before .before .open-blocks .result) (c .before .before .before .before .before .before .before .before .before .before .before .before .before .before .before .before .before .before .before .before .per-desk .ensures .0) (c .before .before .before .before .before .before .before .before .before .before .before .before .before .before .before .before .before .before .before .cells-end .ensures .0) (c .before .before .before .before .before .before .before .before .before .before .before .before .before .before .before .before .before .before .open-blocks .ensures) (c .before .before .before .before .before .before .before .before .before .before .before .before .before .before .before .before .before .before .before .before .before .before .before .before .before .before .pre .1) in omega arith
+mul-result c = let R = planned (c .before .before .before .before .before .before .before .before .before .before .before .before .before .before .before .before .before .before) in omega arith
 
--- src/lib.rt:462:1
 returns : tie.Need-returns
-returns c = let A = (c .before .before .before .before .before .before .before .before .before .before .before .before .before .before .before .before .before .before .before .before .before .before .before .before .before .before .args) in
-    let z = saved-all places wide (A .core .n) (A .core .m) (A .core .desks) (A .cells .now) (A .opens .now) (c .before .before .before .before .before .before .before .before .before .before .before .before .before .before .before .before .before .before .before .before .before .before .before .before .before .before .pre .0) (c .before .before .before .before .before .before .before .before .before .before .before .before .before .before .before .before .before .before .before .before .before .before .before .before .before .before .pre .0 .rules .frame .ranges .desks .1) (c .before .before .before .before .before .before .before .before .before .before .before .before .before .before .before .before .before .before .before .before .before .before .order-all .last .1 .1 .1 .0) (c .before .before .before .before .before .before .before .before .before .before .before .before .before .before .before .before .before .before .before .before .before .before .order-all .result) (c .before .before .before .before .before .before .before .before .before .before .before .before .before .before .before .before .before .before .before .before .before .before .order-all .ensures) (A .out .now) (c .before .before .before .before .before .before .before .before .before .before .before .before .before .before .before .store .last .0) (c .before .before .before .before .before .before .before .before .before .before .before .save-desks .last .0) (c .before .before .before .before .before .before .before .save-cells .last .0) (c .before .before .save-opens .last .0) (c .before .before .before .before .before .before .before .before .before .before .before .before .before .before .before .before .before .size-block .result)
-    (c .before .before .before .before .before .before .before .before .before .before .before .before .before .before .before .before .before .before .before .before .per-desk .result) (c .before .before .before .before .before .before .before .before .before .before .before .before .before .before .before .before .before .before .before .cells-end .result) (c .before .before .before .before .before .before .before .before .before .before .before .before .before .before .before .before .before .before .open-blocks .result) (c .before .before .before .before .before .before .before .before .before .before .before .before .before .before .before .before .before .before .before .before .per-desk .ensures .0) (c .before .before .before .before .before .before .before .before .before .before .before .before .before .before .before .before .before .before .before .cells-end .ensures .0) (c .before .before .before .before .before .before .before .before .before .before .before .before .before .before .before .before .before .before .open-blocks .ensures) (c .before .before .before .before .before .before .before .before .before .before .before .before .before .before .before .before .before .size-block .ensures)
-    (c .before .before .before .before .before .before .before .before .before .before .before .before .before .before .before .store .ensures) (c .before .before .before .before .before .before .before .before .before .before .before .save-desks .ensures) (c .before .before .before .before .before .before .before .save-cells .ensures) (c .before .before .save-opens .ensures) in
+returns c =
+    let p = c .before .before .before .before .before .before .before .before .before .before .before .before .before .before .before .before .before .before in
+    let A = p .before .before .before .before .before .before .before .before .args in
+    let ok = p .before .before .before .before .before .before .before .before .pre .0 in
+    let o = p .before .before .before .before .order-all in
+    let z = saved-all places wide (A .core .n) (A .core .m) (A .core .desks) (A .cells .now) (A .opens .now) ok (ok .rules .frame .ranges .desks .1) (o .last .1 .1 .1 .0) (o .result) (o .ensures)
+    (A .out .now) (c .before .before .before .before .before .before .before .before .before .before .before .before .before .before .before .store .last .0) (c .before .before .before .before .before .before .before .before .before .before .before .save-desks .last .0) (c .before .before .before .before .before .before .before .save-cells .last .0) (c .before .before .save-opens .last .0) (c .before .before .before .before .before .before .before .before .before .before .before .before .before .before .before .before .before .size-block .result)
+    (p .before .before .per-desk .result) (p .before .cells-end .result) (p .open-blocks .result) (p .before .before .per-desk .ensures .0) (p .before .cells-end .ensures .0) (p .open-blocks .ensures)
+    (c .before .before .before .before .before .before .before .before .before .before .before .before .before .before .before .before .before .size-block .ensures) (c .before .before .before .before .before .before .before .before .before .before .before .before .before .before .before .store .ensures) (c .before .before .before .before .before .before .before .before .before .before .before .save-desks .ensures) (c .before .before .before .before .before .before .before .save-cells .ensures) (c .before .before .save-opens .ensures) in
     record { stored = z .0; size = z .1 }
 
 pub save-parts-spec : {M : Type 1} → statement M

@@ -6,7 +6,7 @@ use lib.ListN.{length, length-take, length-drop, take, drop}
 use borrow.Author.Tests.{not-true, not-false}
 use native.Mathlib.Nat.{sub-zero}
 use native.Mathlib.Omega.{arith}
-use mathlib.Core.Path.{_≡_, refl, _∙_, sym, ap}
+use mathlib.Core.Path.{_≡_, _∙_, sym}
 use Prim.Native.Nat.{_+_, _*_, _≤_, _-_, _/_}
 use borrow.Author.Needs.{needs}
 use Rattle.image.proofs.sound_image.Statement.{statement}

@@ -2,9 +2,9 @@ use Rattle.image.specs.Limits.{block-bytes}
 use Rattle.image.specs.Fill.{set-more}
 use lib.Seq.{sets, take-all}
 use lib.ListN.{length, take}
-use mathlib.Core.Path.{_≡_, refl, ap, _∙_, sym}
+use mathlib.Core.Path.{_≡_, _∙_}
 use native.Mathlib.Omega.{arith}
-use Prim.Native.Nat.{_+_, _≤_, _-_, _*_}
+use Prim.Native.Nat.{_≤_, _-_, _*_}
 use borrow.Author.Needs.{needs}
 use Rattle.image.proofs.store.Statement.{statement}
 use Rattle.image.proofs.store.Tie as tie

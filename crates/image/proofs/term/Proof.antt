@@ -1,5 +1,4 @@
 use Rattle.image.specs.Limits.{check-at}
-use mathlib.Core.Path.{refl}
 use Prim.Native.Nat.{_+_, _*_, _≤_}
 use native.Mathlib.Omega.{arith}
 use native.Mathlib.Nat.{mul-le-mul}

@@ -1,10 +1,11 @@
-use Rattle.image.specs.Limits.{wide}
+use Rattle.image.specs.Decode.{cellPlace}
+use Rattle.image.specs.Limits.{wide, cell-bytes, cells-in}
 use Rattle.clock.specs.Vectors.{places}
 use Rattle.table.specs.Value.{desk-cells}
-use Rattle.load.specs.Read.{cell-where, cell-there, cell-past, cell-off}
+use Rattle.load.specs.Read.{Within, cell-where, cell-there, cell-past, cell-off}
 use native.Mathlib.Omega.{arith}
-use mathlib.Core.Path.{_≡_, _∙_, refl}
-use Prim.Native.Nat.{_+_, _*_, _/_, _%_}
+use mathlib.Core.Path.{_∙_, refl}
+use Prim.Native.Nat.{_*_, _/_, _%_}
 use borrow.Author.Needs.{needs}
 use Rattle.load.proofs.cell_or.Statement.{statement}
 use Rattle.load.proofs.cell_or.Tie as tie
@@ -13,29 +14,34 @@ use Rattle.load.proofs.cell_or.Lts as lts
 use Rattle.load.proofs.field_place.Reads as field-place-reads
 use Rattle.load.proofs.read_cell.Reads as read-cell-reads
 
--- src/lib.rt:201:37
+-- where the cell stands
+stands : (c : tie.Then2)
+    → (let A = c .before .before .before .args in Within places (A .b .now) (A .n) (A .c * (A .s / desk-cells)) (A .s % desk-cells / cells-in places) (cell-bytes places * (A .s % desk-cells % cells-in places)) (cell-bytes places) (cellPlace places (A .n) (A .m) (A .s / desk-cells) (A .s % desk-cells)))
+stands c =
+    let A = c .before .before .before .args in
+    let P = c .before .before .before .pre in
+    cell-where places wide (A .b .now) (P .0) (A .n) (A .m) (A .s / desk-cells) (A .s % desk-cells) (A .c) (P .1 .0) (P .1 .1 .0) (P .1 .1 .1 .0) (c .before .if1 .taken) (c .if2 .taken)
+
 mul-field-place : tie.Need-mul-field-place
-mul-field-place c = let A = (c .before .before .before .args) in let P = (c .before .before .before .pre) in let w = cell-where places wide (A .b .now) (P .0) (A .n) (A .m) (A .s / desk-cells) (A .s % desk-cells) (A .c) (P .1 .0) (P .1 .1 .0) (P .1 .1 .1 .0) (c .before .if1 .taken) (c .if2 .taken) in omega (arith, w .before)
+mul-field-place c = omega (arith, stands c .before)
 
--- src/lib.rt:201:17
 field-place-requires : tie.Need-field-place-requires
-field-place-requires c κs = let A = (c .before .before .before .args) in let P = (c .before .before .before .pre) in let w = cell-where places wide (A .b .now) (P .0) (A .n) (A .m) (A .s / desk-cells) (A .s % desk-cells) (A .c) (P .1 .0) (P .1 .1 .0) (P .1 .1 .1 .0) (c .before .if1 .taken) (c .if2 .taken) in (w .desks, (w .before, (w .block, w .payload)))
+field-place-requires c κs = let w = stands c in (w .desks, (w .before, (w .block, w .payload)))
 
--- src/lib.rt:202:13
 read-cell-requires : tie.Need-read-cell-requires
-read-cell-requires c κs = let A = (c .before .before .before .before .args) in let P = (c .before .before .before .before .pre) in let w = cell-where places wide (A .b .now) (P .0) (A .n) (A .m) (A .s / desk-cells) (A .s % desk-cells) (A .c) (P .1 .0) (P .1 .1 .0) (P .1 .1 .1 .0) (c .before .before .if1 .taken) (c .before .if2 .taken) in omega (arith, w .is, w .ends, c .field-place .ensures)
+read-cell-requires c κs = let w = stands (c .before) in omega (arith, w .is, w .ends, c .field-place .ensures)
 
--- src/lib.rt:202:13
 returns : tie.Need-returns
-returns c = let A = (c .before .before .before .before .before .args) in let P = (c .before .before .before .before .before .pre) in let w = cell-where places wide (A .b .now) (P .0) (A .n) (A .m) (A .s / desk-cells) (A .s % desk-cells) (A .c) (P .1 .0) (P .1 .1 .0) (P .1 .1 .1 .0) (c .before .before .before .if1 .taken) (c .before .before .if2 .taken) in cell-there places (A .b .now) (A .n) (A .m) (A .s) (A .s / desk-cells) (A .s % desk-cells) (c .before .field-place .result) _ refl refl (c .before .before .before .if1 .taken) (c .before .before .if2 .taken) (c .before .field-place .ensures ∙ w .is) (c .read-cell .ensures)
+returns c =
+    let A = c .before .before .before .before .before .args in
+    cell-there places (A .b .now) (A .n) (A .m) (A .s) (A .s / desk-cells) (A .s % desk-cells) (c .before .field-place .result) _ refl refl (c .before .before .before .if1 .taken) (c .before .before .if2 .taken)
+    (c .before .field-place .ensures ∙ stands (c .before .before) .is) (c .read-cell .ensures)
 
--- src/lib.rt:193:1
 returns-2 : tie.Need-returns-2
-returns-2 c = let A = (c .before .before .before .args) in cell-past places (A .b .now) (A .n) (A .m) (A .s) (A .s % desk-cells) _ refl (c .if2 .left) refl
+returns-2 c = let A = c .before .before .before .args in cell-past places (A .b .now) (A .n) (A .m) (A .s) (A .s % desk-cells) _ refl (c .if2 .left) refl
 
--- src/lib.rt:193:1
 returns-3 : tie.Need-returns-3
-returns-3 c = let A = (c .before .before .args) in cell-off places (A .b .now) (A .n) (A .m) (A .s) (A .s / desk-cells) _ refl (c .if1 .left) refl
+returns-3 c = let A = c .before .before .args in cell-off places (A .b .now) (A .n) (A .m) (A .s) (A .s / desk-cells) _ refl (c .if1 .left) refl
 
 pub cell-or-spec : {M : Type 1} → statement M
 cell-or-spec =

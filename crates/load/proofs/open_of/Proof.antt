@@ -1,10 +1,9 @@
 use Rattle.clock.specs.Vectors.{places}
 use Rattle.image.specs.Limits.{wide, open-bytes, opens-in}
-use Rattle.load.specs.Read.{Within, open-where}
+use Rattle.load.specs.Read.{Within, open-where, openFrom}
 use Rattle.image.specs.Decode.{openPlace}
-use Rattle.load.specs.Read.{openFrom}
 use native.Mathlib.Omega.{arith}
-use mathlib.Core.Path.{_≡_, ap, _∙_}
+use mathlib.Core.Path.{ap, _∙_}
 use Prim.Native.Nat.{ℕ, _*_, _/_, _%_}
 use borrow.Author.Needs.{needs}
 use Rattle.load.proofs.open_of.Statement.{statement}

@@ -1,7 +1,7 @@
 use Rattle.clock.specs.Vectors.{places}
 use Rattle.image.specs.Limits.{block-bytes, payload-at, vector-at, vector-bytes, after-vector}
 use native.Mathlib.Omega.{arith}
-use mathlib.Core.Path.{_≡_, _∙_}
+use mathlib.Core.Path.{_≡_}
 use Prim.Native.Nat.{_+_, _*_}
 use borrow.Author.Needs.{needs}
 use Rattle.load.proofs.read_desk.Statement.{statement}

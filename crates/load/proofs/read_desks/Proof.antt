@@ -1,12 +1,12 @@
-use Rattle.load.specs.Read.{deskFor, cellFor, cells-more}
-use Rattle.table.specs.Value.{desk0, all-cells, cellAt, entries, openAt}
+use Rattle.load.specs.Read.{deskFor}
+use Rattle.table.specs.Value.{desk0}
 use Rattle.laws.specs.Tab.{tab, fill-start, fill-more, fill-end}
 use Rattle.clock.specs.Vectors.{places}
-use lib.ListN.{length, getD, drop}
+use lib.ListN.{length, drop}
 use native.Mathlib.Omega.{arith}
 use mathlib.Core.List.{_++_}
-use mathlib.Core.Path.{_≡_, _∙_, refl}
-use Prim.Native.Nat.{ℕ, _≤_, _<_, _-_, _+_, _*_}
+use mathlib.Core.Path.{_≡_, _∙_}
+use Prim.Native.Nat.{_≤_, _-_, _+_}
 use borrow.Author.Needs.{needs}
 use Rattle.load.proofs.read_desks.Statement.{statement}
 use Rattle.load.proofs.read_desks.Tie as tie

@@ -3,8 +3,8 @@ use Rattle.load.specs.Spread.{Writers, Spread, spread-start, spread-room
 use Rattle.table.specs.Value.{entries, open-width}
 use Rattle.table.specs.Names.{freeAt, found-at, found-nothing}
 use native.Mathlib.Omega.{arith}
-use mathlib.Core.Path.{_≡_, _∙_}
-use Prim.Native.Nat.{ℕ, _≤_, _<_, _-_, _+_, _*_}
+use mathlib.Core.Path.{_≡_}
+use Prim.Native.Nat.{_≤_, _-_, _*_}
 use borrow.Author.Needs.{needs}
 use Rattle.load.proofs.read_opens.Statement.{statement}
 use Rattle.load.proofs.read_opens.Tie as tie
