@@ -18,8 +18,8 @@ use Rattle.text.specs.Fields.{fieldsAt}
 use Rattle.text.specs.Bounds.{Small, small-nil, rest-count, rest-small}
 use Rattle.schedule.specs.Grammar.{Line, begin-line, step-line, most-bytes, two, three, oneOrMore, form, lineOf}
 use Rattle.schedule.specs.Lines.{lineAt, placeIn}
-use Rattle.schedule.specs.Value.{cellsOf, most-listed, numbersOf}
-use Rattle.schedule.specs.Forms.{sayAt-all, too-long, no-bytes, no-letter, by-letter, Told}
+use Rattle.schedule.specs.Value.{cellsOf, most-listed, numbersOf, SaidBy, value-said}
+use Rattle.schedule.specs.Forms.{sayAt-all, too-long, no-bytes, no-letter, by-letter}
 
 -- a line is none, or one of the forms of the numbers that follow its letter --
 
@@ -113,5 +113,5 @@ line-small s =
 pub line-at-unique : (x : RefT (List ℕ)) (at : ℕ) (r r′ : RefT (List ℕ)) → r .now ≡ lineAt (x .now) at → r′ .now ≡ lineAt (x .now) at → r .ptr ≡ placeIn x at → r′ .ptr ≡ placeIn x at → (r .now ≡ r′ .now) × (r .ptr ≡ r′ .ptr)
 line-at-unique x at r r′ a b c d = (a ∙ sym b, c ∙ sym d)
 
-pub line-of-unique : (s l : List ℕ) (r r′ : Answer) (l′ l″ : List ℕ) → Told (lineOf s) r l l′ → Told (lineOf s) r′ l l″ → (r ≡ r′) × (l′ ≡ l″)
-line-of-unique s l r r′ l′ l″ a b = (a .0 ∙ sym (b .0), a .1 ∙ sym (b .1))
+pub line-of-unique : (s l : List ℕ) (r r′ : Answer) (l′ l″ : List ℕ) → SaidBy (lineOf s) r l l′ → SaidBy (lineOf s) r′ l l″ → (r ≡ r′) × (l′ ≡ l″)
+line-of-unique s l r r′ l′ l″ a b = (value-said a ∙ sym (value-said b), a .stored ∙ sym (b .stored))

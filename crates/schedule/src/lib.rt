@@ -2,10 +2,9 @@
 ghost use mathlib.Core.Path.{_≡_};
 ghost use Prim.Native.Nat.{_<_, _≤_};
 ghost use lib.ListN.{length};
-ghost use lib.Seq.{sets};
 ghost use Rattle.schedule.specs.Lines.{lineAt, endAt, placeIn};
 ghost use Rattle.schedule.specs.Grammar.{most-bytes, lineOf, two, three, oneOrMore};
-ghost use Rattle.schedule.specs.Value.{lineValue, cellsOf};
+ghost use Rattle.schedule.specs.Value.{lineValue, SaidBy};
 ghost use Rattle.schedule.specs.Forms.{sayAt, PairTells, pairs, triples, travels, Told};
 ghost use Rattle.schedule.specs.Cells.{CellsTell};
 use text::Field;
@@ -141,8 +140,7 @@ fn trip(s: &[u8], cells: &mut [u16; LIST]) -> Line
 
 // What a line says, without its LF.
 pub fn line_of(s: &[u8], cells: &mut [u16; LIST]) -> Line
-    ensures value { λ r. ⌜ r ≡ lineValue (lineOf (now (s .entry))) ⌝ }
-    ensures cells { λ r. ⌜ now (cells .exit) ≡ sets (now (cells .entry)) 0 (cellsOf (lineOf (now (s .entry)))) ⌝ }
+    ensures { λ r. ⌜ SaidBy (lineOf (now (s .entry))) r (now (cells .entry)) (now (cells .exit)) ⌝ }
 {
     if s.len() == 0 {
         return Line::NoStep;

@@ -9,17 +9,9 @@ use Rattle.clock.specs.Vectors.{places}
 use Rattle.machine.specs.Steps.{within}
 use Rattle.machine.specs.Steps as steps
 use Rattle.schedule.specs.Grammar.{Line as Said, begin-line, step-line}
-use Rattle.schedule.specs.Value.{lineValue, cellsOf, most-listed, lineBack, line-back}
+use Rattle.schedule.specs.Value.{lineValue, cellsOf, most-listed, lineBack, line-back, cellCount, count-is}
 use Rattle.schedule.specs.declared.Line.{Line}
 use Rattle.schedule.specs.declared.Line.the-variants.{New, Read, Write, Deliver, Trip, NoStep}
-
-abbrev pub cellCount : Line → ℕ
-cellCount (New n m) = 0
-cellCount (Read i x) = 0
-cellCount (Write i x v) = 0
-cellCount (Deliver i u k) = 0
-cellCount (Trip i n) = n
-cellCount NoStep = 0
 
 -- what the value and the array say together
 abbrev pub lineIn : Line → List ℕ → Option Said
@@ -28,14 +20,6 @@ lineIn s list = lineBack s (take (cellCount s) list)
 pub record Means (o : Option Said) (s : Line) (list : List ℕ) : Type 0 where
   pub is : lineIn s list ≡ o
   pub few : cellCount s ≤ most-listed
-
-count-is : (o : Option Said) → cellCount (lineValue o) ≡ length (cellsOf o)
-count-is none = refl
-count-is (some (begin-line n m)) = refl
-count-is (some (step-line (steps.Read i x))) = refl
-count-is (some (step-line (steps.Write i x v))) = refl
-count-is (some (step-line (steps.Deliver i u k))) = refl
-count-is (some (step-line (steps.Trip i xs))) = refl
 
 pub means : (o : Option Said) (list : List ℕ) → take (length (cellsOf o)) list ≡ cellsOf o → length (cellsOf o) ≤ most-listed → Means o (lineValue o) list
 means o list h few = record {

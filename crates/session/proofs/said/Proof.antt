@@ -1,6 +1,7 @@
 use mathlib.Core.Path.{refl}
 use native.Mathlib.Omega.{arith}
 use Rattle.schedule.specs.Grammar.{lineOf}
+use Rattle.schedule.specs.Value.{value-said}
 use Rattle.schedule.specs.Facts.{cells-there, few-cells}
 use Rattle.session.specs.Line.{means}
 use borrow.Author.Needs.{needs}
@@ -18,7 +19,7 @@ returns c =
     let z = c .before .before .before .before in
     let g = z .before .before .args in
     let e = c .line-of .ensures in
-    rw (z .if1 .taken, e .0, e .1)
+    rw (z .if1 .taken, value-said e, e .stored)
     (means (lineOf (g .line .now)) _ (cells-there (g .line .now) (g .list .now) (omega (arith, c .before .before .list-size .ensures))) (few-cells (g .line .now)))
 
 returns-2 : tie.Need-returns-2
