@@ -15,7 +15,6 @@ use Rattle.reply.specs.declared.Answer.{Answer}
 use Rattle.reply.specs.declared.Answer.the-variants.{Refused}
 use Rattle.reply.specs.declared.Refusal.the-variants.{Broken}
 use Rattle.reply.specs.Meaning.{answerOf, Counted}
-use Rattle.table.specs.declared.Core.{Core}
 use Rattle.table.specs.declared.Desk.{Desk}
 use Rattle.table.specs.declared.Table.{Table}
 use Rattle.table.specs.Value.{desk0, entries}
@@ -24,7 +23,7 @@ use Rattle.table.specs.Model.{modelOf}
 use Rattle.table.specs.Sound.{SoundTable}
 use Rattle.rules.specs.Test.{owns}
 use Rattle.rules.specs.Box.{own-is}
-use Rattle.steps.specs.Stepped.{Placed, Stepped, putDesk, put-back, namesBeside}
+use Rattle.steps.specs.Stepped.{Placed, Stepped, putDesk, put-back, namesBeside, tableAfter}
 use Rattle.steps.specs.declared.Turn.{Turn}
 use Rattle.steps.specs.Deliver.{Meets}
 use Rattle.steps.specs.LookStepped.{stops, passes}
@@ -57,16 +56,8 @@ pub record Brought (t : Table) (i u k : ℕ) (r : Table) (answer : Answer) (name
   pub names-are : names ≡ sets no-names 0 (namesBeside (answerOf answer names))
   pub counted : Counted answer
 
--- the table of these parts, with desk i as d where there is one
-abbrev pub tableOf : Core → ℕ → Desk → List ℕ → List ℕ → Table
-tableOf c i d cs os = record { core = record { n = c .n; m = c .m; desks = putDesk (c .n) (c .desks) i d }; cells = cs; opens = os }
-
 abbrev pub brokenDone : Table → Done
 brokenDone t = record { table = t; answer = Refused Broken }
-
--- d is desk i of the table t, and own its own counts
-abbrev pub PlacedIn : Table → List ℕ → ℕ → Desk → Type 0
-PlacedIn t own i d = Placed (t .core .n) (t .core .m) (t .core .desks) (t .cells) (t .opens) own i d
 
 module _ {t : Table} where
   pub few-desks : SoundTable t → t .core .n ≤ places
@@ -82,7 +73,7 @@ module _ {t : Table} where
         }
 
     pub placed : {own : List ℕ} {i : ℕ} {d : Desk} → not b ≡ false → Shaped t → own ≡ owns (t .core .desks) → (In places i → getD (t .core .desks) (i - 1) desk0 ≡ d)
-        → PlacedIn t own i d
+        → Placed t own i d
     placed on sh eo e =
         let s = passes says refl on in
         record {
@@ -94,8 +85,8 @@ module _ {t : Table} where
           own-counts = λ u h. rw eo (own-is (t .core .desks) (sh .desks) u);
         }
 
-  module _ {own : List ℕ} {i : ℕ} {d : Desk} (p : PlacedIn t own i d) where
-    pub met-stepped : {a : Step} {d′ : Desk} {cs os : List ℕ} {answer : machine.Answer} → Stepped (t .core .n) (t .core .m) (t .core .desks) (t .cells) (t .opens) i d a d′ cs os answer → Met t a (tableOf (t .core) i d′ cs os) answer
+  module _ {own : List ℕ} {i : ℕ} {d : Desk} (p : Placed t own i d) where
+    pub met-stepped : {a : Step} {d′ : Desk} {cs os : List ℕ} {answer : machine.Answer} → Stepped t i d a d′ cs os answer → Met t a (tableAfter (t .core) i d′ cs os) answer
     met-stepped {d′ = d′} {cs = cs} {os = os} s =
         record {
           steps = λ g. record { answer-is = s .answer-is; state-is = s .state-is; sound = s .sound };
@@ -103,15 +94,15 @@ module _ {t : Table} where
           broken = λ no. absurd (no (p .sound));
         }
       where
-        same : d′ ≡ d → cs ≡ t .cells → os ≡ t .opens → tableOf (t .core) i d′ cs os ≡ t
+        same : d′ ≡ d → cs ≡ t .cells → os ≡ t .opens → tableAfter (t .core) i d′ cs os ≡ t
         same ed ec eo = λ j. record {
           core = record { n = t .core .n; m = t .core .m; desks = (ap (putDesk (t .core .n) (t .core .desks) i) ed ∙ put-back (t .core .n) (t .core .desks) i d (p .desk)) j };
           cells = ec j;
           opens = eo j;
         }
 
-    pub brought : {u k : ℕ} {r : Turn} {cs os names : List ℕ} → Meets (t .core .n) (t .core .m) (t .core .desks) d (t .cells) (t .opens) no-names i u k r cs os names
-        → Brought t i u k (tableOf (t .core) i (r .desk) cs os) (r .answer) names
+    pub brought : {u k : ℕ} {r : Turn} {cs os names : List ℕ} → Meets t d no-names i u k r cs os names
+        → Brought t i u k (tableAfter (t .core) i (r .desk) cs os) (r .answer) names
     brought w = record {
       met = met-stepped (w .stepped);
       names-are = w .names-are ∙ ap (λ (x : machine.Answer). sets no-names 0 (namesBeside x)) (sym (w .stepped .answer-is));

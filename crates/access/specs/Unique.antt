@@ -37,7 +37,7 @@ module _ {t : Table} (sh : DesksShape (t .core .desks)) (fit : Fit (t .core .des
     {a : Step} {r r′ : Table} {x x′ : machine.Answer} (p : Met t a r x) (q : Met t a r′ x′) where
   either : {R : Type 0} → (SoundTable t → R) → ((SoundTable t → ⊥) → R) → R
   either f g =
-      let s = keeps-says (t .core .n) (t .core .m) (t .core .desks) (t .cells) (t .opens) sh fit in
+      let s = keeps-says t sh fit in
       cases _ (λ e. f (s .to e)) (λ e. g (λ h. apart _ (s .from h) e))
 
   pub one-answer : x ≡ x′

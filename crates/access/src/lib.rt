@@ -8,7 +8,7 @@ ghost use Rattle.machine.specs.Rules.{In};
 ghost use Rattle.machine.specs.Steps.{Read, Write, Trip};
 ghost use Rattle.reply.specs.Meaning.{answerOf};
 ghost use Rattle.table.specs.Value.{desk0};
-ghost use Rattle.access.specs.Met.{tableOf, brokenDone, Met, Brought};
+ghost use Rattle.access.specs.Met.{brokenDone, Met, Brought};
 use clock::PLACES;
 use reply::Answer;
 use reply::NAMES;
@@ -20,6 +20,7 @@ use table::Desk;
 use table::OPEN;
 use table::OPENS;
 use table::Table;
+ghost use Rattle.steps.specs.Stepped.{tableAfter};
 
 pub struct Done {
     pub table: Table,
@@ -52,7 +53,7 @@ fn together(
     opens: [u16; OPENS * OPEN],
 ) -> Table
     requires { ⌜ core .n ≤ places ⌝ }
-    ensures { λ r. ⌜ r ≡ tableOf core i d cells opens ⌝ }
+    ensures { λ r. ⌜ r ≡ tableAfter core i d cells opens ⌝ }
 {
     let n = core.n;
     let m = core.m;

@@ -9,6 +9,7 @@ use lib.Seq.{sets, length-sets}
 use Rattle.laws.specs.Loop.{pick}
 use Rattle.laws.specs.Stores.{sets-append}
 use Rattle.table.specs.declared.Desk.{Desk}
+use Rattle.table.specs.Model.{tableOf}
 use Rattle.session.specs.Session.{Session}
 use Rattle.session.specs.Transcript.{transcriptFrom, sessionFrom, most-text}
 use Rattle.session.specs.Laws.{from-end, left-end}
@@ -34,7 +35,7 @@ put-long false out a base e = ap length e
 pub record Lining (z : Session) (text : List ℕ) (from : ℕ) (put : Bool) (out : List ℕ) (base n m : ℕ) (ds : List Desk) (cs os : List ℕ) (at len : ℕ) (out′ : List ℕ) : Type 0 where
   pub session : Session
   pub lines : List ℕ
-  pub holds : Holds n m ds cs os session
+  pub holds : Holds (tableOf n m ds cs os) session
   pub len-is : len ≡ length lines
   pub stored : out′ ≡ pick put (sets out base lines) out
   pub rest : transcriptFrom z text from ≡ lines ++ transcriptFrom session text at
@@ -43,7 +44,7 @@ pub record Lining (z : Session) (text : List ℕ) (from : ℕ) (put : Bool) (out
   pub within : at ≤ max from (length text)
   pub few : len ≤ most-part * (at - from)
 
-pub lining-start : {z : Session} {text : List ℕ} {from : ℕ} {put : Bool} {out : List ℕ} {base n m : ℕ} {ds : List Desk} {cs os : List ℕ} → Holds n m ds cs os z
+pub lining-start : {z : Session} {text : List ℕ} {from : ℕ} {put : Bool} {out : List ℕ} {base n m : ℕ} {ds : List Desk} {cs os : List ℕ} → Holds (tableOf n m ds cs os) z
     → Lining z text from put out base n m ds cs os from 0 out
 lining-start {z} {put} {out} {base} h = record {
   session = z;
@@ -63,7 +64,7 @@ module _ {z : Session} {text : List ℕ} {from : ℕ} {put : Bool} {out : List �
   pub lining-long : length out′ ≡ length out
   lining-long = put-long put out (g .lines) base (g .stored)
 
-  module _ {part : List ℕ} {n′ m′ : ℕ} {ds′ : List Desk} {cs′ os′ : List ℕ} {at′ more : ℕ} {part′ : List ℕ} (r : Ran (g .session) text at part n′ m′ ds′ cs′ os′ at′ more part′) where
+  module _ {part : List ℕ} {n′ m′ : ℕ} {ds′ : List Desk} {cs′ os′ : List ℕ} {at′ more : ℕ} {part′ : List ℕ} (r : Ran (g .session) text at part (tableOf n′ m′ ds′ cs′ os′) at′ more part′) where
     all-is : transcriptFrom z text from ≡ (g .lines ++ r .lines) ++ transcriptFrom (r .session) text at′
     all-is = g .rest ∙ ap (λ (x : List ℕ). g .lines ++ x) (ran-rest r) ∙ sym (append-assoc (g .lines) (r .lines) (transcriptFrom (r .session) text at′))
 

@@ -29,7 +29,7 @@ start-load (b ∷ l) f = refl
 
 pub empty-starts : (saved : List ℕ) (t : Table) → length saved ≡ 0 → t ≡ freshTable 0 0 → SomeStart saved t
 unfolding freshTable
-empty-starts saved t h e = rw e (record { session = none; starts = start-empty saved h; holds = record { size = refl; many = refl; desks = refl; cells = refl; opens = refl } })
+empty-starts saved t h e = rw e (record { session = none; starts = start-empty saved h; holds = refl })
 
 pub image-starts : (saved : List ℕ) (o : Outcome) (t : Table) → (length saved ≡ 0 → ⊥) → Answers saved o t → Starts saved o t
 image-starts saved o t f h = go o h (start-load saved f ∙ ap started (one-load saved (load saved) (loadedOf o t) (load-loads saved) (answers-loads saved o t h)))

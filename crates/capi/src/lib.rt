@@ -16,6 +16,7 @@ use table::CELLS;
 use table::Core;
 use table::OPEN;
 use table::OPENS;
+ghost use Rattle.table.specs.Model.{tableWith};
 
 // The most bytes of a schedule.
 const LONGEST_TEXT: usize = 65536;
@@ -68,7 +69,7 @@ fn lines(
     out: &mut [u8],
     from: usize,
 ) -> Ended
-    requires { ⌜ SomeSession (core .n) (core .m) (core .desks) (now cells) (now opens) ⌝ }
+    requires { ⌜ SomeSession (tableWith core (now cells) (now opens)) ⌝ }
     requires { ⌜ (length (now text) ≤ most-text) × RoomFor (core .n) (core .m) (core .desks) (now cells) (now opens) (now text) at put (now out) from ⌝ }
     ensures { λ r. ⌜ Lined (core .n) (core .m) (core .desks) (now (cells .entry)) (now (opens .entry)) (now (text .entry)) at put (now (out .entry)) from (r .core .n) (r .core .m) (r .core .desks) (now (cells .exit)) (now (opens .exit)) (r .len) (now (out .exit)) ⌝ }
 {
@@ -111,7 +112,7 @@ fn save_image(
     opens: &[u16; OPENS * OPEN],
     out: &mut [u8],
 ) -> usize
-    requires { ⌜ SomeSession (core .n) (core .m) (core .desks) (now cells) (now opens) ⌝ }
+    requires { ⌜ SomeSession (tableWith core (now cells) (now opens)) ⌝ }
     requires { ⌜ ImageRoom (core .n) (core .m) (core .desks) (now cells) (now opens) (now out) ⌝ }
     ensures { λ r. ⌜ ImageSaved (core .n) (core .m) (core .desks) (now (cells .entry)) (now (opens .entry)) (now (out .entry)) (now (out .exit)) r ⌝ }
 {
@@ -133,7 +134,7 @@ fn put_answers(
     at: usize,
     answers: &mut [u8],
 )
-    requires { ⌜ SomeSession (core .n) (core .m) (core .desks) «first_cells» «first_opens» ⌝ }
+    requires { ⌜ SomeSession (tableWith core «first_cells» «first_opens») ⌝ }
     requires { ⌜ (length (now text) ≤ most-text) × ((len ≤ length (now first)) × RoomFor (core .n) (core .m) (core .desks) «first_cells» «first_opens» (now text) at true (now answers) len) ⌝ }
     ensures { λ _. ⌜ BothPut (core .n) (core .m) (core .desks) «first_cells» «first_opens» (now (text .entry)) at (take len (now (first .entry))) (now (answers .entry)) (now (answers .exit)) ⌝ }
 {
@@ -156,7 +157,7 @@ fn finish(
     image_out: &mut [u8],
     lengths: &mut [u64],
 ) -> u64
-    requires { ⌜ SomeSession (core .n) (core .m) (core .desks) cells opens ⌝ }
+    requires { ⌜ SomeSession (tableWith core cells opens) ⌝ }
     requires { ⌜ (length (now text) ≤ most-text) × ((len ≤ length (now first)) × (2 ≤ length (now lengths))) ⌝ }
     ensures { λ r. ⌜ Finishes (core .n) (core .m) (core .desks) cells opens (now (text .entry)) at (take len (now (first .entry))) (now (answers .entry)) (now («image_out» .entry)) (now (lengths .entry)) (left r (now (answers .exit)) (now («image_out» .exit)) (now (lengths .exit))) ⌝ }
 {
@@ -197,7 +198,7 @@ fn run_from(
     image_out: &mut [u8],
     lengths: &mut [u64],
 ) -> u64
-    requires { ⌜ SomeSession (core .n) (core .m) (core .desks) «first_cells» «first_opens» ⌝ }
+    requires { ⌜ SomeSession (tableWith core «first_cells» «first_opens») ⌝ }
     ensures { λ r. ⌜ RunsFrom (core .n) (core .m) (core .desks) «first_cells» «first_opens» (now (text .entry)) (now (answers .entry)) (now («image_out» .entry)) (now (lengths .entry)) (left r (now (answers .exit)) (now («image_out» .exit)) (now (lengths .exit))) ⌝ }
 {
     if LONGEST_TEXT < text.len() {

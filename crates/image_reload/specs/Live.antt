@@ -13,7 +13,7 @@ use Rattle.load.specs.declared.Outcome.the-variants as outcome
 use Rattle.load.specs.Loading.{Answers}
 
 abbrev pub Live : Table → Type 0
-Live t = SomeSession (t .core .n) (t .core .m) (t .core .desks) (t .cells) (t .opens)
+Live t = SomeSession t
 
 pub live-none : Live (freshTable 0 0)
 unfolding freshTable

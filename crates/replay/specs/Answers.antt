@@ -12,6 +12,7 @@ use Rattle.io.specs.Counts.{Counts}
 use Rattle.replay.specs.declared.Input.{Input}
 use Rattle.replay.specs.declared.Input.the-variants.{Read, Failed}
 use Rattle.table.specs.declared.Core.{Core}
+use Rattle.table.specs.Model.{tableWith}
 use Rattle.session.specs.Session.{Session}
 use Rattle.session.specs.Transcript.{transcriptFrom, most-text, transcript}
 use Rattle.session.specs.Laws.{from-end}
@@ -37,14 +38,14 @@ Room text out = (length text ≤ most-text) × (most-answers ≤ length out)
 pub record Reading (text out : List ℕ) (core : Core) (cells opens : List ℕ) (at len : ℕ) (out′ : List ℕ) : Type 0 where
   pub session : Session
   pub lines : List ℕ
-  pub holds : Holds (core .n) (core .m) (core .desks) cells opens session
+  pub holds : Holds (tableWith core cells opens) session
   pub stored : out′ ≡ sets out 0 lines
   pub len-is : len ≡ length lines
   pub rest : transcriptFrom none text 0 ≡ lines ++ transcriptFrom session text at
 
 module _ {text out : List ℕ} where
   pub reading-start : Reading text out zeroCore zeroCells zeroOpens 0 0 out
-  reading-start = record { session = none; lines = []; holds = record { size = refl; many = refl; desks = refl; cells = refl; opens = refl }; stored = refl; len-is = refl; rest = refl }
+  reading-start = record { session = none; lines = []; holds = refl; stored = refl; len-is = refl; rest = refl }
 
   module _ {core : Core} {cells opens : List ℕ} {at len : ℕ} {out′ : List ℕ} (g : Reading text out core cells opens at len out′) where
     pub reading-long : length out′ ≡ length out
@@ -57,7 +58,7 @@ module _ {text out : List ℕ} where
 
     -- one run more, into the part that is left
     module _ {core′ : Core} {cells′ opens′ : List ℕ} {at′ more k : ℕ} {part : List ℕ} (ek : k ≡ length out′ - len) (room : Room text out)
-        (r : Ran (g .session) text at (take k (drop len out′)) (core′ .n) (core′ .m) (core′ .desks) cells′ opens′ at′ more part) where
+        (r : Ran (g .session) text at (take k (drop len out′)) (tableWith core′ cells′ opens′) at′ more part) where
       part-long : length (take k (drop len out′)) ≡ length out - len
       part-long = simp (length-take, length-drop) (omega (arith, reading-long))
 

@@ -9,11 +9,11 @@ use Rattle.laws.specs.Sum.{sum, one, tally, sum-le, sum-same, sum-zero, sum-one
 use Rattle.laws.specs.Find.{firstOf}
 use Rattle.machine.specs.Table.{most-open}
 use Rattle.machine.specs.Steps.{isNone, openCount}
-use Rattle.table.specs.declared.Desk.{Desk}
+use Rattle.table.specs.declared.Table.{Table}
 use Rattle.table.specs.declared.Open.{Open}
 use Rattle.table.specs.Value.{entriesOf, length-entriesOf}
 use Rattle.table.specs.Names.{number, named, not-named}
-use Rattle.table.specs.Model.{openM, opensM, model, appliedM}
+use Rattle.table.specs.Model.{openM, opensM, modelOf, appliedM}
 
 -- the names u.1 .. u.(w u) of u up to n that the entries hold
 abbrev found : List Open → ℕ → ℕ → Bool
@@ -52,6 +52,6 @@ names-few (x ∷ l) n w =
     omega arith
 
 -- "at most 64 are open"
-pub few : (n m : ℕ) (ds : List Desk) (cs os : List ℕ) → openCount (model n m ds cs os) ≤ most-open
+pub few : (t : Table) → openCount (modelOf t) ≤ most-open
 unfolding openCount opensM names
-few n m ds cs os = omega (arith, names-few (entriesOf os) n (λ u. appliedM ds u u), length-entriesOf os)
+few t = omega (arith, names-few (entriesOf (t .opens)) (t .core .n) (λ u. appliedM (t .core .desks) u u), length-entriesOf (t .opens))

@@ -21,20 +21,30 @@ use Rattle.clock.specs.Vectors.{places, place}
 use Rattle.clock.specs.Readiness.{readyAt, ready-narrow}
 use Rattle.table.specs.declared.Desk.{Desk}
 use Rattle.table.specs.declared.Open.{Open}
+use Rattle.table.specs.declared.Table.{Table}
 use Rattle.table.specs.Value.{desk0, desk-cells, entries, cellAt, openAt, isFree}
 use Rattle.table.specs.Shape.{DesksShape}
 use Rattle.table.specs.Names.{number, namedAt, own-named}
-use Rattle.table.specs.Model.{appliedM, clockM, openM, opensM, model}
+use Rattle.table.specs.Model.{appliedM, clockM, openM, opensM, modelOf}
 use Rattle.table.specs.Opens.{lone, opens-at}
-use Rattle.table.specs.Sound.{Sound}
+use Rattle.table.specs.Sound.{SoundTable}
 use Rattle.rules.specs.Test.{owns, has, gapAt, gaps}
 use Rattle.rules.specs.Gap.{gap-most, gap-not}
 use Rattle.rules.specs.Parts.{UsedGood, EntriesGood, CountsGood, CellGood, MarkGood, DesksGood}
 use Rattle.rules.specs.Box.{own-is, at-set}
 
-module _ (n m : ℕ) (ds : List Desk) (cs os : List ℕ) (sh : DesksShape ds) (so : Sound n m ds cs os) where
+module _ (whole : Table) (sh : DesksShape (whole .core .desks)) (so : SoundTable whole) where
+  abbrev n : ℕ
+  n = whole .core .n
+
+  abbrev ds : List Desk
+  ds = whole .core .desks
+
+  abbrev os : List ℕ
+  os = whole .opens
+
   abbrev s : State
-  s = model n m ds cs os
+  s = modelOf whole
 
   -- an entry in use
   module _ (e : ℕ) (h : e < entries) (f : isFree (openAt os e) ≡ false) where
@@ -57,7 +67,7 @@ module _ (n m : ℕ) (ds : List Desk) (cs os : List ℕ) (sh : DesksShape ds) (s
         all-fails-at (λ t. eqb (place (openAt os e .marks) t) done) n 1 (l .desk) (l .desk-in .0) (omega (arith, l .desk-in .1))
         (ne-eqb (place (openAt os e .marks) (l .desk)) done (λ q. (omega (arith, l .lower, right .marked (l .desk) (l .desk-in) .0 q))))
 
-    used-from : UsedGood n m (owns ds) os e (openAt os e)
+    used-from : UsedGood n (whole .core .m) (owns ds) os e (openAt os e)
     used-from =
         record {
           writer = due .writer .1;
@@ -94,7 +104,7 @@ module _ (n m : ℕ) (ds : List Desk) (cs os : List ℕ) (sh : DesksShape ds) (s
         narrow : readyAt (getD ds i desk0 .applied) (openAt os e .vector) u ≡ ready n (place (getD ds i desk0 .applied)) u (place (openAt os e .vector))
         narrow = ready-narrow n places (place (getD ds i desk0 .applied)) u (place (openAt os e .vector)) vector-flat (due .writer .1) (so .rules .frame .ranges .desks .1)
 
-  pub entries-from : EntriesGood n m (owns ds) os
+  pub entries-from : EntriesGood n (whole .core .m) (owns ds) os
   entries-from e h f = used-from e h f
 
   -- the latest write that is not open has been applied at each of the n desks
@@ -129,16 +139,16 @@ module _ (n m : ℕ) (ds : List Desk) (cs os : List ℕ) (sh : DesksShape ds) (s
         past = λ ne t. same-or (place (getD ds i desk0 .applied) t) 0 (λ q. q) (λ q. absurd (ne (so .rules .frame .counts .inside (suc i) t (omega arith) .0 .1)));
       }
 
-  cell-from : (i x : ℕ) → i < places → x < desk-cells → CellGood n m (getD ds i desk0 .applied) x (cellAt cs (i * desk-cells + x))
+  cell-from : (i x : ℕ) → i < places → x < desk-cells → CellGood n (whole .core .m) (getD ds i desk0 .applied) x (cellAt (whole .cells) (i * desk-cells + x))
   unfolding appliedM
   cell-from i x hi hx =
       record {
         unset = so .blanks (i * desk-cells + x) (omega arith);
         isSet = λ ne.
-            let c = cellAt cs (i * desk-cells + x) in
-            let g = so .rules .frame .cell (suc i) (suc x) (c .status) (c .writer) (place (c .vector)) (at-set cs i x hi hx ne) in
+            let c = cellAt (whole .cells) (i * desk-cells + x) in
+            let g = so .rules .frame .cell (suc i) (suc x) (c .status) (c .writer) (place (c .vector)) (at-set (whole .cells) i x hi hx ne) in
             record { cell = g .cell .1; writer = g .writer-in .1; status = g .status-in; first = g .first; vector = g .below };
       }
 
-  pub desks-from : DesksGood n m (owns ds) (gaps (owns ds) os) ds cs os
+  pub desks-from : DesksGood n (whole .core .m) (owns ds) (gaps (owns ds) os) ds (whole .cells) os
   desks-from i h = record { counts = counts-from i; cells = λ x. cell-from i x h; marks = λ e l f. mark-from e l f i }

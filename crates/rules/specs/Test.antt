@@ -16,6 +16,7 @@ use Rattle.clock.specs.Readiness.{coversAll, readyAt}
 use Rattle.table.specs.declared.Cell.{Cell}
 use Rattle.table.specs.declared.Desk.{Desk}
 use Rattle.table.specs.declared.Open.{Open}
+use Rattle.table.specs.declared.Table.{Table}
 use Rattle.table.specs.Value.{desk0, desk-cells, entries, cellAt, openAt, isFree}
 use Rattle.table.specs.Names.{number, namedAt}
 use Rattle.table.specs.Model.{openM, opensM}
@@ -127,5 +128,5 @@ unfoldable pub ownTest : ℕ → ℕ → List ℕ → List Desk → List ℕ →
 ownTest n m own ds cs os =
     and (begins n m) (and (entriesTest n m own os) (desksTest n m own (gaps own os) ds cs os))
 
-abbrev pub keepsTest : ℕ → ℕ → List Desk → List ℕ → List ℕ → Bool
-keepsTest n m ds cs os = ownTest n m (owns ds) ds cs os
+abbrev pub keepsTest : Table → Bool
+keepsTest t = ownTest (t .core .n) (t .core .m) (owns (t .core .desks)) (t .core .desks) (t .cells) (t .opens)

@@ -21,12 +21,13 @@ use Rattle.clock.specs.Vectors.{places, place}
 use Rattle.clock.specs.Readiness.{readyAt, ready-narrow}
 use Rattle.table.specs.declared.Desk.{Desk}
 use Rattle.table.specs.declared.Open.{Open}
+use Rattle.table.specs.declared.Table.{Table}
 use Rattle.table.specs.Value.{desk0, desk-cells, all-cells, entries, cellAt, full-cellAt, openAt, full-openAt, isFree}
 use Rattle.table.specs.Shape.{DesksShape}
 use Rattle.table.specs.Names.{number, namedAt, named-is}
-use Rattle.table.specs.Model.{appliedM, clockM, openM, model}
+use Rattle.table.specs.Model.{appliedM, clockM, openM, modelOf}
 use Rattle.table.specs.Opens.{Unique}
-use Rattle.table.specs.Sound.{AllZero, Sound}
+use Rattle.table.specs.Sound.{AllZero, SoundTable}
 use Rattle.rules.specs.Test.{owns, has, gapAt, gaps}
 use Rattle.rules.specs.Few.{few}
 use Rattle.rules.specs.Gap.{gap-above}
@@ -40,10 +41,22 @@ Fit ds = (t : ℕ) → place (owns ds) t ≤ most-writes
 abbrev isSome : Option machine.Open → Bool
 isSome o = not (isNone o)
 
-module _ (n m : ℕ) (ds : List Desk) (cs os : List ℕ) (sh : DesksShape ds) (fit : Fit ds) (hn : In most-desks n) (hm : In most-cells m)
-    (E : EntriesGood n m (owns ds) os) (D : DesksGood n m (owns ds) (gaps (owns ds) os) ds cs os) where
+module _ (whole : Table) (sh : DesksShape (whole .core .desks)) (fit : Fit (whole .core .desks)) (hn : In most-desks (whole .core .n)) (hm : In most-cells (whole .core .m))
+    (E : EntriesGood (whole .core .n) (whole .core .m) (owns (whole .core .desks)) (whole .opens)) (D : DesksGood (whole .core .n) (whole .core .m) (owns (whole .core .desks)) (gaps (owns (whole .core .desks)) (whole .opens)) (whole .core .desks) (whole .cells) (whole .opens)) where
+  abbrev n : ℕ
+  n = whole .core .n
+
+  abbrev ds : List Desk
+  ds = whole .core .desks
+
+  abbrev cs : List ℕ
+  cs = whole .cells
+
+  abbrev os : List ℕ
+  os = whole .opens
+
   abbrev s : State
-  s = model n m ds cs os
+  s = modelOf whole
 
   counts-of : (i : ℕ) → i < places → CountsGood n (owns ds) (gaps (owns ds) os) i (getD ds i desk0)
   counts-of i h = D i h .counts
@@ -69,7 +82,7 @@ module _ (n m : ℕ) (ds : List Desk) (cs os : List ℕ) (sh : DesksShape ds) (f
 
   -- the cells
   abbrev SetSaid : ℕ → ℕ → ℕ → ℕ → Vec → Type 0
-  SetSaid i x v u w = In n i × (In m x × (Flat most-desks w × CellAt s i (set v u w)))
+  SetSaid i x v u w = In n i × (In (whole .core .m) x × (Flat most-desks w × CellAt s i (set v u w)))
 
   row-good : (i x : ℕ) → i < places → x < desk-cells → (cellAt cs (i * desk-cells + x) .writer ≡ 0 → ⊥)
       → SetSaid (suc i) (suc x) (cellAt cs (i * desk-cells + x) .status) (cellAt cs (i * desk-cells + x) .writer) (place (cellAt cs (i * desk-cells + x) .vector))
@@ -87,7 +100,7 @@ module _ (n m : ℕ) (ds : List Desk) (cs os : List ℕ) (sh : DesksShape ds) (f
 
   -- an open write
   module _ (e : ℕ) (h : e < entries) (f : isFree (openAt os e) ≡ false) where
-    g : UsedGood n m (owns ds) os e (openAt os e)
+    g : UsedGood n (whole .core .m) (owns ds) os e (openAt os e)
     g = E e h f
 
     vector-flat : Flat n (place (openAt os e .vector))
@@ -200,7 +213,7 @@ module _ (n m : ℕ) (ds : List Desk) (cs os : List ℕ) (sh : DesksShape ds) (f
   kept : Kept s
   kept =
       record {
-        sizes = (hn, (hm, few n m ds cs os));
+        sizes = (hn, (hm, few whole));
         desk = desk-good;
         cell = λ i _ _ x _ _. cell-good i x (s .cell i x) refl;
         opens = λ u a b k _ d. open-good u k (s .opens u k) refl (a, b) d;
@@ -234,5 +247,5 @@ module _ (n m : ℕ) (ds : List Desk) (cs os : List ℕ) (sh : DesksShape ds) (f
       let z : i * desk-cells + x ≡ r = omega arith in
       rw z at (D i (omega arith) .cells x (omega arith) .unset) q
 
-  pub to-sound : Sound n m ds cs os
+  pub to-sound : SoundTable whole
   to-sound = record { rules = to-rules s shaped kept; blanks = unset; unique = once }

@@ -9,7 +9,8 @@ ghost use Rattle.machine.specs.Table.{most-writes};
 ghost use Rattle.machine.specs.Rules.{In};
 ghost use Rattle.clock.specs.Vectors.{places, place};
 ghost use Rattle.table.specs.Value.{entries, openAt, isFree};
-ghost use Rattle.table.specs.Sound.{Sound, SoundTable};
+ghost use Rattle.table.specs.Sound.{SoundTable};
+ghost use Rattle.table.specs.Model.{tableWith};
 ghost use Rattle.rules.specs.Test.{zeroTest, has, owns, gapOf, gaps, lastOf, rangesTest, usedTest, entryTest, entriesTest, countsTest, setTest, cellTest, cellsTest, waitTest, liveTest, markTest, marksTest, deskTest, desksTest, ownTest};
 use clock::PLACES;
 use table::CELL;
@@ -414,7 +415,7 @@ pub fn keeps_rules(
     cells: &[u16; PLACES * CELLS * CELL],
     opens: &[u16; OPENS * OPEN],
 ) -> bool
-    ensures { λ r. ⌜ Says r (Sound (core .n) (core .m) (core .desks) (now (cells .entry)) (now (opens .entry))) ⌝ }
+    ensures { λ r. ⌜ Says r (SoundTable (tableWith core (now (cells .entry)) (now (opens .entry)))) ⌝ }
 {
     let desks = core.desks;
     table::desks_shape(desks);

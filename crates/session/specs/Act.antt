@@ -24,16 +24,17 @@ use Rattle.schedule.specs.Grammar.{Line as Said, begin-line, step-line}
 use Rattle.schedule.specs.declared.Line.{Line}
 use Rattle.schedule.specs.declared.Line.the-variants.{New, Read, Write, Deliver, Trip, NoStep}
 use Rattle.table.specs.declared.Desk.{Desk}
+use Rattle.table.specs.declared.Table.{Table}
 use Rattle.table.specs.Value.{desk0, all-cells, cell-width, entries, open-width}
 use Rattle.table.specs.Shape.{DesksShape}
-use Rattle.table.specs.Model.{model}
-use Rattle.table.specs.Sound.{Sound}
+use Rattle.table.specs.Model.{tableOf, modelOf}
+use Rattle.table.specs.Sound.{SoundTable}
 use Rattle.steps.specs.declared.Turn.{Turn as DeskTurn}
-use Rattle.steps.specs.Stepped.{Placed, putDesk, Stepped}
+use Rattle.steps.specs.Stepped.{Placed, putDesk, Stepped, tableAfter}
 use Rattle.session.specs.declared.Next.{Next}
 use Rattle.session.specs.Session.{Session, Turn, turn}
 use Rattle.session.specs.Line.{lineIn, actor, seatOf}
-use Rattle.session.specs.Holds.{Zero, Holds, Owns, begun-holds}
+use Rattle.session.specs.Holds.{zeroTable, Holds, Owns, begun-holds}
 
 -- On a table --
 
@@ -46,18 +47,18 @@ deskOf (steps.Trip i xs) = i
 -- there is a table of which these are a part
 pub record Acting (n m : ℕ) (cs os own : List ℕ) (i : ℕ) (d : Desk) : Type 0 where
   pub desks : List Desk
-  pub placed : Placed n m desks cs os own i d
+  pub placed : Placed (tableOf n m desks cs os) own i d
 
 -- the turn of the line o
-pub record Acted (n m : ℕ) (ds : List Desk) (cs os : List ℕ) (i : ℕ) (d : Desk) (o : Option Said) (d′ : Desk) (cs′ os′ : List ℕ) (answer : machine.Answer) : Type 0 where
-  pub answer-is : answer ≡ turn (some (model n m ds cs os)) o .answer
-  pub session-is : some (model n m (putDesk n ds i d′) cs′ os′) ≡ turn (some (model n m ds cs os)) o .session
-  pub sound : Sound n m (putDesk n ds i d′) cs′ os′
-  pub outside : within n i ≡ false → d′ ≡ d
+pub record Acted (t : Table) (i : ℕ) (d : Desk) (o : Option Said) (d′ : Desk) (cs′ os′ : List ℕ) (answer : machine.Answer) : Type 0 where
+  pub answer-is : answer ≡ turn (some (modelOf t)) o .answer
+  pub session-is : some (modelOf (tableAfter (t .core) i d′ cs′ os′)) ≡ turn (some (modelOf t)) o .session
+  pub sound : SoundTable (tableAfter (t .core) i d′ cs′ os′)
+  pub outside : within (t .core .n) i ≡ false → d′ ≡ d
 
 abbrev pub Acts : (n m : ℕ) (d : Desk) (own cs os list : List ℕ) (s : Line) (r : DeskTurn) (cs′ os′ names′ : List ℕ) → Type 0
 Acts n m d own cs os list s r cs′ os′ names′ =
-    (ds : List Desk) → Placed n m ds cs os own (actor s) d → Acted n m ds cs os (actor s) d (lineIn s list) (r .desk) cs′ os′ (answerOf (r .answer) names′)
+    (ds : List Desk) → Placed (tableOf n m ds cs os) own (actor s) d → Acted (tableOf n m ds cs os) (actor s) d (lineIn s list) (r .desk) cs′ os′ (answerOf (r .answer) names′)
 
 outside-refused : (s : State) (a : Step) → within (s .setup .desks) (deskOf a) ≡ false → step s a .answer ≡ machine.refused machine.no-desk
 unfolding step
@@ -66,13 +67,13 @@ outside-refused s (steps.Write i x v) e = rw e
 outside-refused s (steps.Deliver i u k) e = rw e
 outside-refused s (steps.Trip i xs) e = rw e
 
-module _ {n m : ℕ} {ds : List Desk} {cs os : List ℕ} {d d′ : Desk} {cs′ os′ : List ℕ} {answer : machine.Answer} (a : Step) where
-  pub acted-step : Stepped n m ds cs os (deskOf a) d a d′ cs′ os′ answer → Acted n m ds cs os (deskOf a) d (some (step-line a)) d′ cs′ os′ answer
+module _ {t : Table} {d d′ : Desk} {cs′ os′ : List ℕ} {answer : machine.Answer} (a : Step) where
+  pub acted-step : Stepped t (deskOf a) d a d′ cs′ os′ answer → Acted t (deskOf a) d (some (step-line a)) d′ cs′ os′ answer
   acted-step h = record {
     answer-is = h .answer-is;
     session-is = ap some (h .state-is);
     sound = h .sound;
-    outside = λ e. h .refused-desk machine.no-desk (h .answer-is ∙ outside-refused (model n m ds cs os) a e);
+    outside = λ e. h .refused-desk machine.no-desk (h .answer-is ∙ outside-refused (modelOf t) a e);
   }
 
 -- the names stand beside an answer of a delivery alone --
@@ -110,20 +111,20 @@ quiet s (steps.Write i x v) e = step-cases s (steps.Write i x v) (λ o. isApplie
 quiet s (steps.Deliver i u k) e = apart true refl e
 quiet s (steps.Trip i xs) e = step-cases s (steps.Trip i xs) (λ o. isApplies (o .answer) ≡ false) (λ r. refl) (λ h. refl)
 
-module _ {n m : ℕ} {ds : List Desk} {cs os : List ℕ} {d d′ : Desk} {cs′ os′ : List ℕ} (a : Step) (answer : Answer) (names : List ℕ) where
-  pub acted-quiet : Delivery a ≡ false → Stepped n m ds cs os (deskOf a) d a d′ cs′ os′ (answerOf answer [])
-      → Acted n m ds cs os (deskOf a) d (some (step-line a)) d′ cs′ os′ (answerOf answer names)
+module _ {t : Table} {d d′ : Desk} {cs′ os′ : List ℕ} (a : Step) (answer : Answer) (names : List ℕ) where
+  pub acted-quiet : Delivery a ≡ false → Stepped t (deskOf a) d a d′ cs′ os′ (answerOf answer [])
+      → Acted t (deskOf a) d (some (step-line a)) d′ cs′ os′ (answerOf answer names)
   acted-quiet q h =
-      let e : answerOf answer names ≡ answerOf answer [] = beside answer names _ refl (ap isApplies (h .answer-is) ∙ quiet (model n m ds cs os) a q) in
+      let e : answerOf answer names ≡ answerOf answer [] = beside answer names _ refl (ap isApplies (h .answer-is) ∙ quiet (modelOf t) a q) in
       rw e (acted-step a h)
 
 -- a line that is no step on a table
 abbrev pub noStepOf : Desk → DeskTurn
 noStepOf d = record { desk = d; answer = Refused NoStepAnswer }
 
-pub acted-none : {n m : ℕ} {ds : List Desk} {cs os own : List ℕ} {d : Desk} (o : Option Said) → Placed n m ds cs os own 0 d
-    → turn (some (model n m ds cs os)) o ≡ record { answer = machine.refused machine.no-step; session = some (model n m ds cs os) }
-    → Acted n m ds cs os 0 d o d cs os (machine.refused machine.no-step)
+pub acted-none : {t : Table} {own : List ℕ} {d : Desk} (o : Option Said) → Placed t own 0 d
+    → turn (some (modelOf t)) o ≡ record { answer = machine.refused machine.no-step; session = some (modelOf t) }
+    → Acted t 0 d o d (t .cells) (t .opens) (machine.refused machine.no-step)
 acted-none o p e = record {
   answer-is = rw e;
   session-is = rw e;
@@ -134,29 +135,33 @@ acted-none o p e = record {
 -- On a session --
 
 -- the code's values hold the session z, and d is the desk at the seat of i
-pub record Seated (n m : ℕ) (ds : List Desk) (cs os own : List ℕ) (i : ℕ) (d : Desk) (z : Session) : Type 0 where
-  pub holds : Holds n m ds cs os z
-  pub owns : Owns own ds
-  pub shape : DesksShape ds
-  pub cells-size : length cs ≡ all-cells * cell-width
-  pub opens-size : length os ≡ entries * open-width
-  pub desk : getD ds (seatOf i) desk0 ≡ d
+pub record Seated (t : Table) (own : List ℕ) (i : ℕ) (d : Desk) (z : Session) : Type 0 where
+  pub holds : Holds t z
+  pub owns : Owns own (t .core .desks)
+  pub shape : DesksShape (t .core .desks)
+  pub cells-size : length (t .cells) ≡ all-cells * cell-width
+  pub opens-size : length (t .opens) ≡ entries * open-width
+  pub desk : getD (t .core .desks) (seatOf i) desk0 ≡ d
 
 pub record SomeSeat (n m : ℕ) (cs os own : List ℕ) (i : ℕ) (d : Desk) : Type 0 where
   pub desks : List Desk
   pub session : Session
-  pub seated : Seated n m desks cs os own i d session
+  pub seated : Seated (tableOf n m desks cs os) own i d session
 
--- the turn t: with the desk stored back
-pub record Turned (n m : ℕ) (ds : List Desk) (cs os : List ℕ) (i : ℕ) (d : Desk) (answer : machine.Answer) (t : Turn) : Type 0 where
-  pub answer-is : answer ≡ t .answer
-  pub holds : Holds n m (set ds (seatOf i) d) cs os (t .session)
+-- the turn k: its answer, and the table after it
+pub record Turned (t : Table) (answer : machine.Answer) (k : Turn) : Type 0 where
+  pub answer-is : answer ≡ k .answer
+  pub holds : Holds t (k .session)
+
+-- with the desk stored back at its seat
+abbrev pub tableSeated : (n m : ℕ) (ds : List Desk) (i : ℕ) (d : Desk) (cs os : List ℕ) → Table
+tableSeated n m ds i d cs os = tableOf n m (set ds (seatOf i) d) cs os
 
 -- whatever the other desks, and whatever session the values hold
 abbrev pub Turns : (n m : ℕ) (d : Desk) (own cs os list : List ℕ) (s : Line) (r : Next) (cs′ os′ names′ : List ℕ) → Type 0
 Turns n m d own cs os list s r cs′ os′ names′ =
-    (ds : List Desk) (z : Session) → Seated n m ds cs os own (actor s) d z
-    → Turned (r .n) (r .m) ds cs′ os′ (actor s) (r .desk) (answerOf (r .answer) names′) (turn z (lineIn s list))
+    (ds : List Desk) (z : Session) → Seated (tableOf n m ds cs os) own (actor s) d z
+    → Turned (tableSeated (r .n) (r .m) ds (actor s) (r .desk) cs′ os′) (answerOf (r .answer) names′) (turn z (lineIn s list))
 
 abbrev pub nextOf : ℕ → ℕ → Desk → Answer → Next
 nextOf n m d a = record { n = n; m = m; desk = d; answer = a }
@@ -173,11 +178,11 @@ firstOf d (Deliver i u k) = nextOf 0 0 d (Refused NoStepAnswer)
 firstOf d (Trip i n) = nextOf 0 0 d (Refused NoStepAnswer)
 firstOf d NoStep = nextOf 0 0 d (Refused NoStepAnswer)
 
-module _ {n m : ℕ} {ds : List Desk} {cs os own : List ℕ} {i : ℕ} {d : Desk} where
-  stays : {z : Session} → Seated n m ds cs os own i d z → set ds (seatOf i) d ≡ ds
-  stays h = rw (← h .desk) (set-getD ds (seatOf i) desk0)
+module _ {whole : Table} {own : List ℕ} {i : ℕ} {d : Desk} where
+  stays : {z : Session} → Seated whole own i d z → set (whole .core .desks) (seatOf i) d ≡ (whole .core .desks)
+  stays h = rw (← h .desk) (set-getD (whole .core .desks) (seatOf i) desk0)
 
-  pub placed : {s : State} → Seated n m ds cs os own i d (some s) → Placed n m ds cs os own i d
+  pub placed : {s : State} → Seated whole own i d (some s) → Placed whole own i d
   placed h = record {
     sound = h .holds .sound;
     shape = h .shape;
@@ -187,37 +192,37 @@ module _ {n m : ℕ} {ds : List Desk} {cs os own : List ℕ} {i : ℕ} {d : Desk
     own-counts = h .owns .counts;
   }
     where
-      seat : In n i → seatOf i ≡ i - 1
+      seat : In (whole .core .n) i → seatOf i ≡ i - 1
       seat hi = rw (says-within places i .from (hi .0, omega (arith, hi .1, h .holds .sound .rules .frame .ranges .desks .1)))
 
   -- the desk stored at its seat
-  put-seat : {s : State} (d′ : Desk) → Seated n m ds cs os own i d (some s) → (within n i ≡ false → d′ ≡ d) → set ds (seatOf i) d′ ≡ putDesk n ds i d′
+  put-seat : {s : State} (d′ : Desk) → Seated whole own i d (some s) → (within (whole .core .n) i ≡ false → d′ ≡ d) → set (whole .core .desks) (seatOf i) d′ ≡ putDesk (whole .core .n) (whole .core .desks) i d′
   put-seat d′ h out =
-      cases (within n i)
-      (λ t. let hi = says-within n i .to t in
+      cases (within (whole .core .n) i)
+      (λ t. let hi = says-within (whole .core .n) i .to t in
       rw (t, says-within places i .from (hi .0, omega (arith, hi .1, h .holds .sound .rules .frame .ranges .desks .1))))
       (λ t. rw (t, out t) (stays h))
 
   -- on a table
-  pub turned-act : (z : Session) (o : Option Said) {d′ : Desk} {cs′ os′ : List ℕ} {answer : machine.Answer} → (n ≡ 0 → ⊥) → Seated n m ds cs os own i d z
-      → (Placed n m ds cs os own i d → Acted n m ds cs os i d o d′ cs′ os′ answer) → Turned n m ds cs′ os′ i d′ answer (turn z o)
-  turned-act none o ne h f = absurd (ne (h .holds .size))
+  pub turned-act : (z : Session) (o : Option Said) {d′ : Desk} {cs′ os′ : List ℕ} {answer : machine.Answer} → (whole .core .n ≡ 0 → ⊥) → Seated whole own i d z
+      → (Placed whole own i d → Acted whole i d o d′ cs′ os′ answer) → Turned (tableSeated (whole .core .n) (whole .core .m) (whole .core .desks) i d′ cs′ os′) answer (turn z o)
+  turned-act none o ne h f = absurd (ne (ap (λ (t : Table). t .core .n) (h .holds)))
   turned-act (some s) o {d′} {cs′} {os′} {answer} ne h f =
       let a = f (placed h) in
       let e = put-seat d′ h (a .outside) in
-      subst (λ (t : State). Turned n m ds cs′ os′ i d′ answer (turn (some t) o)) (h .holds .model-is)
+      subst (λ (t : State). Turned (tableSeated (whole .core .n) (whole .core .m) (whole .core .desks) i d′ cs′ os′) answer (turn (some t) o)) (h .holds .model-is)
       (record {
         answer-is = a .answer-is;
-        holds = subst (λ (z : Session). Holds n m (set ds (seatOf i) d′) cs′ os′ z) (a .session-is) (rw e (record { model-is = refl; sound = a .sound }));
+        holds = subst (λ (z : Session). Holds (tableSeated (whole .core .n) (whole .core .m) (whole .core .desks) i d′ cs′ os′) z) (a .session-is) (rw e (record { model-is = refl; sound = a .sound }));
       })
 
   -- the values that a table's step may take for granted
-  pub acting : (z : Session) → (n ≡ 0 → ⊥) → Seated n m ds cs os own i d z → Acting n m cs os own i d
-  acting none ne h = absurd (ne (h .holds .size))
-  acting (some s) ne h = record { desks = ds; placed = placed h }
+  pub acting : (z : Session) → (whole .core .n ≡ 0 → ⊥) → Seated whole own i d z → Acting (whole .core .n) (whole .core .m) (whole .cells) (whole .opens) own i d
+  acting none ne h = absurd (ne (ap (λ (t : Table). t .core .n) (h .holds)))
+  acting (some s) ne h = record { desks = whole .core .desks; placed = placed h }
 
-  zero-of : (z : Session) → n ≡ 0 → Seated n m ds cs os own i d z → (z ≡ none) × Zero 0 0 ds cs os
-  zero-of none e h = (refl, record { size = refl; many = refl; desks = h .holds .desks; cells = h .holds .cells; opens = h .holds .opens })
+  zero-of : (z : Session) → whole .core .n ≡ 0 → Seated whole own i d z → (z ≡ none) × (whole ≡ zeroTable)
+  zero-of none e h = (refl, h .holds)
   zero-of (some s) e h = absurd (omega (arith, h .holds .sound .rules .frame .ranges .desks .0))
 
 begin-yes : (a b : ℕ) → begins a b ≡ true → begin a b ≡ record { answer = machine.began; table = some (fresh a b) }
@@ -229,22 +234,26 @@ unfolding begin
 begin-no a b t = rw (t, begin)
 
 -- before there is a table
-pub turned-first : {n m : ℕ} {ds : List Desk} {cs os own : List ℕ} {d : Desk} (s : Line) (list names : List ℕ) (z : Session) → n ≡ 0
-    → Seated n m ds cs os own (actor s) d z → (let r = firstOf d s in Turned (r .n) (r .m) ds cs os (actor s) (r .desk) (answerOf (r .answer) names) (turn z (lineIn s list)))
-turned-first {n} {m} {ds} {cs} {os} {own} {d} s list names z e h =
+pub turned-first : {whole : Table} {own : List ℕ} {d : Desk} (s : Line) (list names : List ℕ) (z : Session) → whole .core .n ≡ 0 → Seated whole own (actor s) d z
+    → (let r = firstOf d s in Turned (tableSeated (r .n) (r .m) (whole .core .desks) (actor s) (r .desk) (whole .cells) (whole .opens)) (answerOf (r .answer) names) (turn z (lineIn s list)))
+turned-first {whole} {own} {d} s list names z e h =
     let y = zero-of z e h in
     rw (y .0) (go s (stays h) (y .1))
   where
-    stay : (i : ℕ) → set ds (seatOf i) d ≡ ds → Zero 0 0 ds cs os → Turned 0 0 ds cs os i d (machine.refused machine.no-step) (record { answer = machine.refused machine.no-step; session = none })
-    stay i q y = record { answer-is = refl; holds = rw q y }
+    none-yet : whole ≡ zeroTable → tableOf 0 0 (whole .core .desks) (whole .cells) (whole .opens) ≡ zeroTable
+    none-yet y = ap (λ (t : Table). tableOf 0 0 (t .core .desks) (t .cells) (t .opens)) y
 
-    go : (s : Line) → set ds (seatOf (actor s)) d ≡ ds → Zero 0 0 ds cs os
-        → (let r = firstOf d s in Turned (r .n) (r .m) ds cs os (actor s) (r .desk) (answerOf (r .answer) names) (turn none (lineIn s list)))
+    stay : (i : ℕ) → set (whole .core .desks) (seatOf i) d ≡ (whole .core .desks) → whole ≡ zeroTable
+        → Turned (tableSeated 0 0 (whole .core .desks) i d (whole .cells) (whole .opens)) (machine.refused machine.no-step) (record { answer = machine.refused machine.no-step; session = none })
+    stay i q y = record { answer-is = refl; holds = rw q (none-yet y) }
+
+    go : (s : Line) → set (whole .core .desks) (seatOf (actor s)) d ≡ (whole .core .desks) → whole ≡ zeroTable
+        → (let r = firstOf d s in Turned (tableSeated (r .n) (r .m) (whole .core .desks) (actor s) (r .desk) (whole .cells) (whole .opens)) (answerOf (r .answer) names) (turn none (lineIn s list)))
     go (New a b) q y =
         cases (begins a b)
         (λ t. let w = says-both (within most-desks a) (within most-cells b) (says-within most-desks a) (says-within most-cells b) .to t in
-        rw (begin-yes a b t, t) (record { answer-is = refl; holds = rw q (begun-holds a b ds cs os (w .0) (w .1) y) }))
-        (λ t. rw (begin-no a b t, t) (record { answer-is = refl; holds = rw q y }))
+        rw (begin-yes a b t, t) (record { answer-is = refl; holds = rw q (begun-holds a b whole (w .0) (w .1) y) }))
+        (λ t. rw (begin-no a b t, t) (record { answer-is = refl; holds = rw q (none-yet y) }))
     go (Read i x) q y = stay i q y
     go (Write i x v) q y = stay i q y
     go (Deliver i u k) q y = stay i q y

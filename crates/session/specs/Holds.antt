@@ -19,10 +19,11 @@ use Rattle.laws.specs.Tab.{tab, getD-tab, length-tab}
 use Rattle.laws.specs.Rows.{row, part, length-part}
 use Rattle.table.specs.declared.Core.{Core}
 use Rattle.table.specs.declared.Desk.{Desk}
+use Rattle.table.specs.declared.Table.{Table}
 use Rattle.table.specs.Value.{desk0, desk-cells, all-cells, cell-width, entries, open-width, cellAt}
 use Rattle.table.specs.Shape.{DesksShape}
-use Rattle.table.specs.Model.{model, appliedM, appliedVec, applied-at}
-use Rattle.table.specs.Sound.{Sound, AllZero}
+use Rattle.table.specs.Model.{appliedM, appliedVec, applied-at, modelOf, tableOf, tableWith}
+use Rattle.table.specs.Sound.{AllZero, SoundTable}
 use Rattle.table.specs.Begin.{freshDesk, freshTable, fresh-model, zeros-at, place-zeros, unique-zeros}
 use Rattle.session.specs.Session.{Session}
 
@@ -39,30 +40,26 @@ abbrev pub zeroCore : Core
 zeroCore = record { n = 0; m = 0; desks = zeroDesks }
 
 -- no table yet
-pub record Zero (n m : ℕ) (ds : List Desk) (cs os : List ℕ) : Type 0 where
-  pub size : n ≡ 0
-  pub many : m ≡ 0
-  pub desks : ds ≡ zeroDesks
-  pub cells : cs ≡ zeroCells
-  pub opens : os ≡ zeroOpens
+abbrev pub zeroTable : Table
+zeroTable = tableWith zeroCore zeroCells zeroOpens
 
 -- the table s
-pub record Tabled (n m : ℕ) (ds : List Desk) (cs os : List ℕ) (s : State) : Type 0 where
-  pub model-is : model n m ds cs os ≡ s
-  pub sound : Sound n m ds cs os
+pub record Tabled (t : Table) (s : State) : Type 0 where
+  pub model-is : modelOf t ≡ s
+  pub sound : SoundTable t
 
-abbrev pub Holds : ℕ → ℕ → List Desk → List ℕ → List ℕ → Session → Type 0
-Holds n m ds cs os none = Zero n m ds cs os
-Holds n m ds cs os (some s) = Tabled n m ds cs os s
+abbrev pub Holds : Table → Session → Type 0
+Holds t none = t ≡ zeroTable
+Holds t (some s) = Tabled t s
 
--- they hold some session
-pub record SomeSession (n m : ℕ) (ds : List Desk) (cs os : List ℕ) : Type 0 where
+-- it holds some session
+pub record SomeSession (t : Table) : Type 0 where
   pub session : Session
-  pub holds : Holds n m ds cs os session
+  pub holds : Holds t session
 
 -- the start
-pub zero-holds : SomeSession 0 0 zeroDesks zeroCells zeroOpens
-zero-holds = record { session = none; holds = record { size = refl; many = refl; desks = refl; cells = refl; opens = refl } }
+pub zero-holds : SomeSession zeroTable
+zero-holds = record { session = none; holds = refl }
 
 -- "N n m" needs nothing but the two numbers --
 
@@ -86,12 +83,16 @@ zero-cell s h = record {
         (λ e. at t (ltb-true t places e))
         (λ e. place-out (cellAt zeroCells s .vector) (suc t) (omega (arith, ltb-false t places e, length-part (row zeroCells cell-width s) 2 places)))
 
-zero-model : (n m : ℕ) → model n m zeroDesks zeroCells zeroOpens ≡ fresh n m
+abbrev sizedZero : ℕ → ℕ → Table
+sizedZero n m = tableOf n m zeroDesks zeroCells zeroOpens
+
+zero-model : (n m : ℕ) → modelOf (sizedZero n m) ≡ fresh n m
 unfolding freshTable
 zero-model n m = fresh-model n m
 
-pub begun-holds : (n m : ℕ) (ds : List Desk) (cs os : List ℕ) → In most-desks n → In most-cells m → Zero 0 0 ds cs os → Holds n m ds cs os (some (fresh n m))
-begun-holds n m ds cs os hn hm z = rw (z .desks, z .cells, z .opens) (record {
+pub begun-holds : (n m : ℕ) (t : Table) → In most-desks n → In most-cells m → t ≡ zeroTable
+    → Holds (tableOf n m (t .core .desks) (t .cells) (t .opens)) (some (fresh n m))
+begun-holds n m t hn hm z = rw z (record {
   model-is = zero-model n m;
   sound = record { rules = rw (zero-model n m) (fresh-rules n m hn hm); blanks = λ s h e. zero-cell s h; unique = unique-zeros (entries * open-width) };
 })

@@ -8,7 +8,7 @@ use native.Mathlib.Omega.{arith}
 use native.Mathlib.Nat.{zero-add}
 use lib.Dec.{leb, ltb}
 use borrow.Author.Tests.{le-leb}
-use lib.ListN.{length, getD, set, take, drop, length-append}
+use lib.ListN.{length, getD, take, drop, length-append}
 use lib.Seq.{sets, sets-eq, length-sets, take-at}
 use Rattle.laws.specs.Loop.{pick}
 use Rattle.laws.specs.Update.{same-or}
@@ -21,11 +21,10 @@ use Rattle.answer.specs.Bytes.{answerLine, most-answer}
 use Rattle.answer.specs.Outcome.{upto, writtenOf, written, buffer}
 use Rattle.answer.specs.declared.Written.{Written}
 use Rattle.answer.specs.declared.Written.the-variants.{Upto, Short}
-use Rattle.table.specs.declared.Desk.{Desk}
+use Rattle.table.specs.declared.Table.{Table}
 use Rattle.session.specs.Session.{Session, Turn, turn}
 use Rattle.session.specs.Transcript.{transcriptFrom, sessionFrom, most-text, transcript}
 use Rattle.session.specs.Laws.{turnAt, from-end, from-line, left-line, transcript-run}
-use Rattle.session.specs.Line.{seatOf}
 use Rattle.session.specs.Holds.{Holds}
 use Rattle.session.specs.Act.{Turned}
 
@@ -39,20 +38,20 @@ pub data Passed (text : List ℕ) (room : ℕ) : (z : Session) (from len : ℕ) 
 
 -- A run from the session z at place `from` on: the lines that it passed, their answers at the front of the buffer, the session that they left. It
 -- goes on to the end of the text, or until a line of any answer has no room.
-pub record Ran (z : Session) (text : List ℕ) (from : ℕ) (out : List ℕ) (n m : ℕ) (ds : List Desk) (cs os : List ℕ) (at len : ℕ) (out′ : List ℕ) : Type 0 where
+pub record Ran (z : Session) (text : List ℕ) (from : ℕ) (out : List ℕ) (t : Table) (at len : ℕ) (out′ : List ℕ) : Type 0 where
   pub session : Session
   pub lines : List ℕ
   pub passed : Passed text (length out) z from 0 session at lines
   pub stops : at < length text → length out < len + most-answer
-  pub holds : Holds n m ds cs os session
+  pub holds : Holds t session
   pub stored : out′ ≡ sets out 0 lines
   pub len-is : len ≡ length lines
   pub fits : length lines ≤ length out
 
 -- for every session that the values held
-abbrev pub Runs : (n m : ℕ) (ds : List Desk) (cs os text : List ℕ) (from : ℕ) (out : List ℕ) (n′ m′ : ℕ) (ds′ : List Desk) (cs′ os′ : List ℕ) (at len : ℕ) (out′ : List ℕ) → Type 0
-Runs n m ds cs os text from out n′ m′ ds′ cs′ os′ at len out′ =
-    (z : Session) → Holds n m ds cs os z → Ran z text from out n′ m′ ds′ cs′ os′ at len out′
+abbrev pub Runs : (t : Table) (text : List ℕ) (from : ℕ) (out : List ℕ) (t′ : Table) (at len : ℕ) (out′ : List ℕ) → Type 0
+Runs t text from out t′ at len out′ =
+    (z : Session) → Holds t z → Ran z text from out t′ at len out′
 
 module _ {text : List ℕ} {room : ℕ} where
   -- one line more at the end
@@ -101,8 +100,8 @@ module _ {text : List ℕ} {room : ℕ} where
       (r .0, (r .1 .0, ap (λ (x : List ℕ). w ++ x) (r .1 .1)))
 
 -- what a run tells of the text
-module _ {z : Session} {text : List ℕ} {from : ℕ} {out : List ℕ} {n m : ℕ} {ds : List Desk} {cs os : List ℕ} {at len : ℕ} {out′ : List ℕ}
-    (r : Ran z text from out n m ds cs os at len out′) where
+module _ {z : Session} {text : List ℕ} {from : ℕ} {out : List ℕ} {t : Table} {at len : ℕ} {out′ : List ℕ}
+    (r : Ran z text from out t at len out′) where
   pub ran-rest : transcriptFrom z text from ≡ r .lines ++ transcriptFrom (r .session) text at
   ran-rest = passed-rest (r .passed)
 
@@ -119,7 +118,7 @@ module _ {z : Session} {text : List ℕ} {from : ℕ} {out : List ℕ} {n m : �
       (λ q. omega (arith, ran-within .0))
 
   -- two runs of one text from one session into one buffer
-  module _ {n′ m′ : ℕ} {ds′ : List Desk} {cs′ os′ : List ℕ} {at′ len′ : ℕ} {out″ : List ℕ} (q : Ran z text from out n′ m′ ds′ cs′ os′ at′ len′ out″) where
+  module _ {t′ : Table} {at′ len′ : ℕ} {out″ : List ℕ} (q : Ran z text from out t′ at′ len′ out″) where
     same-run : (r .session ≡ q .session) × ((at ≡ at′) × (r .lines ≡ q .lines))
     same-run = passed-once (r .passed) (q .passed) (λ h. omega (arith, r .stops h, r .len-is)) (λ h. omega (arith, q .stops h, q .len-is))
 
@@ -130,41 +129,41 @@ module _ {z : Session} {text : List ℕ} {from : ℕ} {out : List ℕ} {n m : �
         (e .0, (e .1 .0, (r .len-is ∙ ap length (e .1 .1) ∙ sym (q .len-is), r .stored ∙ ap (sets out 0) (e .1 .1) ∙ sym (q .stored))))
 
 -- a run under way
-pub record Going (z : Session) (text : List ℕ) (from : ℕ) (out : List ℕ) (n m : ℕ) (ds : List Desk) (cs os : List ℕ) (at len : ℕ) (out′ : List ℕ) : Type 0 where
+pub record Going (z : Session) (text : List ℕ) (from : ℕ) (out : List ℕ) (t : Table) (at len : ℕ) (out′ : List ℕ) : Type 0 where
   pub session : Session
   pub lines : List ℕ
   pub passed : Passed text (length out) z from 0 session at lines
-  pub holds : Holds n m ds cs os session
+  pub holds : Holds t session
   pub stored : out′ ≡ sets out 0 lines
   pub len-is : len ≡ length lines
   pub fits : length lines ≤ length out
 
-pub going-start : {z : Session} {text : List ℕ} {from : ℕ} {out : List ℕ} {n m : ℕ} {ds : List Desk} {cs os : List ℕ} → Holds n m ds cs os z
-    → Going z text from out n m ds cs os from 0 out
+pub going-start : {z : Session} {text : List ℕ} {from : ℕ} {out : List ℕ} {t : Table} → Holds t z
+    → Going z text from out t from 0 out
 going-start {z} h = record { session = z; lines = []; passed = here; holds = h; stored = refl; len-is = refl; fits = omega arith }
 
-module _ {z : Session} {text : List ℕ} {from : ℕ} {out : List ℕ} {n m : ℕ} {ds : List Desk} {cs os : List ℕ} {at len : ℕ} {out′ : List ℕ}
-    (g : Going z text from out n m ds cs os at len out′) where
+module _ {z : Session} {text : List ℕ} {from : ℕ} {out : List ℕ} {t : Table} {at len : ℕ} {out′ : List ℕ}
+    (g : Going z text from out t at len out′) where
   -- one line more
-  pub going-on : {n′ m′ : ℕ} {cs′ os′ : List ℕ} {i : ℕ} {d : Desk} (answer : machine.Answer) {o : Option Said} {at′ len′ : ℕ} {out″ : List ℕ}
+  pub going-on : {t′ : Table} (answer : machine.Answer) {o : Option Said} {at′ len′ : ℕ} {out″ : List ℕ}
       → at < length text → len + most-answer ≤ length out
-      → Turned n′ m′ ds cs′ os′ i d answer (turn (g .session) o)
+      → Turned t′ answer (turn (g .session) o)
       → o ≡ pick (endedAt text at) (lineOf (lineAt text at)) none
       → Stored out′ len (answerLine answer) out″ len′ → len′ ≤ length out
       → at′ ≡ nextAt text at
-      → Going z text from out n′ m′ (set ds (seatOf i) d) cs′ os′ at′ len′ out″
-  going-on {n′} {m′} {cs′} {os′} {i} {d} answer {o} {at′} {len′} {out″} h free t eo s room ea =
+      → Going z text from out t′ at′ len′ out″
+  going-on {t′} answer {o} {at′} {len′} {out″} h free u eo s room ea =
       let k = turnAt (g .session) text at in
       let w = answerLine (k .answer) in
       let e : turn (g .session) o ≡ k = ap (turn (g .session)) eo in
-      let a : answer ≡ k .answer = t .answer-is ∙ ap (λ (x : Turn). x .answer) e in
+      let a : answer ≡ k .answer = u .answer-is ∙ ap (λ (x : Turn). x .answer) e in
       let b : answerLine answer ≡ w = ap answerLine a in
       let l : len′ ≡ length (g .lines ++ w) = s .behind ∙ ap (λ (x : List ℕ). len + length x) b ∙ ap (λ (x : ℕ). x + length w) (g .len-is) ∙ sym (length-append (g .lines) w) in
       record {
         session = k .session;
         lines = g .lines ++ w;
         passed = rw ea (passed-on (g .passed) h (omega (arith, g .len-is)));
-        holds = subst (λ (x : Turn). Holds n′ m′ (set ds (seatOf i) d) cs′ os′ (x .session)) e (t .holds);
+        holds = subst (λ (x : Turn). Holds t′ (x .session)) e (u .holds);
         stored =
             s .stored ∙ ap (λ (x : List ℕ). sets out′ len x) b ∙ ap (λ (x : List ℕ). sets x len w) (g .stored)
             ∙ ap (λ (x : ℕ). sets (sets out 0 (g .lines)) x w) (g .len-is ∙ sym (zero-add (length (g .lines))))
@@ -174,7 +173,7 @@ module _ {z : Session} {text : List ℕ} {from : ℕ} {out : List ℕ} {n m : �
       }
 
   -- the end of the text, or no room for every answer
-  pub going-end : (at < length text → length out < len + most-answer) → Ran z text from out n m ds cs os at len out′
+  pub going-end : (at < length text → length out < len + most-answer) → Ran z text from out t at len out′
   going-end h =
       record { session = g .session; lines = g .lines; passed = g .passed; stops = h; holds = g .holds; stored = g .stored; len-is = g .len-is; fits = g .fits }
 
@@ -216,16 +215,16 @@ module _ (out : List ℕ) (at : ℕ) (line out′ : List ℕ) (w : Written) (h :
 
 -- The whole text: a call of the run after another, each part of the buffer printed --
 
-pub ran-part : {z : Session} {text : List ℕ} {from : ℕ} {out : List ℕ} {n m : ℕ} {ds : List Desk} {cs os : List ℕ} {at len : ℕ} {out′ : List ℕ}
-    (r : Ran z text from out n m ds cs os at len out′) → take len out′ ≡ r .lines
+pub ran-part : {z : Session} {text : List ℕ} {from : ℕ} {out : List ℕ} {t : Table} {at len : ℕ} {out′ : List ℕ}
+    (r : Ran z text from out t at len out′) → take len out′ ≡ r .lines
 ran-part {out} {len} {out′} r =
     let f : 0 + length (r .lines) ≤ length out = omega (arith, r .fits) in
     rw (r .len-is, r .stored, sets-eq (r .lines) out 0 f) (take-at (r .lines) (drop (0 + length (r .lines)) out) (length (r .lines)) refl)
 
 pub data Printed (text : List ℕ) : Session → ℕ → List ℕ → Type 0 where
   done : {z : Session} {at : ℕ} → length text ≤ at → Printed text z at []
-  call : {z : Session} {from : ℕ} {out : List ℕ} {n m : ℕ} {ds : List Desk} {cs os : List ℕ} {at len : ℕ} {out′ more : List ℕ}
-      (r : Ran z text from out n m ds cs os at len out′) → Printed text (r .session) at more → Printed text z from (take len out′ ++ more)
+  call : {z : Session} {from : ℕ} {out : List ℕ} {t : Table} {at len : ℕ} {out′ more : List ℕ}
+      (r : Ran z text from out t at len out′) → Printed text (r .session) at more → Printed text z from (take len out′ ++ more)
 
 printed-all : {text : List ℕ} {z : Session} {at : ℕ} {all : List ℕ} → Printed text z at all → all ≡ transcriptFrom z text at
 printed-all {text} {z} {at} (done h) = sym (from-end z text at h)

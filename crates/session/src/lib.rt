@@ -35,6 +35,7 @@ use table::Core;
 use table::Desk;
 use table::OPEN;
 use table::OPENS;
+ghost use Rattle.table.specs.Model.{tableWith};
 
 // The size of the table after a line, 0 while there is none, the acting desk, and the answer.
 struct Next {
@@ -287,8 +288,8 @@ pub fn run(
     at: usize,
     out: &mut [u8],
 ) -> Progress
-    requires { ⌜ SomeSession (core .n) (core .m) (core .desks) (now cells) (now opens) ⌝ }
-    ensures { λ r. ⌜ Runs (core .n) (core .m) (core .desks) (now (cells .entry)) (now (opens .entry)) (now (text .entry)) at (now (out .entry)) (r .core .n) (r .core .m) (r .core .desks) (now (cells .exit)) (now (opens .exit)) (r .at) (r .len) (now (out .exit)) ⌝ }
+    requires { ⌜ SomeSession (tableWith core (now cells) (now opens)) ⌝ }
+    ensures { λ r. ⌜ Runs (tableWith core (now (cells .entry)) (now (opens .entry))) (now (text .entry)) at (now (out .entry)) (tableWith (r .core) (now (cells .exit)) (now (opens .exit))) (r .at) (r .len) (now (out .exit)) ⌝ }
 {
     let mut n = core.n;
     let mut m = core.m;

@@ -27,31 +27,32 @@ use Rattle.reply.specs.declared.Refusal.the-variants.{NoDesk, OwnWrite, NoWrite
 use Rattle.reply.specs.declared.Answer.the-variants.{Refused}
 use Rattle.reply.specs.Meaning.{refusalOf, answerOf, Counted}
 use Rattle.table.specs.declared.Desk.{Desk}
+use Rattle.table.specs.declared.Table.{Table}
 use Rattle.table.specs.Value.{desk0, entries, openAt}
 use Rattle.table.specs.Names.{namedAt}
-use Rattle.table.specs.Model.{appliedVec, appliedM, openM, opensM, model, applied-at, applied-put, clock-keep}
+use Rattle.table.specs.Model.{appliedVec, appliedM, openM, cellsM, opensM, applied-at, applied-put, clock-keep, modelOf, tableOf}
 use Rattle.table.specs.Opens.{opens-at}
 use Rattle.steps.specs.declared.Turn.{Turn}
 use Rattle.steps.specs.declared.deliver.Test.{Test}
 use Rattle.steps.specs.declared.deliver.Test.the-variants.{Passed, Failed}
-use Rattle.steps.specs.Stepped.{Placed, putDesk, put-back, namesBeside, Stepped}
+use Rattle.steps.specs.Stepped.{Placed, put-back, namesBeside, Stepped, tableAfter}
 use Rattle.steps.specs.Cascade.{midst}
 use Rattle.steps.specs.DeliverReceive.{Arrival, Receives, effect}
 
 -- the part of a table that a delivery is handed
 abbrev pub Part : (n : ℕ) (d : Desk) (own cs os : List ℕ) (i : ℕ) → Type 0
-Part n d own cs os i = (m : ℕ) × (ds : List Desk) × Placed n m ds cs os own i d
+Part n d own cs os i = (m : ℕ) × (ds : List Desk) × Placed (tableOf n m ds cs os) own i d
 
 -- the machine's delivery, and the names in the array beside the answer: all else in it stays
-pub record Meets (n m : ℕ) (ds : List Desk) (d : Desk) (cs os names : List ℕ) (i u k : ℕ) (r : Turn) (cs′ os′ names′ : List ℕ) : Type 0 where
-  pub stepped : Stepped n m ds cs os i d (Deliver i u k) (r .desk) cs′ os′ (answerOf (r .answer) names′)
-  pub names-are : names′ ≡ sets names 0 (namesBeside (step (model n m ds cs os) (Deliver i u k) .answer))
+pub record Meets (t : Table) (d : Desk) (names : List ℕ) (i u k : ℕ) (r : Turn) (cs′ os′ names′ : List ℕ) : Type 0 where
+  pub stepped : Stepped t i d (Deliver i u k) (r .desk) cs′ os′ (answerOf (r .answer) names′)
+  pub names-are : names′ ≡ sets names 0 (namesBeside (step (modelOf t) (Deliver i u k) .answer))
   pub counted : Counted (r .answer)
 
 -- for every table that these are a part of
 abbrev pub Delivers : (n : ℕ) (d : Desk) (own cs os names : List ℕ) (i u k : ℕ) (r : Turn) (cs′ os′ names′ : List ℕ) → Type 0
 Delivers n d own cs os names i u k r cs′ os′ names′ =
-    (m : ℕ) (ds : List Desk) → Placed n m ds cs os own i d → Meets n m ds d cs os names i u k r cs′ os′ names′
+    (m : ℕ) (ds : List Desk) → Placed (tableOf n m ds cs os) own i d → Meets (tableOf n m ds cs os) d names i u k r cs′ os′ names′
 
 -- the refusals that no entry is looked at for: 1 (either desk), 6, 7, and 8 of what the desk has applied
 unfoldable pub testsOf : ℕ → List ℕ → List ℕ → ℕ → ℕ → ℕ → Test
@@ -102,9 +103,21 @@ pub passes : (n : ℕ) (a own : List ℕ) (i u k : ℕ) (r : Test) → r ≡ tes
 passes n a own i u k r e f =
     test-cases n a own i u k Passed (sym e ∙ f) (λ _. no-fail) (λ _ _. no-fail) (λ _ _ _. no-fail) (λ _ _ _ _. no-fail) (λ _ _. no-fail) (λ h _. h)
 
-module _ {n m : ℕ} {ds : List Desk} {cs os own : List ℕ} {i : ℕ} {d : Desk} (p : Placed n m ds cs os own i d) where
+module _ {whole : Table} {own : List ℕ} {i : ℕ} {d : Desk} (p : Placed whole own i d) where
+  abbrev n : ℕ
+  n = whole .core .n
+
+  abbrev ds : List Desk
+  ds = whole .core .desks
+
+  abbrev cs : List ℕ
+  cs = whole .cells
+
+  abbrev os : List ℕ
+  os = whole .opens
+
   abbrev s : State
-  s = model n m ds cs os
+  s = modelOf whole
 
   own-is : (u : ℕ) → In n u → place own u ≡ written s u
   own-is u h = p .own-counts u (h .0, (omega (arith, h .1, p .sound .rules .frame .ranges .desks .1)))
@@ -135,7 +148,7 @@ module _ {n m : ℕ} {ds : List Desk} {cs os own : List ℕ} {i : ℕ} {d : Desk
 
   -- a refusal leaves all as it came
   pub meets-refused : (u k : ℕ) (r : Refusal) (names : List ℕ) → step s (Deliver i u k) ≡ refuse (refusalOf r) s
-      → Meets n m ds d cs os names i u k (turnedAway d r) cs os names
+      → Meets whole d names i u k (turnedAway d r) cs os names
   meets-refused u k r names e = record {
     stepped = record {
       answer-is = rw e;
@@ -172,22 +185,22 @@ module _ {n m : ℕ} {ds : List Desk} {cs os own : List ℕ} {i : ℕ} {d : Desk
 
     pub midst-is : midst s n i (d .applied) cs os ≡ s
     midst-is = λ j. record {
-      setup = machine.sized n m;
+      setup = s .setup;
       applied = sym (upd-is (appliedM ds) i (place (d .applied)) (appliedM ds) counts-here (λ j ne. refl)) j;
       clock = s .clock;
       cell = s .cell;
       opens = s .opens;
     }
 
-    model-is : (d′ : Desk) (cs′ os′ : List ℕ) → d′ .clock ≡ d .clock → model n m (putDesk n ds i d′) cs′ os′ ≡ midst s n i (d′ .applied) cs′ os′
+    model-is : (d′ : Desk) (cs′ os′ : List ℕ) → d′ .clock ≡ d .clock → modelOf (tableAfter (whole .core) i d′ cs′ os′) ≡ midst s n i (d′ .applied) cs′ os′
     model-is d′ cs′ os′ q =
         rw (says-within n i .from hi)
         (λ j. record {
-          setup = machine.sized n m;
+          setup = s .setup;
           applied = applied-put ds i in-list d′ j;
           clock = clock-keep ds i in-list d′ (rw (q, p .desk hi)) j;
-          cell = model n m ds cs′ os′ .cell;
-          opens = model n m ds cs′ os′ .opens;
+          cell = modelOf (tableOf n (whole .core .m) ds cs′ os′) .cell;
+          opens = modelOf (tableOf n (whole .core .m) ds cs′ os′) .opens;
         })
 
     pub arrival : (u k e : ℕ) → e < entries → namedAt os u k e ≡ true → place (openAt os e .marks) i ≡ away → Arrival s n i u k e (d .applied) own cs os
@@ -209,7 +222,7 @@ module _ {n m : ℕ} {ds : List Desk} {cs os own : List ℕ} {i : ℕ} {d : Desk
     }
 
     pub meets-received : (u k e : ℕ) {r : Turn} {names cs′ os′ names′ : List ℕ} → Passes n own i u k → e < entries → namedAt os u k e ≡ true
-        → place (openAt os e .marks) i ≡ away → Receives s n i u k e d cs os names r cs′ os′ names′ → Meets n m ds d cs os names i u k r cs′ os′ names′
+        → place (openAt os e .marks) i ≡ away → Receives s n i u k e d cs os names r cs′ os′ names′ → Meets whole d names i u k r cs′ os′ names′
     meets-received u k e {r} {names} {cs′} {os′} {names′} ps h t q x =
         let o : step s (Deliver i u k) ≡ effect (midst s n i (d .applied) cs os) i u k (openM (openAt os e)) =
         passed u k ps ∙ effect-open u k e h t q ∙ sym (ap (λ (y : State). effect y i u k (openM (openAt os e))) midst-is) in

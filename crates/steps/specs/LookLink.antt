@@ -17,8 +17,9 @@ use Rattle.clock.specs.declared.Clock.{Clock}
 use Rattle.clock.specs.Vectors.{places, place, joined, joinClock, place-joined}
 use Rattle.table.specs.declared.Cell.{Cell}
 use Rattle.table.specs.declared.Desk.{Desk}
+use Rattle.table.specs.declared.Table.{Table}
 use Rattle.table.specs.Value.{cellAt, full-cellAt, FullCell}
-use Rattle.table.specs.Model.{cellM, slot, clockM, cellsM, opensM, model, clockVec, cell-in, clock-at, clock-put, applied-keep}
+use Rattle.table.specs.Model.{cellM, slot, clockM, cellsM, opensM, clockVec, cell-in, clock-at, clock-put, applied-keep, modelOf, tableOf}
 use Rattle.table.specs.Sound.{AllZero}
 use Rattle.reply.specs.Meaning.{answerOf}
 use Rattle.steps.specs.Stepped.{Placed, Stepped}
@@ -41,38 +42,41 @@ pub shown-cell : (c : Cell) → answerOf (shownCell c) [] ≡ machine.shows (mac
 unfolding shownCell
 shown-cell c = cases (eqb (c .writer) 0) (λ t. rw t) (λ t. rw t)
 
-module _ {n m : ℕ} {ds : List Desk} {cs os own : List ℕ} {i : ℕ} {d : Desk} (p : Placed n m ds cs os own i d) (hi : In n i) where
+module _ {t : Table} {own : List ℕ} {i : ℕ} {d : Desk} (p : Placed t own i d) (hi : In (t .core .n) i) where
+  abbrev cs : List ℕ
+  cs = t .cells
+
   abbrev at-start : states.State
-  at-start = model n m ds cs os
+  at-start = modelOf t
 
-  pub clock-start : clockM ds i ≡ place (d .clock .at)
-  clock-start = clock-at ds i (in-desks p hi) ∙ ap clockVec (p .desk hi)
+  pub clock-start : clockM (t .core .desks) i ≡ place (d .clock .at)
+  clock-start = clock-at (t .core .desks) i (in-desks p hi) ∙ ap clockVec (p .desk hi)
 
-  pub cell-here : {x : ℕ} → In m x → cellsM cs i x ≡ cellM (cellAt cs (slot i x))
+  pub cell-here : {x : ℕ} → In (t .core .m) x → cellsM cs i x ≡ cellM (cellAt cs (slot i x))
   cell-here {x} hx = cell-in cs i x (in-places p hi) (in-cells p hx)
 
-  pub blank-here : {x : ℕ} → In m x → Blank0 (cellAt cs (slot i x))
+  pub blank-here : {x : ℕ} → In (t .core .m) x → Blank0 (cellAt cs (slot i x))
   blank-here {x} hx = p .sound .blanks (slot i x) (omega (arith, in-places p hi, in-cells p hx))
 
   -- only the clock changes
-  pub clock-stepped : (a : Step) (k : Clock) (answer : machine.Answer) → AllPass (rowsOf (model n m ds cs os) a)
-      → answer ≡ effectOf (model n m ds cs os) a .answer → withClock (model n m ds cs os) i (place (k .at)) ≡ effectOf (model n m ds cs os) a .state
-      → Stepped n m ds cs os i d a (clocked d k) cs os answer
+  pub clock-stepped : (a : Step) (k : Clock) (answer : machine.Answer) → AllPass (rowsOf (modelOf t) a)
+      → answer ≡ effectOf (modelOf t) a .answer → withClock (modelOf t) i (place (k .at)) ≡ effectOf (modelOf t) a .state
+      → Stepped t i d a (clocked d k) cs (t .opens) answer
   clock-stepped a k answer h ea es = taken-stepped p a hi h ea (moved ∙ es) (p .sound .blanks) (p .sound .unique)
     where
-      moved : model n m (set ds (i - 1) (clocked d k)) cs os ≡ withClock (model n m ds cs os) i (place (k .at))
+      moved : modelOf (tableOf (t .core .n) (t .core .m) (set (t .core .desks) (i - 1) (clocked d k)) cs (t .opens)) ≡ withClock (modelOf t) i (place (k .at))
       moved = λ j. record {
-        setup = states.sized n m;
-        applied = applied-keep ds i (in-desks p hi) (clocked d k) (ap (λ (b : Desk). place (b .applied)) (sym (p .desk hi))) j;
-        clock = clock-put ds i (in-desks p hi) (clocked d k) j;
+        setup = modelOf t .setup;
+        applied = applied-keep (t .core .desks) i (in-desks p hi) (clocked d k) (ap (λ (b : Desk). place (b .applied)) (sym (p .desk hi))) j;
+        clock = clock-put (t .core .desks) i (in-desks p hi) (clocked d k) j;
         cell = cellsM cs;
-        opens = opensM os;
+        opens = opensM (t .opens);
       }
 
-  pub read-stepped : (x : ℕ) → In m x → Stepped n m ds cs os i d (Read i x) (lookTurn d (cellAt cs (slot i x)) .desk) cs os (answerOf (lookTurn d (cellAt cs (slot i x)) .answer) [])
+  pub read-stepped : (x : ℕ) → In (t .core .m) x → Stepped t i d (Read i x) (lookTurn d (cellAt cs (slot i x)) .desk) cs (t .opens) (answerOf (lookTurn d (cellAt cs (slot i x)) .answer) [])
   read-stepped x hx =
       let c = cellAt cs (slot i x) in
       clock-stepped (Read i x) (joinClock (d .clock) (c .vector)) (answerOf (shownCell c) []) (hi, (hx, tt))
       (shown-cell c ∙ rw (cell-here hx))
-      (ap (λ (v : states.Vec). withClock (model n m ds cs os) i v)
+      (ap (λ (v : states.Vec). withClock (modelOf t) i v)
       (join-cell (d .clock .at) c (desk-shape p hi .clock) (full-cellAt cs (slot i x)) (blank-here hx) ∙ rw (clock-start, cell-here hx)))

@@ -16,16 +16,17 @@ use Rattle.machine.specs.Proofs.Refusals.{says-within, refusal-exactly, refused
 use Rattle.machine.specs.Proofs.Kept.{step-keeps-rules}
 use Rattle.clock.specs.Vectors.{places}
 use Rattle.table.specs.declared.Desk.{Desk}
+use Rattle.table.specs.declared.Table.{Table}
 use Rattle.table.specs.Value.{desk0, desk-cells, all-cells, cellAt}
 use Rattle.table.specs.Shape.{DeskShape}
 use Rattle.table.specs.Opens.{Unique}
 use Rattle.table.specs.Sound.{AllZero}
-use Rattle.table.specs.Model.{model}
+use Rattle.table.specs.Model.{modelOf, tableOf}
 use Rattle.reply.specs.Meaning.{answerOf, refusalOf}
 use Rattle.reply.specs.declared.Refusal.{Refusal}
 use Rattle.steps.specs.declared.Turn.{Turn}
 use Rattle.steps.specs.LookTurn.{refusedTurn}
-use Rattle.steps.specs.Stepped.{Placed, Stepped, putDesk, put-back}
+use Rattle.steps.specs.Stepped.{Placed, Stepped, putDesk, put-back, tableAfter}
 
 -- what a test of the code, `if !b`, says
 pub stops : {b p : Bool} {P : Type 0} → Says p P → b ≡ p → not b ≡ true → P → ⊥
@@ -34,11 +35,17 @@ stops {b} {p} s e t h = apart p (s .from h) (sym e ∙ not-true b t)
 pub passes : {b p : Bool} {P : Type 0} → Says p P → b ≡ p → not b ≡ false → P
 passes {b} s e t = s .to (sym e ∙ not-false b t)
 
-module _ {n m : ℕ} {ds : List Desk} {cs os own : List ℕ} {i : ℕ} {d : Desk} (p : Placed n m ds cs os own i d) where
+module _ {whole : Table} {own : List ℕ} {i : ℕ} {d : Desk} (p : Placed whole own i d) where
+  abbrev n : ℕ
+  n = whole .core .n
+
+  abbrev ds : List Desk
+  ds = whole .core .desks
+
   pub in-places : In n i → In places i
   in-places h = (h .0, omega (arith, h .1, p .sound .rules .frame .ranges .desks .1))
 
-  pub in-cells : {x : ℕ} → In m x → In desk-cells x
+  pub in-cells : {x : ℕ} → In (whole .core .m) x → In desk-cells x
   in-cells h = (h .0, omega (arith, h .1, p .sound .rules .frame .ranges .cells .1))
 
   pub in-desks : In n i → In (length ds) i
@@ -52,12 +59,12 @@ module _ {n m : ℕ} {ds : List Desk} {cs os own : List ℕ} {i : ℕ} {d : Desk
   put-in d′ h = ap (λ (b : Bool). pick b (set ds (i - 1) d′) ds) (says-within n i .from h)
 
   module _ (a : Step) where
-    pub refused-stepped : (r : machine.Refusal) → FirstFails (rowsOf (model n m ds cs os) a) r → Stepped n m ds cs os i d a d cs os (machine.refused r)
+    pub refused-stepped : (r : machine.Refusal) → FirstFails (rowsOf (modelOf whole) a) r → Stepped whole i d a d (whole .cells) (whole .opens) (machine.refused r)
     refused-stepped r f =
-        let e = refusal-exactly (model n m ds cs os) a r .1 f in
+        let e = refusal-exactly (modelOf whole) a r .1 f in
         record {
           answer-is = sym e;
-          state-is = ap (λ (l : List Desk). model n m l cs os) (put-back n ds i d (p .desk)) ∙ sym (refused-leaves-table (model n m ds cs os) a r e);
+          state-is = ap (λ (l : List Desk). modelOf (tableOf n (whole .core .m) l (whole .cells) (whole .opens))) (put-back n ds i d (p .desk)) ∙ sym (refused-leaves-table (modelOf whole) a r e);
           sound = rw (put-back n ds i d (p .desk)) (p .sound);
           refused-desk = λ _ _. refl;
           refused-cells = λ _ _. refl;
@@ -65,21 +72,21 @@ module _ {n m : ℕ} {ds : List Desk} {cs os own : List ℕ} {i : ℕ} {d : Desk
         }
 
     -- the code's refusal
-    pub refused-turn : (r : Refusal) {t : Turn} → t ≡ refusedTurn d r → FirstFails (rowsOf (model n m ds cs os) a) (refusalOf r)
-        → Stepped n m ds cs os i d a (t .desk) cs os (answerOf (t .answer) [])
+    pub refused-turn : (r : Refusal) {t : Turn} → t ≡ refusedTurn d r → FirstFails (rowsOf (modelOf whole) a) (refusalOf r)
+        → Stepped whole i d a (t .desk) (whole .cells) (whole .opens) (answerOf (t .answer) [])
     refused-turn r e f = rw e (refused-stepped (refusalOf r) f)
 
     -- every test has passed, and the model becomes what the effect says
-    pub taken-stepped : {d′ : Desk} {cs′ os′ : List ℕ} {answer : machine.Answer} → In n i → AllPass (rowsOf (model n m ds cs os) a)
-        → answer ≡ effectOf (model n m ds cs os) a .answer → model n m (set ds (i - 1) d′) cs′ os′ ≡ effectOf (model n m ds cs os) a .state
+    pub taken-stepped : {d′ : Desk} {cs′ os′ : List ℕ} {answer : machine.Answer} → In n i → AllPass (rowsOf (modelOf whole) a)
+        → answer ≡ effectOf (modelOf whole) a .answer → modelOf (tableOf n (whole .core .m) (set ds (i - 1) d′) cs′ os′) ≡ effectOf (modelOf whole) a .state
         → ((s : ℕ) → s < all-cells → cellAt cs′ s .writer ≡ 0 → AllZero (cellAt cs′ s)) → Unique os′
-        → Stepped n m ds cs os i d a d′ cs′ os′ answer
+        → Stepped whole i d a d′ cs′ os′ answer
     taken-stepped {d′} {cs′} {os′} {answer} hi h ea es blanks unique =
-        let s = model n m ds cs os in
+        let s = modelOf whole in
         let e = accepted-effect s a h in
         let an : answer ≡ step s a .answer = ea ∙ sym (ap (λ (o : Out). o .answer) e) in
-        let st : model n m (putDesk n ds i d′) cs′ os′ ≡ step s a .state =
-        ap (λ (l : List Desk). model n m l cs′ os′) (put-in d′ hi) ∙ es ∙ sym (ap (λ (o : Out). o .state) e)
+        let st : modelOf (tableAfter (whole .core) i d′ cs′ os′) ≡ step s a .state =
+        ap (λ (l : List Desk). modelOf (tableOf n (whole .core .m) l cs′ os′)) (put-in d′ hi) ∙ es ∙ sym (ap (λ (o : Out). o .state) e)
         in
         let no : Accepted answer = (λ r q. accepted-exactly s a .1 h r (sym an ∙ q)) in
         record {

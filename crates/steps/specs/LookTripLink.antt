@@ -18,8 +18,9 @@ use Rattle.machine.specs.Steps.{Trip, readClock, read, withClock, shownAt, read
 use Rattle.clock.specs.Vectors.{places, place, length-joined}
 use Rattle.table.specs.declared.Cell.{Cell}
 use Rattle.table.specs.declared.Desk.{Desk}
+use Rattle.table.specs.declared.Table.{Table}
 use Rattle.table.specs.Value.{cellAt, full-cellAt}
-use Rattle.table.specs.Model.{cellM, slot, cellsM, model}
+use Rattle.table.specs.Model.{cellM, slot, cellsM, modelOf}
 use Rattle.reply.specs.Meaning.{answerOf}
 use Rattle.steps.specs.declared.look.Seen.{Seen}
 use Rattle.steps.specs.Stepped.{Placed, Stepped}
@@ -70,14 +71,17 @@ verdict-pick l =
 
 -- the code's loop, by what the machine's cells show --
 
-module _ {n m : ℕ} {ds : List Desk} {cs os own : List ℕ} {i : ℕ} {d : Desk} (p : Placed n m ds cs os own i d) (hi : In n i) where
+module _ {whole : Table} {own : List ℕ} {i : ℕ} {d : Desk} (p : Placed whole own i d) (hi : In (whole .core .n) i) where
+  abbrev cs : List ℕ
+  cs = whole .cells
+
   abbrev Inside : List ℕ → Type 0
-  Inside xs = (x : ℕ) → List·Memᴰ x xs → In m x
+  Inside xs = (x : ℕ) → List·Memᴰ x xs → In (whole .core .m) x
 
   abbrev shows : ℕ → ℕ → Bool
   shows v x = hasStatus v (machine.shownOf (cellsM cs i x))
 
-  status-here : (v x : ℕ) → 1 ≤ v → In m x → eqb (cellAt cs (slot i x) .status) v ≡ shows v x
+  status-here : (v x : ℕ) → 1 ≤ v → In (whole .core .m) x → eqb (cellAt cs (slot i x) .status) v ≡ shows v x
   status-here v x h hx = status-cell v (cellAt cs (slot i x)) h (blank-here p hi hx) ∙ rw (cell-here p hi hx)
 
   seen-clock : (s : Seen) (xs : List ℕ) → length (s .clock .at) ≡ places → Inside xs → place (seeAll cs i s xs .clock .at) ≡ clockAfter (cellsM cs i) (place (s .clock .at)) xs
@@ -107,16 +111,16 @@ module _ {n m : ℕ} {ds : List Desk} {cs os own : List ℕ} {i : ℕ} {d : Desk
       (λ t. rw (status-here 1 x (omega arith) (h x (List·Memᴰ·head refl)), t, every))
       (λ t. rw (status-here 1 x (omega arith) (h x (List·Memᴰ·head refl)), t, every) (cases (every (shows 1) xs) (λ u. rw u) (λ u. rw u)))
 
-  judged : (xs : List ℕ) → Inside xs → answerOf (verdictOf (seeAll cs i (seenNothing (d .clock)) xs)) [] ≡ machine.judged (verdict (map (shownAt (model n m ds cs os) i) xs))
+  judged : (xs : List ℕ) → Inside xs → answerOf (verdictOf (seeAll cs i (seenNothing (d .clock)) xs)) [] ≡ machine.judged (verdict (map (shownAt (modelOf whole) i) xs))
   judged xs h =
-      rw (seen-two (seenNothing (d .clock)) xs h, seen-one (seenNothing (d .clock)) xs h, verdict-pick, any-map (hasStatus 2) (shownAt (model n m ds cs os) i) xs, every-map (hasStatus 1) (shownAt (model n m ds cs os) i) xs)
+      rw (seen-two (seenNothing (d .clock)) xs h, seen-one (seenNothing (d .clock)) xs h, verdict-pick, any-map (hasStatus 2) (shownAt (modelOf whole) i) xs, every-map (hasStatus 1) (shownAt (modelOf whole) i) xs)
       (cases (any (shows 2) xs) (λ t. rw t) (λ t. cases (every (shows 1) xs) (λ u. rw (t, u)) (λ u. rw (t, u))))
 
-  pub trip-stepped : (xs : List ℕ) → In most-trip (length xs) → Inside xs → Stepped n m ds cs os i d (Trip i xs) (tripTurn d cs i xs .desk) cs os (answerOf (tripTurn d cs i xs .answer) [])
+  pub trip-stepped : (xs : List ℕ) → In most-trip (length xs) → Inside xs → Stepped whole i d (Trip i xs) (tripTurn d cs i xs .desk) cs (whole .opens) (answerOf (tripTurn d cs i xs .answer) [])
   trip-stepped xs h9 h =
       let s = seeAll cs i (seenNothing (d .clock)) xs in
       clock-stepped p hi (Trip i xs) (s .clock) (answerOf (verdictOf s) []) (hi, (h9, (h, tt)))
-      (judged xs h ∙ ap (λ (l : List machine.Shown). machine.judged (verdict l)) (sym (reads-shown (model n m ds cs os) i xs)))
-      (ap (λ (v : Vec). withClock (model n m ds cs os) i v)
+      (judged xs h ∙ ap (λ (l : List machine.Shown). machine.judged (verdict l)) (sym (reads-shown (modelOf whole) i xs)))
+      (ap (λ (v : Vec). withClock (modelOf whole) i v)
       (seen-clock (seenNothing (d .clock)) xs (desk-shape p hi .clock) h ∙ ap (λ (v : Vec). clockAfter (cellsM cs i) v xs) (sym (clock-start p hi)))
-      ∙ sym (reads-state i (model n m ds cs os) xs))
+      ∙ sym (reads-state i (modelOf whole) xs))

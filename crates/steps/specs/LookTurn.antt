@@ -7,6 +7,7 @@ use Rattle.clock.specs.declared.Clock.{Clock}
 use Rattle.clock.specs.Vectors.{place, joinClock}
 use Rattle.table.specs.declared.Cell.{Cell}
 use Rattle.table.specs.declared.Desk.{Desk}
+use Rattle.table.specs.Model.{tableOf}
 use Rattle.reply.specs.declared.Answer.{Answer}
 use Rattle.reply.specs.declared.Answer.the-variants.{Unset, Shown, Refused}
 use Rattle.reply.specs.declared.Refusal.{Refusal}
@@ -36,8 +37,8 @@ pub record SomeLook (n m : ℕ) (cs : List ℕ) (i : ℕ) (d : Desk) : Type 0 wh
   pub desks : List Desk
   pub opens : List ℕ
   pub own : List ℕ
-  pub placed : Placed n m desks cs opens own i d
+  pub placed : Placed (tableOf n m desks cs opens) own i d
 
 -- the turn is the step a, whatever the rest of the table: the cells and the open writes stay
 abbrev pub Looks : ℕ → ℕ → List ℕ → ℕ → Desk → Step → Turn → Type 0
-Looks n m cs i d a r = (ds : List Desk) (os own : List ℕ) → Placed n m ds cs os own i d → Stepped n m ds cs os i d a (r .desk) cs os (answerOf (r .answer) [])
+Looks n m cs i d a r = (ds : List Desk) (os own : List ℕ) → Placed (tableOf n m ds cs os) own i d → Stepped (tableOf n m ds cs os) i d a (r .desk) cs os (answerOf (r .answer) [])

@@ -10,24 +10,30 @@ use Rattle.machine.specs.Answer as machine
 use Rattle.machine.specs.Steps.{Step, within, step}
 use Rattle.machine.specs.Rules.{In}
 use Rattle.machine.specs.Proofs.Ready.{says-within}
+use Rattle.table.specs.declared.Core.{Core}
 use Rattle.table.specs.declared.Desk.{Desk}
+use Rattle.table.specs.declared.Table.{Table}
 use Rattle.table.specs.Value.{desk0, all-cells, cell-width, entries, open-width}
 use Rattle.table.specs.Shape.{DesksShape}
-use Rattle.table.specs.Model.{appliedM, model}
-use Rattle.table.specs.Sound.{Sound}
+use Rattle.table.specs.Model.{appliedM, modelOf, tableOf}
+use Rattle.table.specs.Sound.{SoundTable}
 
 -- d is desk i of a table that keeps the rules (any desk where i is none), and own holds each desk's own count
-pub record Placed (n m : ℕ) (ds : List Desk) (cs os own : List ℕ) (i : ℕ) (d : Desk) : Type 0 where
-  pub sound : Sound n m ds cs os
-  pub shape : DesksShape ds
-  pub cells-size : length cs ≡ all-cells * cell-width
-  pub opens-size : length os ≡ entries * open-width
-  pub desk : In n i → getD ds (i - 1) desk0 ≡ d
-  pub own-counts : (u : ℕ) → In places u → place own u ≡ appliedM ds u u
+pub record Placed (t : Table) (own : List ℕ) (i : ℕ) (d : Desk) : Type 0 where
+  pub sound : SoundTable t
+  pub shape : DesksShape (t .core .desks)
+  pub cells-size : length (t .cells) ≡ all-cells * cell-width
+  pub opens-size : length (t .opens) ≡ entries * open-width
+  pub desk : In (t .core .n) i → getD (t .core .desks) (i - 1) desk0 ≡ d
+  pub own-counts : (u : ℕ) → In places u → place own u ≡ appliedM (t .core .desks) u u
 
 -- the desk stored back, where i is a desk
 abbrev pub putDesk : ℕ → List Desk → ℕ → Desk → List Desk
 putDesk n ds i d = pick (within n i) (set ds (i - 1) d) ds
+
+-- the table with the desk stored back, and the arrays as they are left
+abbrev pub tableAfter : Core → ℕ → Desk → List ℕ → List ℕ → Table
+tableAfter c i d cs os = tableOf (c .n) (c .m) (putDesk (c .n) (c .desks) i d) cs os
 
 -- the desk as it came
 pub put-back : (n : ℕ) (ds : List Desk) (i : ℕ) (d : Desk) → (In n i → getD ds (i - 1) desk0 ≡ d) → putDesk n ds i d ≡ ds
@@ -47,10 +53,10 @@ namesBeside (machine.judged v) = []
 namesBeside (machine.refused r) = []
 
 -- the step a: what it answers, the table after it, and that a refusal leaves all as it came
-pub record Stepped (n m : ℕ) (ds : List Desk) (cs os : List ℕ) (i : ℕ) (d : Desk) (a : Step) (d′ : Desk) (cs′ os′ : List ℕ) (answer : machine.Answer) : Type 0 where
-  pub answer-is : answer ≡ step (model n m ds cs os) a .answer
-  pub state-is : model n m (putDesk n ds i d′) cs′ os′ ≡ step (model n m ds cs os) a .state
-  pub sound : Sound n m (putDesk n ds i d′) cs′ os′
+pub record Stepped (t : Table) (i : ℕ) (d : Desk) (a : Step) (d′ : Desk) (cs′ os′ : List ℕ) (answer : machine.Answer) : Type 0 where
+  pub answer-is : answer ≡ step (modelOf t) a .answer
+  pub state-is : modelOf (tableAfter (t .core) i d′ cs′ os′) ≡ step (modelOf t) a .state
+  pub sound : SoundTable (tableAfter (t .core) i d′ cs′ os′)
   pub refused-desk : (r : machine.Refusal) → answer ≡ machine.refused r → d′ ≡ d
-  pub refused-cells : (r : machine.Refusal) → answer ≡ machine.refused r → cs′ ≡ cs
-  pub refused-opens : (r : machine.Refusal) → answer ≡ machine.refused r → os′ ≡ os
+  pub refused-cells : (r : machine.Refusal) → answer ≡ machine.refused r → cs′ ≡ (t .cells)
+  pub refused-opens : (r : machine.Refusal) → answer ≡ machine.refused r → os′ ≡ (t .opens)

@@ -27,10 +27,10 @@ use Rattle.table.specs.declared.Desk.{Desk}
 use Rattle.table.specs.declared.Table.{Table}
 use Rattle.table.specs.Value.{desk0, all-cells, cell-width, entries, open-width}
 use Rattle.table.specs.Shape.{DeskShape, DesksShape, Shaped}
-use Rattle.table.specs.Model.{model}
+use Rattle.table.specs.Model.{modelOf, tableOf}
 use Rattle.table.specs.Unique.{Among, same-core, same-cells, same-opens}
 use Rattle.steps.specs.declared.Turn.{Turn}
-use Rattle.steps.specs.Stepped.{Placed, Stepped, putDesk}
+use Rattle.steps.specs.Stepped.{Placed, Stepped, putDesk, tableAfter}
 use Rattle.steps.specs.LookStepped.{in-places}
 use Rattle.steps.specs.LookTurn.{SomeLook, Looks}
 use Rattle.steps.specs.WriteTurn.{SomeTable, Writes}
@@ -61,7 +61,7 @@ pub record LeftShape (d : Desk) (cs os : List ℕ) : Type 0 where
   pub cells : length cs ≡ all-cells * cell-width
   pub opens : length os ≡ entries * open-width
 
-lent-shape : {n m : ℕ} {ds : List Desk} {cs os own : List ℕ} {i : ℕ} {d e : Desk} → Placed n m ds cs os own i d → DeskShape e → LeftShape e cs os
+lent-shape : {t : Table} {own : List ℕ} {i : ℕ} {d e : Desk} → Placed t own i d → DeskShape e → LeftShape e (t .cells) (t .opens)
 lent-shape p h = record { desk = h; cells = p .cells-size; opens = p .opens-size }
 
 desks-put : {ds : List Desk} {d : Desk} (n i : ℕ) → DesksShape ds → DeskShape d → DesksShape (putDesk n ds i d)
@@ -75,39 +75,39 @@ desks-put {ds} {d} n i s h =
     }))
     (λ t. rw t s)
 
-module _ {n m : ℕ} {ds : List Desk} {cs os own : List ℕ} {i : ℕ} {d : Desk} (p : Placed n m ds cs os own i d) {a : Step} (who : actor a ≡ i)
+module _ {whole : Table} {own : List ℕ} {i : ℕ} {d : Desk} (p : Placed whole own i d) {a : Step} (who : actor a ≡ i)
     {d′ d″ : Desk} {cs′ cs″ os′ os″ : List ℕ} {x y : machine.Answer}
-    (f : Stepped n m ds cs os i d a d′ cs′ os′ x) (g : Stepped n m ds cs os i d a d″ cs″ os″ y) (hf : LeftShape d′ cs′ os′) (hg : LeftShape d″ cs″ os″) where
-  abbrev left : Desk → List ℕ → List ℕ → Table
-  left e l k = record { core = record { n = n; m = m; desks = putDesk n ds i e }; cells = l; opens = k }
+    (f : Stepped whole i d a d′ cs′ os′ x) (g : Stepped whole i d a d″ cs″ os″ y) (hf : LeftShape d′ cs′ os′) (hg : LeftShape d″ cs″ os″) where
+  abbrev n : ℕ
+  n = whole .core .n
 
-  shaped : {e : Desk} {l k : List ℕ} → LeftShape e l k → Shaped (left e l k)
+  shaped : {e : Desk} {l k : List ℕ} → LeftShape e l k → Shaped (tableAfter (whole .core) i e l k)
   shaped h = record { desks = desks-put n i (p .shape) (h .desk); cells = h .cells; opens = h .opens }
 
-  same : model n m (putDesk n ds i d′) cs′ os′ ≡ model n m (putDesk n ds i d″) cs″ os″
+  same : modelOf (tableAfter (whole .core) i d′ cs′ os′) ≡ modelOf (tableAfter (whole .core) i d″ cs″ os″)
   same = f .state-is ∙ sym (g .state-is)
 
   pub one-cells : cs′ ≡ cs″
-  one-cells = same-cells (left d′ cs′ os′) (left d″ cs″ os″) (shaped hf) (shaped hg) (f .sound) (g .sound) same
+  one-cells = same-cells (tableAfter (whole .core) i d′ cs′ os′) (tableAfter (whole .core) i d″ cs″ os″) (shaped hf) (shaped hg) (f .sound) (g .sound) same
 
   pub one-opens : Among os′ os″
-  one-opens = same-opens (left d′ cs′ os′) (left d″ cs″ os″) (shaped hf) (shaped hg) (f .sound) (g .sound) same
+  one-opens = same-opens (tableAfter (whole .core) i d′ cs′ os′) (tableAfter (whole .core) i d″ cs″ os″) (shaped hf) (shaped hg) (f .sound) (g .sound) same
 
   pub one-desk : d′ ≡ d″
   one-desk = cases (within n i) inside (λ t. off (λ h. apart (within n i) (says-within n i .from h) t))
     where
-      back : within n i ≡ true → (e : Desk) → getD (putDesk n ds i e) (i - 1) desk0 ≡ e
-      back t e = let h = in-places p (says-within n i .to t) in rw t (getD-set-same ds (i - 1) e desk0 (omega (arith, h .0, h .1, p .shape .count)))
+      back : within n i ≡ true → (e : Desk) → getD (putDesk n (whole .core .desks) i e) (i - 1) desk0 ≡ e
+      back t e = let h = in-places p (says-within n i .to t) in rw t (getD-set-same (whole .core .desks) (i - 1) e desk0 (omega (arith, h .0, h .1, p .shape .count)))
 
       inside : within n i ≡ true → d′ ≡ d″
       inside t =
           sym (back t d′)
-          ∙ ap (λ (c : Core). getD (c .desks) (i - 1) desk0) (same-core (left d′ cs′ os′) (left d″ cs″ os″) (shaped hf) (shaped hg) (f .sound) (g .sound) same)
+          ∙ ap (λ (c : Core). getD (c .desks) (i - 1) desk0) (same-core (tableAfter (whole .core) i d′ cs′ os′) (tableAfter (whole .core) i d″ cs″ os″) (shaped hf) (shaped hg) (f .sound) (g .sound) same)
           ∙ back t d″
 
       off : (In n i → ⊥) → d′ ≡ d″
       off q =
-          let e = outside (model n m ds cs os) a (rw who q) in
+          let e = outside (modelOf whole) a (rw who q) in
           f .refused-desk machine.no-desk (f .answer-is ∙ e) ∙ sym (g .refused-desk machine.no-desk (g .answer-is ∙ e))
 
   pub one-entries : (r : machine.Refusal) → x ≡ machine.refused r → os′ ≡ os″
@@ -128,7 +128,7 @@ look-is {n} {m} {cs} {a = a} {r = r} {r′ = r′} w who quiet f g hf hg =
     let p = w .placed in
     let x = f (w .desks) (w .opens) (w .own) p in
     let y = g (w .desks) (w .opens) (w .own) p in
-    let q = quiet (model n m (w .desks) cs (w .opens)) in
+    let q = quiet (modelOf (tableOf n m (w .desks) cs (w .opens))) in
     turn-is [] [] (one-desk p who x y (lent-shape p hf) (lent-shape p hg)) (silent-counted (r .answer) [] q (x .answer-is)) (silent-counted (r′ .answer) [] q (y .answer-is)) (x .answer-is) (y .answer-is)
 
 module _ {n m : ℕ} {cs : List ℕ} {i : ℕ} {d : Desk} {r r′ : Turn} (w : SomeLook n m cs i d) (hf : DeskShape (r .desk)) (hg : DeskShape (r′ .desk)) where
@@ -153,7 +153,7 @@ one-write {n} {m} {cs} {os} {i} {d} {x} {v} {r} {r′} w hf hg f g =
     let p = w .placed in
     let a = f (w .desks) (w .own) p in
     let b = g (w .desks) (w .own) p in
-    let q = write-silent (model n m (w .desks) cs os) i x v in
+    let q = write-silent (modelOf (tableOf n m (w .desks) cs os)) i x v in
     record {
       turn = turn-is [] [] (one-desk p refl a b hf hg) (silent-counted (r .answer) [] q (a .answer-is)) (silent-counted (r′ .answer) [] q (b .answer-is)) (a .answer-is) (b .answer-is);
       cells = one-cells p refl a b hf hg;

@@ -13,13 +13,13 @@ use Rattle.laws.specs.Sum.{sum, one, tally, sum-same, sum-zero, sum-one}
 use Rattle.machine.specs.Rules.{In}
 use Rattle.machine.specs.Steps.{isNone, openCount}
 use Rattle.machine.specs.Table.{written, most-open}
-use Rattle.table.specs.declared.Desk.{Desk}
 use Rattle.table.specs.declared.Open.{Open}
+use Rattle.table.specs.declared.Table.{Table}
 use Rattle.table.specs.Value.{entries, open0, isFree, openAt, entriesOf, getD-entriesOf, length-entriesOf}
 use Rattle.table.specs.Names.{number, named, freeAt, free-named, own-named, not-named}
-use Rattle.table.specs.Model.{openM, opensM, model}
+use Rattle.table.specs.Model.{openM, opensM, modelOf}
 use Rattle.table.specs.Opens.{opens-at}
-use Rattle.table.specs.Sound.{Sound}
+use Rattle.table.specs.Sound.{SoundTable}
 
 -- over the list of entries --
 
@@ -81,10 +81,13 @@ used-is (x ∷ l) n most q w =
         omega arith
 
 -- of a table that keeps the rules
-module _ {n m : ℕ} {ds : List Desk} {cs os : List ℕ} (ok : Sound n m ds cs os) where
-  open-is : count inUse (entriesOf os) ≡ openCount (model n m ds cs os)
+module _ {whole : Table} (ok : SoundTable whole) where
+  abbrev os : List ℕ
+  os = whole .opens
+
+  open-is : count inUse (entriesOf os) ≡ openCount (modelOf whole)
   unfolding openCount opensM
-  open-is = used-is (entriesOf os) n (written (model n m ds cs os)) far box
+  open-is = used-is (entriesOf os) (whole .core .n) (written (modelOf whole)) far box
     where
       at : (e : ℕ) → e < length (entriesOf os) → (e < entries) × (getD (entriesOf os) e open0 ≡ openAt os e)
       at e h = let b : e < entries = rw length-entriesOf at h in (b, getD-entriesOf os e b)
@@ -92,7 +95,7 @@ module _ {n m : ℕ} {ds : List Desk} {cs os : List ℕ} (ok : Sound n m ds cs o
       far : Apart (entriesOf os)
       far e j a b ne u k s t = ok .unique e j (at e a .0) (at j b .0) ne u k (rw (at e a .1) at s) (rw (at j b .1) at t)
 
-      box : NamesIn (entriesOf os) n (written (model n m ds cs os))
+      box : NamesIn (entriesOf os) (whole .core .n) (written (modelOf whole))
       box e h f =
           let o = openAt os e in
           let g : isFree o ≡ false = rw (at e h .1) at f in
@@ -100,13 +103,13 @@ module _ {n m : ℕ} {ds : List Desk} {cs os : List ℕ} (ok : Sound n m ds cs o
           rw (at e h .1) (t .writer, t .number)
 
   -- a free entry: the write finds fewer than the most open
-  pub free-few : (e : ℕ) → e < entries → freeAt os e ≡ true → openCount (model n m ds cs os) < most-open
+  pub free-few : (e : ℕ) → e < entries → freeAt os e ≡ true → openCount (modelOf whole) < most-open
   free-few e h f =
       let c = count-miss inUse open0 (entriesOf os) e (rw length-entriesOf h) (rw (getD-entriesOf os e h, f)) in
       omega (arith, open-is, length-entriesOf os)
 
   -- none: it finds the most
-  pub full-many : ((e : ℕ) → e < entries → freeAt os e ≡ false) → openCount (model n m ds cs os) < most-open → ⊥
+  pub full-many : ((e : ℕ) → e < entries → freeAt os e ≡ false) → openCount (modelOf whole) < most-open → ⊥
   full-many f h =
       let c = count-all inUse open0 (entriesOf os) (λ j b. let z : j < entries = rw length-entriesOf at b in rw (getD-entriesOf os j z, f j z)) in
       omega (arith, open-is, length-entriesOf os)

@@ -20,9 +20,10 @@ use Rattle.clock.specs.Vectors.{places, place, place-set, place-raised, raised,
 use Rattle.table.specs.declared.Cell.{Cell}
 use Rattle.table.specs.declared.Desk.{Desk}
 use Rattle.table.specs.declared.Open.{Open}
+use Rattle.table.specs.declared.Table.{Table}
 use Rattle.table.specs.Value.{all-cells, cellAt, putCell, FullOpen, cellAt-put, cellAt-other}
 use Rattle.table.specs.Names.{number}
-use Rattle.table.specs.Model.{openM, slot, opensM, appliedM, clockM, cellsM, model, appliedVec, applied-at, applied-put, clock-put, cell-put}
+use Rattle.table.specs.Model.{openM, slot, opensM, appliedM, clockM, cellsM, appliedVec, applied-at, applied-put, clock-put, cell-put, modelOf}
 use Rattle.table.specs.Opens.{Unique, opens-store, unique-store}
 use Rattle.table.specs.Sound.{AllZero}
 use Rattle.reply.specs.Meaning.{answerOf}
@@ -47,9 +48,21 @@ marks-new i h =
     place-set (replicate places 0) (i - 1) 2 (omega (arith, h .0, h .1, length-replicate {A = ℕ} places 0))
     ∙ rw e (ap (λ (f : ℕ → ℕ). upd f i 2) (fun-ext (λ t. place-zeros places t)))
 
-module _ {n m : ℕ} {ds : List Desk} {cs os own : List ℕ} {i : ℕ} {d : Desk} (p : Placed n m ds cs os own i d) (hi : In n i) where
+module _ {whole : Table} {own : List ℕ} {i : ℕ} {d : Desk} (p : Placed whole own i d) (hi : In (whole .core .n) i) where
+  abbrev n : ℕ
+  n = whole .core .n
+
+  abbrev ds : List Desk
+  ds = whole .core .desks
+
+  abbrev cs : List ℕ
+  cs = whole .cells
+
+  abbrev os : List ℕ
+  os = whole .opens
+
   abbrev s0 : states.State
-  s0 = model n m ds cs os
+  s0 = modelOf whole
 
   applied-start : appliedM ds i ≡ place (d .applied)
   applied-start = applied-at ds i (in-desks p hi) ∙ ap appliedVec (p .desk hi)
@@ -70,13 +83,13 @@ module _ {n m : ℕ} {ds : List Desk} {cs os own : List ℕ} {i : ℕ} {d : Desk
     vector-size = ap (λ (k : Clock). length (k .at)) clock-rises ∙ length-set (d .clock .at) (i - 1) (place (d .clock .at) i + 1) ∙ desk-shape p hi .clock
 
     -- the risen clock is the write's vector, and its own place the write's number
-    vector-new : place (raiseClock (d .clock) i .at) ≡ nextVector (model n m ds cs os) i
+    vector-new : place (raiseClock (d .clock) i .at) ≡ nextVector (modelOf whole) i
     vector-new =
         ap (λ (k : Clock). place (k .at)) clock-rises
         ∙ place-raised (d .clock .at) i (hi .0) (omega (arith, in-places p hi, desk-shape p hi .clock))
         ∙ ap (λ (v : ℕ → ℕ). upd v i (suc (v i))) (sym (clock-start p hi))
 
-    number-new : nextNumber (model n m ds cs os) i ≡ place (d .applied) i + 1
+    number-new : nextNumber (modelOf whole) i ≡ place (d .applied) i + 1
     number-new = ap (λ (v : ℕ → ℕ). suc (v i)) (clock-start p hi) ∙ ap suc own-same ∙ sym (add-one (place (d .applied) i))
 
     applied-new : appliedM (set ds (i - 1) (wroteDesk d i)) ≡ upd2 (appliedM ds) i i (suc (appliedM ds i i))
@@ -87,21 +100,21 @@ module _ {n m : ℕ} {ds : List Desk} {cs os own : List ℕ} {i : ℕ} {d : Desk
         (place-raised (d .applied) i (hi .0) (omega (arith, in-places p hi, desk-shape p hi .applied))
         ∙ ap (λ (v : ℕ → ℕ). upd v i (suc (v i))) (sym applied-start))
 
-    clock-new : clockM (set ds (i - 1) (wroteDesk d i)) ≡ upd (clockM ds) i (nextVector (model n m ds cs os) i)
+    clock-new : clockM (set ds (i - 1) (wroteDesk d i)) ≡ upd (clockM ds) i (nextVector (modelOf whole) i)
     clock-new = clock-put ds i (in-desks p hi) (wroteDesk d i) ∙ ap (λ (v : ℕ → ℕ). upd (clockM ds) i v) vector-new
 
     -- no entry holds the next number
-    fresh-number : opensM os i (nextNumber (model n m ds cs os) i) ≡ none
-    fresh-number = go (opensM os i (nextNumber (model n m ds cs os) i)) refl
+    fresh-number : opensM os i (nextNumber (modelOf whole) i) ≡ none
+    fresh-number = go (opensM os i (nextNumber (modelOf whole) i)) refl
       where
-        go : (o : Option states.Open) → opensM os i (nextNumber (model n m ds cs os) i) ≡ o → o ≡ none
+        go : (o : Option states.Open) → opensM os i (nextNumber (modelOf whole) i) ≡ o → o ≡ none
         go none e = refl
         go (some w) e =
-            let b = p .sound .rules .frame .open-exactly i (nextNumber (model n m ds cs os) i) .0 (rw e) in
+            let b = p .sound .rules .frame .open-exactly i (nextNumber (modelOf whole) i) .0 (rw e) in
             absurd (omega (arith, b .number .1, p .sound .rules .frame .clocks .own i))
 
-    module _ (x v : ℕ) (hx : In m x) where
-      cell-new : cellsM (putCell cs (slot i x) (wroteCell d i v)) ≡ upd2 (cellsM cs) i x (states.set v i (nextVector (model n m ds cs os) i))
+    module _ (x v : ℕ) (hx : In (whole .core .m) x) where
+      cell-new : cellsM (putCell cs (slot i x) (wroteCell d i v)) ≡ upd2 (cellsM cs) i x (states.set v i (nextVector (modelOf whole) i))
       cell-new =
           cell-put cs i x (wroteCell d i v) (in-places p hi) (in-cells p hx) (record { vector = vector-size }) (p .cells-size)
           ∙ ap (λ (c : states.Cell). upd2 (cellsM cs) i x c)
@@ -115,7 +128,7 @@ module _ {n m : ℕ} {ds : List Desk} {cs os own : List ℕ} {i : ℕ} {d : Desk
           (λ q. let w = cellAt-other cs (slot i x) (wroteCell d i v) (record { vector = vector-size }) s q in rw w (p .sound .blanks s h (rw w at e)))
 
       abbrev done-here : states.Open
-      done-here = mark (newWrite (model n m ds cs os) i x v) i states.done
+      done-here = mark (newWrite (modelOf whole) i x v) i states.done
 
       open-new : openM (wroteOpen d i x v) ≡ done-here
       open-new = λ j. record { cell = x; status = v; vector = vector-new j; marks = marks-new i (in-places p hi) j }
@@ -123,8 +136,8 @@ module _ {n m : ℕ} {ds : List Desk} {cs os own : List ℕ} {i : ℕ} {d : Desk
       full-new : FullOpen (wroteOpen d i x v)
       full-new = record { vector = vector-size; marks = length-set (replicate places 0) (i - 1) 2 ∙ length-replicate {A = ℕ} places 0 }
 
-      name-new : number (wroteOpen d i x v) ≡ nextNumber (model n m ds cs os) i
-      name-new = ap (λ (w : ℕ → ℕ). w i) vector-new ∙ upd-same (clockM ds i) i (nextNumber (model n m ds cs os) i)
+      name-new : number (wroteOpen d i x v) ≡ nextNumber (modelOf whole) i
+      name-new = ap (λ (w : ℕ → ℕ). w i) vector-new ∙ upd-same (clockM ds i) i (nextNumber (modelOf whole) i)
 
       -- with another desk it stays open
       stays-open : (n ≡ 1 → ⊥) → stillOpen n done-here ≡ some done-here
@@ -143,7 +156,7 @@ module _ {n m : ℕ} {ds : List Desk} {cs os own : List ℕ} {i : ℕ} {d : Desk
           let t = all-true (λ k. eqb (done-here .marks k) states.done) n 1 (λ k a b. let q : k ≡ i = omega (arith, hi) in rw (q, upd-same (λ (k : ℕ). states.away) i states.done)) in
           rw (t, stillOpen)
 
-      opens-new : (s : Spot) → Spotted n os s → (s ≡ Full → ⊥) → (opensM (enterAt os s (wroteOpen d i x v)) ≡ upd2 (opensM os) i (nextNumber (model n m ds cs os) i) (stillOpen n done-here)) × (Unique (enterAt os s (wroteOpen d i x v)))
+      opens-new : (s : Spot) → Spotted n os s → (s ≡ Full → ⊥) → (opensM (enterAt os s (wroteOpen d i x v)) ≡ upd2 (opensM os) i (nextNumber (modelOf whole) i) (stillOpen n done-here)) × (Unique (enterAt os s (wroteOpen d i x v)))
       opens-new (Entry e) h ne =
           let o = wroteOpen d i x v in
           let inuse = ne-eqb i 0 (λ q. (omega (arith, hi .0))) in
@@ -152,19 +165,19 @@ module _ {n m : ℕ} {ds : List Desk} {cs os own : List ℕ} {i : ℕ} {d : Desk
             unique-store os e o (h .1 .0) (p .opens-size) full-new (h .1 .1) inuse fresh (p .sound .unique),
           )
       opens-new Alone h ne =
-          (rw (goes-alone h) (upd2-is (opensM os) i (nextNumber (model n m ds cs os) i) none (opensM os) fresh-number (λ j y nj. refl)), p .sound .unique)
+          (rw (goes-alone h) (upd2-is (opensM os) i (nextNumber (modelOf whole) i) none (opensM os) fresh-number (λ j y nj. refl)), p .sound .unique)
       opens-new Full h ne = absurd (ne refl)
 
-      few-open : (s : Spot) → Spotted n os s → (s ≡ Full → ⊥) → openCount (model n m ds cs os) < states.most-open
+      few-open : (s : Spot) → Spotted n os s → (s ≡ Full → ⊥) → openCount (modelOf whole) < states.most-open
       few-open (Entry e) h ne = free-few (p .sound) e (h .1 .0) (h .1 .1)
       few-open Alone h ne = omega (arith, alone-none-open (p .sound .rules) h)
       few-open Full h ne = absurd (ne refl)
 
       pub write-stepped : (s : Spot) → v ≤ states.most-status → Spotted n os s → (s ≡ Full → ⊥)
-          → Stepped n m ds cs os i d (Write i x v) (wroteDesk d i) (putCell cs (slot i x) (wroteCell d i v)) (enterAt os s (wroteOpen d i x v)) (answerOf (wroteTurn d i .answer) [])
+          → Stepped whole i d (Write i x v) (wroteDesk d i) (putCell cs (slot i x) (wroteCell d i v)) (enterAt os s (wroteOpen d i x v)) (answerOf (wroteTurn d i .answer) [])
       write-stepped s hv h ne =
           let o = opens-new s h ne in
           taken-stepped p (Write i x v) hi (hi, (hx, (hv, (rw written-start hw, (few-open s h ne, tt)))))
           (ap (λ (k : ℕ). machine.wrote (states.name i k)) (sym number-new))
-          (λ j. record { setup = states.sized n m; applied = applied-new j; clock = clock-new j; cell = cell-new j; opens = o .0 j })
+          (λ j. record { setup = modelOf whole .setup; applied = applied-new j; clock = clock-new j; cell = cell-new j; opens = o .0 j })
           blanks-new (o .1)

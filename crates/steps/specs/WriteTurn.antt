@@ -11,7 +11,7 @@ use Rattle.table.specs.declared.Desk.{Desk}
 use Rattle.table.specs.declared.Open.{Open}
 use Rattle.table.specs.Value.{entries, putCell, putOpen}
 use Rattle.table.specs.Names.{freeAt}
-use Rattle.table.specs.Model.{slot}
+use Rattle.table.specs.Model.{slot, tableOf}
 use Rattle.reply.specs.declared.Answer.the-variants.{Wrote as WroteAnswer}
 use Rattle.reply.specs.Meaning.{answerOf}
 use Rattle.steps.specs.declared.Turn.{Turn}
@@ -60,11 +60,11 @@ pub record Wrote (d : Desk) (cs os : List ℕ) (i x v : ℕ) (s : Spot) (r : Tur
 pub record SomeTable (n m : ℕ) (cs os : List ℕ) (i : ℕ) (d : Desk) : Type 0 where
   pub desks : List Desk
   pub own : List ℕ
-  pub placed : Placed n m desks cs os own i d
+  pub placed : Placed (tableOf n m desks cs os) own i d
 
 -- the turn and the lists after it are the step a, whatever the other desks
 abbrev pub Writes : ℕ → ℕ → List ℕ → List ℕ → ℕ → Desk → Step → Turn → List ℕ → List ℕ → Type 0
-Writes n m cs os i d a r cs′ os′ = (ds : List Desk) (own : List ℕ) → Placed n m ds cs os own i d → Stepped n m ds cs os i d a (r .desk) cs′ os′ (answerOf (r .answer) [])
+Writes n m cs os i d a r cs′ os′ = (ds : List Desk) (own : List ℕ) → Placed (tableOf n m ds cs os) own i d → Stepped (tableOf n m ds cs os) i d a (r .desk) cs′ os′ (answerOf (r .answer) [])
 
 pub spot-in : (n : ℕ) (os : List ℕ) (s : Spot) → Spotted n os s → SpotIn s
 spot-in n os (Entry e) h = h .1 .0

@@ -14,6 +14,7 @@ use Rattle.clock.specs.Vectors.{places, place}
 use Rattle.machine.specs.Table as machine
 use Rattle.machine.specs.Rules.{In}
 use Rattle.table.specs.declared.Cell.{Cell}
+use Rattle.table.specs.declared.Core.{Core}
 use Rattle.table.specs.declared.Desk.{Desk}
 use Rattle.table.specs.declared.Open.{Open}
 use Rattle.table.specs.declared.Table.{Table}
@@ -51,17 +52,25 @@ cellsM l (suc i) (suc x) = pick (ltb i places) (pick (ltb x desk-cells) (cellM (
 unfoldable pub opensM : List ℕ → ℕ → ℕ → Option machine.Open
 opensM l u k = firstOf (named u k) openM (entriesOf l)
 
-abbrev pub model : ℕ → ℕ → List Desk → List ℕ → List ℕ → machine.State
-model n m ds cs os = record {
-  setup = machine.sized n m;
-  applied = appliedM ds;
-  clock = clockM ds;
-  cell = cellsM cs;
-  opens = opensM os;
-}
+-- a core, and the two arrays that are lent beside it
+abbrev pub tableWith : Core → List ℕ → List ℕ → Table
+tableWith c cs os = record { core = c; cells = cs; opens = os }
+
+-- the same of loose parts
+abbrev pub tableOf : ℕ → ℕ → List Desk → List ℕ → List ℕ → Table
+tableOf n m ds cs os = tableWith (record { n = n; m = m; desks = ds }) cs os
 
 abbrev pub modelOf : Table → machine.State
-modelOf t = model (t .core .n) (t .core .m) (t .core .desks) (t .cells) (t .opens)
+modelOf t = record {
+  setup = machine.sized (t .core .n) (t .core .m);
+  applied = appliedM (t .core .desks);
+  clock = clockM (t .core .desks);
+  cell = cellsM (t .cells);
+  opens = opensM (t .opens);
+}
+
+abbrev pub model : ℕ → ℕ → List Desk → List ℕ → List ℕ → machine.State
+model n m ds cs os = modelOf (tableOf n m ds cs os)
 
 -- two states with the same parts
 pub state-path : (a b : machine.State) → a .setup ≡ b .setup → a .applied ≡ b .applied → a .clock ≡ b .clock → a .cell ≡ b .cell → a .opens ≡ b .opens → a ≡ b
@@ -151,54 +160,3 @@ module _ (l : List ℕ) (i x : ℕ) (c : Cell) (hi : In places i) (hx : In desk-
       (cell-in (putCell l (slot i x) c) i x hi hx
       ∙ ap cellM (cellAt-put l (slot i x) c full (omega (arith, hi .0, hi .1, hx .0, hx .1)) size))
       other
-
--- The whole model --
-
-abbrev pub withDesk : machine.State → ℕ → machine.Vec → machine.Vec → machine.State
-withDesk s i a k = record {
-  setup = s .setup;
-  applied = upd (s .applied) i a;
-  clock = upd (s .clock) i k;
-  cell = s .cell;
-  opens = s .opens;
-}
-
-abbrev pub withCell : machine.State → ℕ → ℕ → machine.Cell → machine.State
-withCell s i x c = record {
-  setup = s .setup;
-  applied = s .applied;
-  clock = s .clock;
-  cell = upd2 (s .cell) i x c;
-  opens = s .opens;
-}
-
-abbrev pub withOpens : machine.State → (ℕ → ℕ → Option machine.Open) → machine.State
-withOpens s f = record {
-  setup = s .setup;
-  applied = s .applied;
-  clock = s .clock;
-  cell = s .cell;
-  opens = f;
-}
-
-module _ (n m : ℕ) (ds : List Desk) (cs os : List ℕ) where
-  pub model-desk : (i : ℕ) (d : Desk) → In (length ds) i → model n m (set ds (i - 1) d) cs os ≡ withDesk (model n m ds cs os) i (appliedVec d) (clockVec d)
-  model-desk i d h = λ j. record {
-    setup = machine.sized n m;
-    applied = applied-put ds i h d j;
-    clock = clock-put ds i h d j;
-    cell = cellsM cs;
-    opens = opensM os;
-  }
-
-  pub model-cell : (i x : ℕ) (c : Cell) → In places i → In desk-cells x → FullCell c → length cs ≡ all-cells * cell-width → model n m ds (putCell cs (slot i x) c) os ≡ withCell (model n m ds cs os) i x (cellM c)
-  model-cell i x c hi hx full size = λ j. record {
-    setup = machine.sized n m;
-    applied = appliedM ds;
-    clock = clockM ds;
-    cell = cell-put cs i x c hi hx full size j;
-    opens = opensM os;
-  }
-
-  pub model-opens : (l : List ℕ) (f : ℕ → ℕ → Option machine.Open) → opensM l ≡ f → model n m ds cs l ≡ withOpens (model n m ds cs os) f
-  model-opens l f e = ap (λ (g : ℕ → ℕ → Option machine.Open). withOpens (model n m ds cs os) g) e

@@ -1,15 +1,16 @@
 use Prim.Native.Nat.{ℕ}
 use mathlib.Core.Path.{_≡_, refl}
 use native.Mathlib.Omega.{arith}
-use Rattle.access.specs.Met.{few-desks, met-broken, placed, brought, PlacedIn}
+use Rattle.access.specs.Met.{few-desks, met-broken, placed, brought}
 use borrow.Author.Needs.{needs}
 use Rattle.access.proofs.deliver.Statement.{statement}
 use Rattle.access.proofs.deliver.Tie as tie
+use Rattle.steps.specs.Stepped.{Placed}
 
 abbrev start : (c : tie.After-acting) → tie.Start
 start c = c .before .before .before .before .before .before .before .before .before
 
-here : (c : tie.After-acting) → PlacedIn (start c .args .t) (c .before .own-counts .result) (start c .args .i) (c .acting .result)
+here : (c : tie.After-acting) → Placed (start c .args .t) (c .before .own-counts .result) (start c .args .i) (c .acting .result)
 here c =
     placed (c .before .before .before .before .before .before .before .table-keeps-rules .ensures) (c .before .before .before .before .before .before .if1 .left) (c .before .before .before .before .before .before .before .before .table-shape .ensures) (c .before .own-counts .ensures) (c .acting .ensures)
 

@@ -1,14 +1,15 @@
 use mathlib.Core.Path.{refl}
 use Rattle.rules.specs.Test.{owns}
-use Rattle.access.specs.Met.{few-desks, met-broken, placed, met-stepped, PlacedIn}
+use Rattle.access.specs.Met.{few-desks, met-broken, placed, met-stepped}
 use borrow.Author.Needs.{needs}
 use Rattle.access.proofs.write.Statement.{statement}
 use Rattle.access.proofs.write.Tie as tie
+use Rattle.steps.specs.Stepped.{Placed}
 
 abbrev start : (c : tie.After-acting) → tie.Start
 start c = c .before .before .before .before .before .before .before .before
 
-here : (c : tie.After-acting) → PlacedIn (start c .args .t) (owns (start c .args .t .core .desks)) (start c .args .i) (c .acting .result)
+here : (c : tie.After-acting) → Placed (start c .args .t) (owns (start c .args .t .core .desks)) (start c .args .i) (c .acting .result)
 here c =
     placed (c .before .before .before .before .before .before .table-keeps-rules .ensures) (c .before .before .before .before .before .if1 .left) (c .before .before .before .before .before .before .before .table-shape .ensures) refl (c .acting .ensures)
 

@@ -11,10 +11,11 @@ use Rattle.capi.specs.LinesLaws.{Lining, lining-start, lining-long, lini
 use borrow.Author.Needs.{needs}
 use Rattle.capi.proofs.lines.Statement.{statement}
 use Rattle.capi.proofs.lines.Tie as tie
+use Rattle.table.specs.Model.{tableWith}
 
 abbrev Inv-loop : tie.InvT-loop
 Inv-loop cells₀ opens₀ text at put out₀ from last₀ part₀ place₀ len₀ cells opens out last part place len =
-    (length part ≡ most-part) × ((z : Session) → Holds (last₀ .n) (last₀ .m) (last₀ .desks) cells₀ opens₀ z → Lining z text place₀ put out₀ from (last .n) (last .m) (last .desks) cells opens place len out)
+    (length part ≡ most-part) × ((z : Session) → Holds (tableWith last₀ cells₀ opens₀) z → Lining z text place₀ put out₀ from (last .n) (last .m) (last .desks) cells opens place len out)
 
 abbrev μ-loop : tie.MeasureT-loop
 μ-loop cells₀ opens₀ text at put out₀ from last₀ part₀ place₀ len₀ cells opens out last part place len = length text - place

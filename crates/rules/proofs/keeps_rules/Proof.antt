@@ -6,7 +6,7 @@ use Rattle.rules.proofs.keeps_rules.Tie as tie
 
 returns : tie.Need-returns
 returns c = let e = c .before .before .before .own-counts .ensures in
-    rw (c .passes .ensures, e) (keeps-says _ _ _ _ _ (c .before .before .before .before .desks-shape .ensures) (fit-of _ _ e (c .before .numbers .ensures)))
+    rw (c .passes .ensures, e) (keeps-says _ (c .before .before .before .before .desks-shape .ensures) (fit-of _ _ e (c .before .numbers .ensures)))
 
 pub keeps-rules-spec : {M : Type 1} → statement M
 keeps-rules-spec =

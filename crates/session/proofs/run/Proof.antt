@@ -6,6 +6,7 @@ use Rattle.laws.specs.Stores.{stored-long}
 use Rattle.schedule.specs.Lines.{lineAt, nextAt}
 use Rattle.schedule.specs.LineLaws.{line-within, next-more}
 use Rattle.table.specs.Value.{desk0}
+use Rattle.table.specs.Model.{tableOf}
 use Rattle.session.specs.Line.{actor, seatOf}
 use Rattle.session.specs.Act.{Seated}
 use Rattle.session.specs.Session.{Session}
@@ -17,7 +18,7 @@ use Rattle.session.proofs.run.Tie as tie
 
 abbrev Inv-loop : tie.InvT-loop
 Inv-loop cells₀ opens₀ text at out₀ n₀ m₀ desks₀ own₀ names₀ list₀ place₀ len₀ cells opens out n m desks own names list place len =
-    (Owns own desks) × ((length out ≡ length out₀) × ((len ≤ length out₀) × ((z : Session) → Holds n₀ m₀ desks₀ cells₀ opens₀ z → Going z text place₀ out₀ n m desks cells opens place len out)))
+    (Owns own desks) × ((length out ≡ length out₀) × ((len ≤ length out₀) × ((z : Session) → Holds (tableOf n₀ m₀ desks₀ cells₀ opens₀) z → Going z text place₀ out₀ (tableOf n m desks cells opens) place len out)))
 
 abbrev μ-loop : tie.MeasureT-loop
 μ-loop cells₀ opens₀ text at out₀ n₀ m₀ desks₀ own₀ names₀ list₀ place₀ len₀ cells opens out n m desks own names list place len = length text - place
@@ -28,9 +29,9 @@ seat-is c = c .seat .ensures .0 ∙ ap seatOf (c .before .actor .ensures)
 
 -- what a line asks, of any session that the values hold
 seated : (c : tie.After-opens-size Inv-loop μ-loop) (z : Session)
-    → (let L = c .before .before .before .before .before .before .before .before .before .before .before .before .loop in Holds (L .n) (L .m) (L .desks) (L .cells) (L .opens) z)
+    → (let L = c .before .before .before .before .before .before .before .before .before .before .before .before .loop in Holds (tableOf (L .n) (L .m) (L .desks) (L .cells) (L .opens)) z)
     → (let L = c .before .before .before .before .before .before .before .before .before .before .before .before .loop in
-    Seated (L .n) (L .m) (L .desks) (L .cells) (L .opens) (L .own) (actor (c .before .before .before .before .before .before .before .said .result)) (getD (L .desks) (c .before .before .before .before .before .seat .result) desk0) z)
+    Seated (tableOf (L .n) (L .m) (L .desks) (L .cells) (L .opens)) (L .own) (actor (c .before .before .before .before .before .before .before .said .result)) (getD (L .desks) (c .before .before .before .before .before .seat .result) desk0) z)
 seated c z h = let L = c .before .before .before .before .before .before .before .before .before .before .before .before .loop in record {
   holds = h;
   owns = L .inv .0;
