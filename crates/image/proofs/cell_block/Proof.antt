@@ -22,17 +22,14 @@ Inv-loop at cells i q b₀ j₀ b j = (j ≤ cells-in places) × (b ≡ sets b�
 abbrev μ-loop : tie.MeasureT-loop
 μ-loop at cells i q b₀ j₀ b j = cells-in places - j
 
--- src/lib.rt:199:5
 loop-holds : tie.Need-loop-holds Inv-loop μ-loop
 unfolding cat
 loop-holds c = search needs
 
--- src/lib.rt:199:5
 loop-again : tie.Need-loop-again Inv-loop μ-loop
 loop-again c = let L = c .before .before .before .before .loop in let A = c .before .before .before .before .before .before .before .args in
     (search needs, one-more (cellPiece places (A .cells .now) (A .i) (A .q)) (cell-bytes places) (length-cellPiece places (A .cells .now) (A .i) (A .q)) (c .before .before .before .before .before .put-head .last .0) (L .b) (c .put-cell .last .0) _ payload-at (L .j) (payload-at + cell-bytes places * L .j) (L .inv .1) refl (c .before .before .cell-or .ensures .bytes) (c .put-cell .ensures))
 
--- src/lib.rt:192:1
 returns : tie.Need-returns Inv-loop μ-loop
 returns c = let L = c .before .before .before .loop in let A = c .before .before .before .before .before .before .args in
     let e : L .j ≡ cells-in places = omega arith in

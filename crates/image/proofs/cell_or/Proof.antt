@@ -8,23 +8,18 @@ use Rattle.image.proofs.cell_or.Reads as reads
 use Rattle.image.proofs.cell_or.Lts as lts
 use Rattle.table.proofs.cell_at.Reads as cell-at-reads
 
--- src/lib.rt:181:38
 mul-cell-at : tie.Need-mul-cell-at
 mul-cell-at c = search needs
 
--- src/lib.rt:181:38
 add-cell-at : tie.Need-add-cell-at
 add-cell-at c = search needs
 
--- src/lib.rt:181:9
 cell-at-requires : tie.Need-cell-at-requires
 cell-at-requires c κs = search needs
 
--- src/lib.rt:181:9
 returns : tie.Need-returns
 returns c = let A = c .before .before .args in cell-there places (A .cells .now) (A .i) (A .x) _ _ (c .before .before .pre .0) (c .before .if1 .taken) refl (c .before .before .pre .1) (c .cell-at .ensures)
 
--- src/lib.rt:176:1
 returns-2 : tie.Need-returns-2
 returns-2 c = let A = c .before .args in cell-past places (A .cells .now) (A .i) (A .x) _ (c .if1 .left) refl
 

@@ -10,19 +10,15 @@ use Rattle.image.proofs.cells_end.Tie as tie
 use Rattle.image.proofs.cells_end.Reads as reads
 use Rattle.image.proofs.cells_end.Lts as lts
 
--- src/lib.rt:437:5
 add-result : tie.Need-add-result
 add-result c = search needs
 
--- src/lib.rt:437:13
 mul-result : tie.Need-mul-result
 mul-result c = let h : c .args .c * c .args .n ≤ rows-most places = mul-le-mul (c .pre .1) (c .pre .0) in omega arith
 
--- src/lib.rt:437:5
 add-result-2 : tie.Need-add-result-2
 add-result-2 c = let h : c .args .c * c .args .n ≤ rows-most places = mul-le-mul (c .pre .1) (c .pre .0) in omega arith
 
--- src/lib.rt:433:1
 returns : tie.Need-returns
 returns c = let h : c .args .c * c .args .n ≤ rows-most places = mul-le-mul (c .pre .1) (c .pre .0) in (refl, omega arith)
 

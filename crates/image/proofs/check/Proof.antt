@@ -17,17 +17,14 @@ Inv-loop b c₀ j₀ c j = (j ≤ check-at) × ((c ≤ 1 + check-at * 255 * j) �
 abbrev μ-loop : tie.MeasureT-loop
 μ-loop b c₀ j₀ c j = check-at - j
 
--- src/lib.rt:44:5
 loop-holds : tie.Need-loop-holds Inv-loop μ-loop
 unfolding sum
 loop-holds c = search needs
 
--- src/lib.rt:44:5
 loop-again : tie.Need-loop-again Inv-loop μ-loop
 loop-again c = let L = c .before .before .before .loop in
     (search needs, (search needs, rw (c .term .ensures .0, L .inv .1 .1) (check-more (c .before .before .before .before .before .args .b .now) (L .j))))
 
--- src/lib.rt:38:1
 returns : tie.Need-returns Inv-loop μ-loop
 unfolding checkOf
 returns c = let L = c .before .loop in let e : L .j ≡ check-at = omega arith in L .inv .1 .1 ∙ rw e

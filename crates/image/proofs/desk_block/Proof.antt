@@ -11,7 +11,6 @@ use Rattle.image.proofs.put_head.Reads as put-head-reads
 use Rattle.image.proofs.put_words.Reads as put-words-reads
 use Rattle.image.proofs.seal.Reads as seal-reads
 
--- src/lib.rt:139:1
 returns : tie.Need-returns
 returns c = let A = c .before .before .before .before .before .before .before .before .before .before .before .before .args in
     desk-steps places wide (A .at) (A .i) (c .before .before .before .before .before .before .before .before .before .byte .result) (A .d .applied) (A .d .clock .at) (c .before .before .before .before .before .before .before .before .before .before .put-head .last .0) (c .before .before .before .before .before .before .put-words .last .0) (c .before .before .put-words2 .last .0) (c .seal .last .0)

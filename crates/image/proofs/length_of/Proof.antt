@@ -8,7 +8,6 @@ use Rattle.image.proofs.cells_end.Reads as cells-end-reads
 use Rattle.image.proofs.open_blocks.Reads as open-blocks-reads
 use Rattle.image.proofs.per_desk.Reads as per-desk-reads
 
--- src/lib.rt:440:1
 returns : tie.Need-returns
 returns c = rw (c .before .cells-end .ensures .0, c .open-blocks .ensures, c .before .before .per-desk .ensures .0)
 

@@ -18,16 +18,13 @@ Inv-loop n u desks r₀ i₀ r i = (i ≤ n) × (r ≡ least (appliedM desks (su
 abbrev μ-loop : tie.MeasureT-loop
 μ-loop n u desks r₀ i₀ r i = n - i
 
--- src/lib.rt:350:5
 loop-holds : tie.Need-loop-holds Inv-loop μ-loop
 loop-holds c = (search needs, low-start _ _ _ (c .own-count .ensures ∙ count-at _ _ _))
 
--- src/lib.rt:350:5
 loop-again : tie.Need-loop-again Inv-loop μ-loop
 loop-again c = let L = (c .before .before .before .before .loop) in let A = (c .before .before .before .before .before .before .args) in
     (search needs, low-more (A .t1) (appliedM (A .t1) (suc (A .u)) (suc (A .u))) (A .u) (L .i) (L .r) (c .smaller .result) (L .inv .1) (c .smaller .ensures))
 
--- src/lib.rt:344:1
 returns : tie.Need-returns Inv-loop μ-loop
 unfolding low
 returns c = let L = (c .before .loop) in let e : L .i ≡ c .before .before .before .args .n = omega arith in L .inv .1 ∙ rw e

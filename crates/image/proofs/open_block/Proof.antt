@@ -23,17 +23,14 @@ Inv-loop at opens order count q b₀ j₀ b j = (j ≤ opens-in places) × (b �
 abbrev μ-loop : tie.MeasureT-loop
 μ-loop at opens order count q b₀ j₀ b j = opens-in places - j
 
--- src/lib.rt:235:5
 loop-holds : tie.Need-loop-holds Inv-loop μ-loop
 unfolding cat
 loop-holds c = search needs
 
--- src/lib.rt:235:5
 loop-again : tie.Need-loop-again Inv-loop μ-loop
 loop-again c = let L = c .before .before .before .before .loop in let A = c .before .before .before .before .before .before .before .args in
     (search needs, one-more (openPiece places (A .opens .now) (A .order .now) (A .count) (A .q)) (open-bytes places) (length-openPiece places (A .opens .now) (A .order .now) (A .count) (A .q)) (c .before .before .before .before .before .put-head .last .0) (L .b) (c .put-open .last .0) _ payload-at (L .j) (payload-at + open-bytes places * L .j) (L .inv .1) refl (ap (openRaw places) (c .before .before .open-or .ensures .is)) (c .put-open .ensures))
 
--- src/lib.rt:228:1
 returns : tie.Need-returns Inv-loop μ-loop
 returns c = let L = c .before .before .before .loop in let A = c .before .before .before .before .before .before .args in
     let e : L .j ≡ opens-in places = omega arith in

@@ -8,23 +8,18 @@ use Rattle.image.proofs.open_or.Reads as reads
 use Rattle.image.proofs.open_or.Lts as lts
 use Rattle.table.proofs.open_at.Reads as open-at-reads
 
--- src/lib.rt:214:17
 mul-e : tie.Need-mul-e
 mul-e c = search needs
 
--- src/lib.rt:214:17
 element-copy-out-e : tie.Need-element-copy-out-e
 element-copy-out-e c = search needs
 
--- src/lib.rt:215:9
 open-at-requires : tie.Need-open-at-requires
 open-at-requires c κs = omega (arith, c .before .before .pre .each (c .before .before .args .p) (c .before .if1 .taken) .0, c .before .before .pre .few)
 
--- src/lib.rt:215:9
 returns : tie.Need-returns
 returns c = let A = (c .before .before .before .args) in open-there (A .opens .now) (A .order .now) (A .count) (A .p) _ (c .before .before .if1 .taken) (c .before .before .before .pre) (c .open-at .ensures)
 
--- src/lib.rt:209:1
 returns-2 : tie.Need-returns-2
 returns-2 c = let A = c .before .args in open-past (A .opens .now) (A .order .now) (A .count) (A .p) _ (c .if1 .left) refl
 

@@ -23,24 +23,19 @@ Inv-loop opens desks n order₀ count₀ u₀ order count u = (u ≤ n) × (Orde
 abbrev μ-loop : tie.MeasureT-loop
 μ-loop opens desks n order₀ count₀ u₀ order count u = n - u
 
--- src/lib.rt:402:5
 loop-holds : tie.Need-loop-holds Inv-loop μ-loop
 unfolding cat
 loop-holds c = (search needs, (ordered-none _ _, search needs))
 
--- src/lib.rt:403:13
 own-count-requires : tie.Need-own-count-requires Inv-loop μ-loop
 own-count-requires c κs = let d = c .before .before .before .pre .1 .desks in omega arith
 
--- src/lib.rt:404:13
 lowest-requires : tie.Need-lowest-requires Inv-loop μ-loop
 lowest-requires c κs = let d = c .before .before .before .before .pre .1 .desks in omega arith
 
--- src/lib.rt:405:33
 add-order-of : tie.Need-add-order-of Inv-loop μ-loop
 add-order-of c = let d = c .before .before .before .before .before .pre .1 .desks in omega arith
 
--- src/lib.rt:405:9
 order-of-requires : tie.Need-order-of-requires Inv-loop μ-loop
 order-of-requires c κs = let L = (c .before .before .before .before .loop) in let A = (c .before .before .before .before .before .before .args) in let K = c .before .before .before .before .before .before .pre .1 in
     let eo = c .before .before .own-count .ensures in let el = c .before .lowest .ensures in
@@ -51,11 +46,9 @@ order-of-requires c κs = let L = (c .before .before .before .before .loop) in l
     let q = add-one (L .u) in
     (((omega arith, omega arith), (omega arith, omega arith)), λ k a b. rw q (K .found (L .u) k (c .before .before .before .loop-test .taken) (omega arith) (omega arith)))
 
--- src/lib.rt:406:9
 add-u : tie.Need-add-u Inv-loop μ-loop
 add-u c = let d = c .before .before .before .before .before .before .before .before .before .pre .1 .desks in omega arith
 
--- src/lib.rt:402:5
 loop-again : tie.Need-loop-again Inv-loop μ-loop
 loop-again c = let L = (c .before .before .before .before .before .before .before .loop) in let A = (c .before .before .before .before .before .before .before .before .before .args) in (
   search needs,
@@ -65,7 +58,6 @@ loop-again c = let L = (c .before .before .before .before .before .before .befor
   ),
 )
 
--- src/lib.rt:396:1
 returns : tie.Need-returns Inv-loop μ-loop
 unfolding counted
 returns c = let L = (c .before .loop) in let e : L .u ≡ c .before .before .before .args .n = omega arith in rw e at (L .inv .1 .0)

@@ -5,23 +5,18 @@ use Rattle.image.proofs.own_count.Tie as tie
 use Rattle.image.proofs.own_count.Reads as reads
 use Rattle.image.proofs.own_count.Lts as lts
 
--- src/lib.rt:338:13
 mul-d : tie.Need-mul-d
 mul-d c = search needs
 
--- src/lib.rt:338:13
 array-copy-out-d : tie.Need-array-copy-out-d
 array-copy-out-d c = search needs
 
--- src/lib.rt:340:5
 mul-result : tie.Need-mul-result
 mul-result c = search needs
 
--- src/lib.rt:340:5
 array-read-result : tie.Need-array-read-result
 array-read-result c = search needs
 
--- src/lib.rt:334:1
 returns : tie.Need-returns
 unfolding appliedM
 returns c = search needs

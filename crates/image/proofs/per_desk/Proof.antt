@@ -5,7 +5,6 @@ use Rattle.image.proofs.per_desk.Tie as tie
 use Rattle.image.proofs.per_desk.Reads as reads
 use Rattle.image.proofs.per_desk.Lts as lts
 
--- src/lib.rt:417:1
 returns : tie.Need-returns
 unfolding perDesk
 returns c = search needs

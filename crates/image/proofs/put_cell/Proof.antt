@@ -9,7 +9,6 @@ use Rattle.image.proofs.put_cell.Lts as lts
 use Rattle.image.proofs.byte.Reads as byte-reads
 use Rattle.image.proofs.put_words.Reads as put-words-reads
 
--- src/lib.rt:103:1
 returns : tie.Need-returns
 returns c = let A = c .before .before .before .before .before .args in c .put-words .ensures ∙ rw (c .before .before .before .before .byte .ensures, c .before .before .before .byte2 .ensures) (cell-steps places (A .b .now) (A .at) (A .c))
 

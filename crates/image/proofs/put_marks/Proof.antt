@@ -20,21 +20,17 @@ Inv-loop b₀ at v t₀ b t = (t ≤ places) × (b ≡ sets b₀ at (tab t (λ k
 abbrev μ-loop : tie.MeasureT-loop
 μ-loop b₀ at v t₀ b t = places - t
 
--- src/lib.rt:97:5
 loop-holds : tie.Need-loop-holds Inv-loop μ-loop
 unfolding tab tabFrom
 loop-holds c = search needs
 
--- src/lib.rt:98:21
 byte-requires : tie.Need-byte-requires Inv-loop μ-loop
 byte-requires c κs = c .before .before .pre .1 (c .before .loop .t)
 
--- src/lib.rt:97:5
 loop-again : tie.Need-loop-again Inv-loop μ-loop
 loop-again c = let L = c .before .before .loop in let A = c .before .before .before .args in
     (search needs, rw (c .byte .ensures, L .inv .1) (tab-put (λ k. getD (A .t3) k 0) (A .b .now) (A .at) (L .t)))
 
--- src/lib.rt:91:1
 returns : tie.Need-returns Inv-loop μ-loop
 unfolding markBytes
 returns c = let L = c .before .loop in let e : L .t ≡ places = omega arith in L .inv .1 ∙ rw e

@@ -10,7 +10,6 @@ use Rattle.image.proofs.byte.Reads as byte-reads
 use Rattle.image.proofs.put_marks.Reads as put-marks-reads
 use Rattle.image.proofs.put_words.Reads as put-words-reads
 
--- src/lib.rt:115:1
 returns : tie.Need-returns
 returns c = let A = c .before .before .before .before .before .before .before .before .before .args in c .put-marks .ensures ∙ rw (c .before .before .before .put-words .ensures, c .before .before .before .before .before .before .before .before .byte .ensures, c .before .before .before .before .before .before .before .byte2 .ensures, c .before .before .before .before .before .before .byte3 .ensures) (open-steps places (A .b .now) (A .at) (A .o))
 

@@ -20,17 +20,14 @@ Inv-loop b₀ at v t₀ b t = (t ≤ places) × (b ≡ sets b₀ at (cat (λ k. 
 abbrev μ-loop : tie.MeasureT-loop
 μ-loop b₀ at v t₀ b t = places - t
 
--- src/lib.rt:85:5
 loop-holds : tie.Need-loop-holds Inv-loop μ-loop
 unfolding cat
 loop-holds c = search needs
 
--- src/lib.rt:85:5
 loop-again : tie.Need-loop-again Inv-loop μ-loop
 loop-again c = let L = c .before .before .before .loop in let A = c .before .before .before .before .args in
     (search needs, c .put-word .ensures ∙ rw (L .inv .1) (sets-more (λ k. word (getD (A .t3) k 0)) (A .b .now) (A .at) (L .t) (2 * L .t) (length-cat (λ k. word (getD (A .t3) k 0)) 2 (λ j. refl) (L .t))))
 
--- src/lib.rt:80:1
 returns : tie.Need-returns Inv-loop μ-loop
 unfolding words
 returns c = let L = c .before .loop in let e : L .t ≡ places = omega arith in L .inv .1 ∙ rw e

@@ -7,7 +7,6 @@ use Rattle.image.proofs.right.Lts as lts
 use Rattle.image.proofs.check.Reads as check-reads
 use Rattle.image.proofs.wide.Reads as wide-reads
 
--- src/lib.rt:79:1
 returns : tie.Need-returns
 unfolding checkIn
 returns c = rw (c .before .before .before .before .before .before .before .wide .ensures .0, c .before .before .before .before .before .wide2 .ensures .0, c .before .before .before .wide3 .ensures .0, c .before .wide4 .ensures .0, c .check .ensures)

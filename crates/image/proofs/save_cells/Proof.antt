@@ -20,31 +20,25 @@ Inv-loop out₀ cells n c i₀ out i = (i ≤ n) × ((out ≡ sets out₀ (block
 abbrev μ-loop : tie.MeasureT-loop
 μ-loop out₀ cells n c i₀ out i = n - i
 
--- src/lib.rt:293:5
 loop-holds : tie.Need-loop-holds Inv-loop μ-loop
 unfolding cat
 loop-holds c = search needs
 
--- src/lib.rt:294:31
 mul-save-row : tie.Need-mul-save-row Inv-loop μ-loop
 mul-save-row c = let A = (c .before .before .before .before .args) in let L = (c .before .before .loop) in let r = row-room places (A .n) (A .c) (L .i) (c .before .before .before .before .pre .1 .0) (c .before .before .before .before .pre .1 .1 .0) (c .before .loop-test .taken) in omega arith
 
--- src/lib.rt:294:23
 add-save-row-2 : tie.Need-add-save-row-2 Inv-loop μ-loop
 add-save-row-2 c = let A = (c .before .before .before .before .args) in let L = (c .before .before .loop) in let r = row-room places (A .n) (A .c) (L .i) (c .before .before .before .before .pre .1 .0) (c .before .before .before .before .pre .1 .1 .0) (c .before .loop-test .taken) in omega arith
 
--- src/lib.rt:294:9
 save-row-requires : tie.Need-save-row-requires Inv-loop μ-loop
 save-row-requires c κs = let A = (c .before .before .before .before .args) in let L = (c .before .before .loop) in let r = row-room places (A .n) (A .c) (L .i) (c .before .before .before .before .pre .1 .0) (c .before .before .before .before .pre .1 .1 .0) (c .before .loop-test .taken) in
     ((omega arith, c .before .before .before .before .pre .0), (c .before .before .before .before .pre .1 .1 .0, (omega arith, omega arith)))
 
--- src/lib.rt:293:5
 loop-again : tie.Need-loop-again Inv-loop μ-loop
 loop-again c = let L = (c .before .before .before .before .before .loop) in let A = (c .before .before .before .before .before .before .before .args) in
     let f = cellRow places (A .cells .now) (A .n) (A .c) in
     (search needs, stored-more f (block-bytes * A .c) (length-cellRow places (A .cells .now) (A .n) (A .c)) (A .out .now) (L .out) (c .before .before .save-row .last .0) (f (L .i)) (block-bytes * (1 + A .n)) (L .i) (block-bytes * (1 + A .n + A .c * L .i)) (L .inv .1 .0) (omega arith) refl (c .before .before .save-row .ensures))
 
--- src/lib.rt:288:1
 returns : tie.Need-returns Inv-loop μ-loop
 returns c = let L = (c .before .loop) in let e : L .i ≡ c .before .before .before .args .n = omega arith in L .inv .1 .0 ∙ rw e
 

@@ -21,18 +21,15 @@ Inv-loop out₀ n desks i₀ out i = (i ≤ n) × ((out ≡ sets out₀ block-by
 abbrev μ-loop : tie.MeasureT-loop
 μ-loop out₀ n desks i₀ out i = n - i
 
--- src/lib.rt:265:5
 loop-holds : tie.Need-loop-holds Inv-loop μ-loop
 unfolding cat
 loop-holds c = search needs
 
--- src/lib.rt:265:5
 loop-again : tie.Need-loop-again Inv-loop μ-loop
 loop-again c = let L = (c .before .before .before .before .before .before .before .loop) in let A = (c .before .before .before .before .before .before .before .before .before .args) in
     let f = desk-block-is places (A .t2) (L .i) (1 + L .i) (c .before .before .before .before .desk-block .result) refl (c .before .before .before .before .desk-block .ensures) in
     (search needs, stored-more (deskBlock places (A .t2)) block-bytes (length-deskBlock places wide (A .t2)) (A .out .now) (L .out) (c .before .before .store .last .0) (c .before .before .before .before .desk-block .result) block-bytes (L .i) (block-bytes * (1 + L .i)) (L .inv .1 .0) (omega arith) f (c .before .before .store .ensures))
 
--- src/lib.rt:260:1
 returns : tie.Need-returns Inv-loop μ-loop
 returns c = let L = (c .before .loop) in let e : L .i ≡ c .before .before .before .args .n = omega arith in L .inv .1 .0 ∙ rw e
 

@@ -21,18 +21,15 @@ Inv-loop out₀ k opens order count c q₀ out q = (q ≤ c) × ((out ≡ sets o
 abbrev μ-loop : tie.MeasureT-loop
 μ-loop out₀ k opens order count c q₀ out q = c - q
 
--- src/lib.rt:305:5
 loop-holds : tie.Need-loop-holds Inv-loop μ-loop
 unfolding cat
 loop-holds c = search needs
 
--- src/lib.rt:305:5
 loop-again : tie.Need-loop-again Inv-loop μ-loop
 loop-again c = let L = (c .before .before .before .before .before .before .loop) in let A = (c .before .before .before .before .before .before .before .before .args) in
     let f = openBlock places (A .opens .now) (A .order .now) (A .count) (A .k) in
     (search needs, stored-more f block-bytes (length-openBlock places (A .opens .now) (A .order .now) (A .count) (A .k)) (A .out .now) (L .out) (c .before .before .store .last .0) (c .before .before .before .before .open-block .result) (block-bytes * A .k) (L .q) (block-bytes * (A .k + L .q)) (L .inv .1 .0) (omega arith) (c .before .before .before .before .open-block .ensures) (c .before .before .store .ensures))
 
--- src/lib.rt:300:1
 returns : tie.Need-returns Inv-loop μ-loop
 returns c = let L = (c .before .loop) in let e : L .q ≡ c .before .before .before .args .c = omega arith in L .inv .1 .0 ∙ rw e
 

@@ -5,7 +5,6 @@ use Rattle.image.proofs.seal.Reads as reads
 use Rattle.image.proofs.seal.Lts as lts
 use Rattle.image.proofs.check.Reads as check-reads
 
--- src/lib.rt:52:1
 returns : tie.Need-returns
 returns c = rw (c .check .ensures)
 

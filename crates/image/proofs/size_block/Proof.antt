@@ -8,7 +8,6 @@ use Rattle.image.proofs.byte.Reads as byte-reads
 use Rattle.image.proofs.put_head.Reads as put-head-reads
 use Rattle.image.proofs.seal.Reads as seal-reads
 
--- src/lib.rt:162:1
 returns : tie.Need-returns
 returns c = let A = c .before .before .before .before .before .before .before .args in size-steps (A .n) (A .m) (A .count) (c .before .before .before .before .byte .result) (c .before .before .before .byte2 .result) (c .before .before .byte3 .result) (c .before .before .before .before .before .put-head .last .0) (c .seal .last .0) (c .before .before .before .before .byte .ensures) (c .before .before .before .byte2 .ensures) (c .before .before .byte3 .ensures) (c .before .before .before .before .before .put-head .ensures) (c .seal .ensures)
 

@@ -21,37 +21,30 @@ Inv-loop b n count k₀ k = (k ≤ count) × (all (λ k. rightCheck (blockIn b k
 abbrev μ-loop : tie.MeasureT-loop
 μ-loop b n count k₀ k = count - k
 
--- src/lib.rt:96:9
 returns : tie.Need-returns Inv-loop μ-loop
 returns c = sym (sound-none (c .before .before .args .b .now) (c .if1 .taken))
 
--- src/lib.rt:99:9
 returns-2 : tie.Need-returns-2 Inv-loop μ-loop
 returns-2 c = sym (sound-odd (c .before .before .before .args .b .now) (c .if2 .taken))
 
--- src/lib.rt:103:5
 loop-holds : tie.Need-loop-holds Inv-loop μ-loop
 loop-holds c = (search needs, rw sub-zero (sound-start (c .before .before .before .args .b .now) (c .before .if1 .left) (c .if2 .left)))
 
--- src/lib.rt:106:13
 right-requires : tie.Need-right-requires Inv-loop μ-loop
 right-requires c κs = simp (length-take, length-drop) (omega arith)
 
--- src/lib.rt:107:13
 returns-3 : tie.Need-returns-3 Inv-loop μ-loop
 unfolding part
 returns-3 c = let L = (c .before .before .before .before .loop) in let b = c .before .before .before .before .before .before .before .before .args .b .now in let q : block-bytes * L .k + block-bytes - block-bytes * L .k ≡ block-bytes = omega arith in
     let t : c .before .right .result ≡ rightCheck (take (block-bytes * L .k + block-bytes - block-bytes * L .k) (drop (block-bytes * L .k) b)) = c .before .right .ensures in
     let e : rightCheck (blockIn b (L .k)) ≡ c .before .right .result = sym (t ∙ rw q) in sym (all-fails (λ k. rightCheck (blockIn b k)) (length b / block-bytes) (L .k) (search needs) (e ∙ not-true _ (c .if3 .taken))) ∙ L .inv .1
 
--- src/lib.rt:103:5
 loop-again : tie.Need-loop-again Inv-loop μ-loop
 unfolding part
 loop-again c = let L = (c .before .before .before .before .loop) in let b = c .before .before .before .before .before .before .before .before .args .b .now in let q : block-bytes * L .k + block-bytes - block-bytes * L .k ≡ block-bytes = omega arith in
     let t : c .before .right .result ≡ rightCheck (take (block-bytes * L .k + block-bytes - block-bytes * L .k) (drop (block-bytes * L .k) b)) = c .before .right .ensures in
     let e : rightCheck (blockIn b (L .k)) ≡ c .before .right .result = sym (t ∙ rw q) in (search needs, sym (all-next (λ k. rightCheck (blockIn b k)) (length b / block-bytes) (L .k) (search needs) (e ∙ not-false _ (c .if3 .left))) ∙ L .inv .1)
 
--- src/lib.rt:91:1
 returns-4 : tie.Need-returns-4 Inv-loop μ-loop
 returns-4 c = let L = (c .before .loop) in sym (all-end _ _ (L .k) (search needs)) ∙ L .inv .1
 

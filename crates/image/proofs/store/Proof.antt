@@ -17,13 +17,11 @@ Inv-loop out₀ k b at j₀ out j = (j ≤ block-bytes) × ((out ≡ sets out₀
 abbrev μ-loop : tie.MeasureT-loop
 μ-loop out₀ k b at j₀ out j = block-bytes - j
 
--- src/lib.rt:253:5
 loop-again : tie.Need-loop-again Inv-loop μ-loop
 loop-again c = let L = c .before .loop in let a = c .before .before .args in
     let l : length (a .t3) ≡ block-bytes = search needs in
     (search needs, (rw (L .inv .1 .0) (set-more (a .t3) (a .out .now) 0 (block-bytes * a .k) (L .j) (omega arith)), search needs))
 
--- src/lib.rt:247:1
 returns : tie.Need-returns Inv-loop μ-loop
 returns c = let L = c .before .loop in
     let l : length (c .before .before .args .t3) ≤ L .j = search needs in

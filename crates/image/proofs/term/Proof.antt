@@ -9,23 +9,18 @@ use Rattle.image.proofs.term.Reads as reads
 use Rattle.image.proofs.term.Lts as lts
 use Rattle.image.proofs.wide.Reads as wide-reads
 
--- src/lib.rt:35:6
 cast-result : tie.Need-cast-result
 cast-result c = search needs
 
--- src/lib.rt:35:6
 add-result : tie.Need-add-result
 add-result c = search needs
 
--- src/lib.rt:35:22
 wide-requires : tie.Need-wide-requires
 wide-requires c κs = search needs
 
--- src/lib.rt:35:5
 mul-result : tie.Need-mul-result
 mul-result c = let w = c .wide .ensures in let h : (c .before .args .j + 1) * c .wide .result ≤ check-at * 255 = mul-le-mul {n₂ = check-at} {m₂ = 255} (omega arith) (omega arith) in omega arith
 
--- src/lib.rt:30:1
 returns : tie.Need-returns
 returns c = let w = c .wide .ensures in let h : (c .before .args .j + 1) * c .wide .result ≤ check-at * 255 = mul-le-mul {n₂ = check-at} {m₂ = 255} (omega arith) (omega arith) in (rw (w .0), h)
 

@@ -13,11 +13,9 @@ use Rattle.image_edges.proofs.same_upto.Reads as same-upto-reads
 use Rattle.image_edges.proofs.save_into.Reads as save-into-reads
 use Rattle.image_edges.proofs.say.Reads as say-reads
 
--- src/main.rt:152:1
 same-length : tie.Need-same-length
 same-length c = c .before .before .before .before .before .before .before .before .before .before .before .before .before .before .before .before .before .before .before .before .before .before .before .before .before .before .before .before .before .before .before .before .before .before .before .before .before .before .before .before .before .before .before .before .before .before .before .before .before .save-into2 .kept .1 .0 ∙ c .before .before .before .before .before .before .before .before .before .before .before .before .before .before .before .before .before .before .before .before .before .before .before .before .before .before .before .before .before .before .before .before .before .before .before .before .before .before .before .before .before .before .before .before .before .before .before .before .before .before .before .before .before .before .before .before .before .before .before .save-into .kept .1 .0
 
--- src/main.rt:152:1
 same-length-2 : tie.Need-same-length-2
 same-length-2 c = c .before .before .before .before .bend .kept .0 ∙ c .before .before .before .before .before .before .before .before .before .before .before .before .before .before .before .before .before .before .before .before .before .before .before .before .before .before .before .before .before .before .before .before .before .before .reload .kept .1 .1 .0
 

@@ -19,16 +19,13 @@ Inv-loop b at v₀ t₀ v t = (t ≤ places) × ((v ≡ tab t (λ k. getD b (at 
 abbrev μ-loop : tie.MeasureT-loop
 μ-loop b at v₀ t₀ v t = places - t
 
--- src/lib.rt:67:5
 loop-holds : tie.Need-loop-holds Inv-loop μ-loop
 loop-holds c = (search needs, (fill-start _ _, search needs))
 
--- src/lib.rt:67:5
 loop-again : tie.Need-loop-again Inv-loop μ-loop
 loop-again c = let L = (c .before .before .before .loop) in let g = (c .before .before .before .before .before .args) in
     (search needs, (rw (c .wide .ensures .0, L .inv .1 .0) (fill-more (λ k. getD (g .b .now) (g .at + k) 0) _ 0 (L .t) (search needs)), search needs))
 
--- src/lib.rt:61:1
 returns : tie.Need-returns Inv-loop μ-loop
 returns c = let L = (c .before .loop) in let e : L .t ≡ places = omega arith in
     L .inv .1 .0 ∙ fill-end _ _ places _ (L .inv .1 .1) (search needs) ∙ rw e

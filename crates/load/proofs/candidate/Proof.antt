@@ -10,23 +10,18 @@ use Rattle.load.proofs.read_table.Reads as read-table-reads
 use Rattle.load.proofs.sizes_fit.Reads as sizes-fit-reads
 use Rattle.load.proofs.zeros.Reads as zeros-reads
 
--- src/lib.rt:272:9
 sizes-fit-requires : tie.Need-sizes-fit-requires
 sizes-fit-requires c κs = search needs
 
--- src/lib.rt:273:9
 zeros-requires : tie.Need-zeros-requires
 zeros-requires c κs = search needs
 
--- src/lib.rt:273:9
 returns : tie.Need-returns
 returns c = reads-none (c .before .before .before .before .args .b .now) _ (λ h. apart (c .before .before .sizes-fit .result) (c .before .before .sizes-fit .ensures .from h) (not-true _ (c .before .if1 .taken)))
 
--- src/lib.rt:275:5
 read-table-requires : tie.Need-read-table-requires
 read-table-requires c κs = c .before .sizes-fit .ensures .to (not-false _ (c .if1 .left))
 
--- src/lib.rt:269:1
 returns-2 : tie.Need-returns-2
 returns-2 c = reads-right (c .before .before .before .before .args .b .now) _ (c .read-table .ensures)
 

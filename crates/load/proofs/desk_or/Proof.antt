@@ -8,15 +8,12 @@ use Rattle.load.proofs.desk_or.Reads as reads
 use Rattle.load.proofs.desk_or.Lts as lts
 use Rattle.load.proofs.read_desk.Reads as read-desk-reads
 
--- src/lib.rt:159:9
 read-desk-requires : tie.Need-read-desk-requires
 read-desk-requires c κs = search needs
 
--- src/lib.rt:159:9
 returns : tie.Need-returns
 returns c = let A = (c .before .before .before .args) in desk-there places (A .b .now) (A .n) (A .i) _ (c .before .if1 .taken) (c .read-desk .ensures)
 
--- src/lib.rt:154:1
 returns-2 : tie.Need-returns-2
 returns-2 c = let A = (c .before .before .args) in desk-past places (A .b .now) (A .n) (A .i) _ (c .if1 .left) refl
 

@@ -13,23 +13,18 @@ use Rattle.load.proofs.refused.Reads as refused-reads
 use Rattle.load.proofs.saves_to.Reads as saves-to-reads
 use Rattle.rules.proofs.keeps_rules.Reads as keeps-rules-reads
 
--- src/lib.rt:360:9
 returns : tie.Need-returns
 returns c = damaged-so (c .before .before .before .before .args .b .now) _ _ (c .refused .ensures .0) (c .refused .ensures .1) (sym (c .before .before .sound-image .ensures) ∙ not-true _ (c .before .if1 .taken))
 
--- src/lib.rt:367:9
 returns-2 : tie.Need-returns-2
 returns-2 c = broken-so (c .before .before .before .before .before .before .before .before .before .before .before .before .args .b .now) _ _ (c .refused2 .ensures .0) (c .refused2 .ensures .1) (sym (c .before .before .before .before .before .before .before .before .before .before .sound-image .ensures) ∙ not-false _ (c .before .before .before .before .before .before .before .before .before .if1 .left)) (not-sound (c .before .before .before .before .before .before .before .before .before .before .before .before .args .b .now) (c .before .before .before .before .before .before .before .before .candidate .result) (c .before .before .before .before .before .before .before .before .candidate .ensures) (λ s. apart (c .before .before .keeps-rules .result) (c .before .before .keeps-rules .ensures .from s) (not-true _ (c .before .if2 .taken))))
 
--- src/lib.rt:369:9
 saves-to-requires : tie.Need-saves-to-requires
 saves-to-requires c κs = c .before .before .before .keeps-rules .ensures .to (not-false _ (c .before .before .if2 .left))
 
--- src/lib.rt:370:9
 returns-3 : tie.Need-returns-3
 returns-3 c = broken-so (c .before .before .before .before .before .before .before .before .before .before .before .before .before .before .before .before .args .b .now) _ _ (c .refused3 .ensures .0) (c .refused3 .ensures .1) (sym (c .before .before .before .before .before .before .before .before .before .before .before .before .before .before .sound-image .ensures) ∙ not-false _ (c .before .before .before .before .before .before .before .before .before .before .before .before .before .if1 .left)) (not-image (c .before .before .before .before .before .before .before .before .before .before .before .before .before .before .before .before .args .b .now) (c .before .before .before .before .before .before .before .before .before .before .before .before .candidate .result) (c .before .before .before .before .before .before .before .before .before .before .before .before .candidate .ensures) (λ e. apart (c .before .before .saves-to .result) (c .before .before .saves-to .ensures .from e) (not-true _ (c .before .if3 .taken))))
 
--- src/lib.rt:356:1
 returns-4 : tie.Need-returns-4
 returns-4 c = (c .before .before .before .before .before .keeps-rules .ensures .to (not-false _ (c .before .before .before .before .if2 .left)), c .before .saves-to .ensures .to (not-false _ (c .if3 .left)))
 

@@ -6,7 +6,6 @@ use Rattle.load.proofs.read_cell.Lts as lts
 use Rattle.load.proofs.wide.Reads as wide-reads
 use Rattle.load.proofs.words_at.Reads as words-at-reads
 
--- src/lib.rt:74:1
 returns : tie.Need-returns
 returns c = rw (c .before .before .before .wide .ensures .0, c .before .wide2 .ensures .0, c .words-at .ensures)
 

@@ -18,20 +18,16 @@ Inv-loop b n m c cells₀ s₀ cells s = (s ≤ all-cells) × ((t : ℕ) → t <
 abbrev μ-loop : tie.MeasureT-loop
 μ-loop b n m c cells₀ s₀ cells s = all-cells - s
 
--- src/lib.rt:211:5
 loop-holds : tie.Need-loop-holds Inv-loop μ-loop
 loop-holds c = (search needs, λ t h. absurd (omega arith))
 
--- src/lib.rt:212:13
 cell-or-requires : tie.Need-cell-or-requires Inv-loop μ-loop
 cell-or-requires c κs = let P = (c .before .before .before .pre) in let L = (c .before .loop) in (P .0, (P .1 .0, (P .1 .1 .0, (P .1 .1 .1, omega arith))))
 
--- src/lib.rt:211:5
 loop-again : tie.Need-loop-again Inv-loop μ-loop
 loop-again c = let L = (c .before .before .before .before .loop) in let A = (c .before .before .before .before .before .before .args) in
     (search needs, cells-more places (A .b .now) (A .n) (A .m) (L .s) (L .cells) (c .put-cell .last .0) (c .before .before .cell-or .result) (L .inv .1) (omega arith) (c .before .before .cell-or .ensures) (c .put-cell .ensures))
 
--- src/lib.rt:206:1
 returns : tie.Need-returns Inv-loop μ-loop
 returns c = let L = (c .before .loop) in λ t h. L .inv .1 t (omega arith)
 

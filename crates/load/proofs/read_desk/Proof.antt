@@ -10,31 +10,24 @@ use Rattle.load.proofs.read_desk.Reads as reads
 use Rattle.load.proofs.read_desk.Lts as lts
 use Rattle.load.proofs.words_at.Reads as words-at-reads
 
--- src/lib.rt:111:23
 mul-at : tie.Need-mul-at
 mul-at c = search needs
 
--- src/lib.rt:111:23
 add-at : tie.Need-add-at
 add-at c = search needs
 
--- src/lib.rt:111:14
 add-at-2 : tie.Need-add-at-2
 add-at-2 c = search needs
 
--- src/lib.rt:112:9
 words-at-requires : tie.Need-words-at-requires
 words-at-requires c κs = search needs
 
--- src/lib.rt:113:25
 add-words-at : tie.Need-add-words-at
 add-words-at c = search needs
 
--- src/lib.rt:113:9
 words-at-requires-2 : tie.Need-words-at-requires-2
 words-at-requires-2 c κs = search needs
 
--- src/lib.rt:107:1
 returns : tie.Need-returns
 returns c = let i = c .before .before .before .args .i in let e : block-bytes + (block-bytes * i + (payload-at + vector-at)) + vector-bytes places ≡ block-bytes + (block-bytes * i + (payload-at + after-vector places)) = omega arith in rw (c .before .words-at .ensures, c .words-at2 .ensures, e)
 

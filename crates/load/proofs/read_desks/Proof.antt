@@ -20,16 +20,13 @@ Inv-loop b n desks₀ i₀ desks i = (i ≤ places) × ((desks ≡ tab i (deskFo
 abbrev μ-loop : tie.MeasureT-loop
 μ-loop b n desks₀ i₀ desks i = places - i
 
--- src/lib.rt:176:5
 loop-holds : tie.Need-loop-holds Inv-loop μ-loop
 loop-holds c = (search needs, (fill-start _ _, search needs))
 
--- src/lib.rt:176:5
 loop-again : tie.Need-loop-again Inv-loop μ-loop
 loop-again c = let L = (c .before .before .loop) in let g = (c .before .before .before .before .before .args) in
     (search needs, (rw (c .desk-or2 .ensures, L .inv .1 .0) (fill-more (deskFor places (g .b .now) (g .n)) _ desk0 (L .i) (omega (arith, L .inv .1 .1))), L .inv .1 .1))
 
--- src/lib.rt:169:1
 returns : tie.Need-returns Inv-loop μ-loop
 returns c = let L = (c .before .loop) in let e : L .i ≡ places = omega arith in
     L .inv .1 .0 ∙ fill-end _ _ places _ (L .inv .1 .1) (search needs) ∙ rw e

@@ -7,7 +7,6 @@ use Rattle.load.proofs.bytes_at.Reads as bytes-at-reads
 use Rattle.load.proofs.wide.Reads as wide-reads
 use Rattle.load.proofs.words_at.Reads as words-at-reads
 
--- src/lib.rt:88:1
 returns : tie.Need-returns
 returns c = rw (c .before .before .before .before .before .before .wide .ensures .0, c .before .before .before .before .wide2 .ensures .0, c .before .before .wide3 .ensures .0, c .before .words-at .ensures, c .bytes-at .ensures)
 

@@ -10,7 +10,6 @@ use Rattle.load.proofs.read_desks.Reads as read-desks-reads
 use Rattle.load.proofs.read_opens.Reads as read-opens-reads
 use Rattle.load.proofs.size.Reads as size-reads
 
--- src/lib.rt:278:1
 returns : tie.Need-returns
 returns c = record {
   n-is = c .before .before .before .before .before .before .before .before .before .before .size .ensures .0;

@@ -13,15 +13,12 @@ use Rattle.load.proofs.saves_to.Lts as lts
 use Rattle.image.proofs.save_parts.Reads as save-parts-reads
 use Rattle.load.proofs.starts.Reads as starts-reads
 
--- src/lib.rt:326:9
 save-parts-requires : tie.Need-save-parts-requires
 save-parts-requires c κs = let A = (c .before .before .args) in let m = image-most (model (A .core .n) (A .core .m) (A .core .desks) (A .cells .now) (A .opens .now)) (c .before .before .pre .rules) in ((c .before .before .pre), search needs)
 
--- src/lib.rt:328:9
 returns : tie.Need-returns
 returns c = says-no (λ e. c .if1 .taken (sym (ap length e) ∙ sym (c .before .before .save-parts .ensures .size)))
 
--- src/lib.rt:330:5
 starts-requires : tie.Need-starts-requires
 starts-requires c κs = let A = (c .before .before .before .before .before .before .args) in let m = image-most (model (A .core .n) (A .core .m) (A .core .desks) (A .cells .now) (A .opens .now)) (c .before .before .before .before .before .before .pre .rules) in
     let s = c .before .before .before .save-parts .ensures in
@@ -30,7 +27,6 @@ starts-requires c κs = let A = (c .before .before .before .before .before .befo
     let y = c .before .if1 .left in
     omega arith
 
--- src/lib.rt:321:1
 returns-2 : tie.Need-returns-2
 returns-2 c = let A = (c .before .before .before .before .before .before .before .args) in
     let m = image-most (model (A .core .n) (A .core .m) (A .core .desks) (A .cells .now) (A .opens .now)) (c .before .before .before .before .before .before .before .pre .rules) in

@@ -8,11 +8,9 @@ use Rattle.load.proofs.zeros.Reads as reads
 use Rattle.load.proofs.zeros.Lts as lts
 use Rattle.table.proofs.begin.Reads as begin-reads
 
--- src/lib.rt:264:9
 begin-requires : tie.Need-begin-requires
 begin-requires c κs = search needs
 
--- src/lib.rt:261:1
 returns : tie.Need-returns
 unfolding beginTable
 returns c = ap (λ (r : Begun). r .table) (c .before .begin .ensures .is)
