@@ -1,13 +1,9 @@
 // Reads a schedule from standard input and writes the answers.
 ghost use mathlib.Core.Path.{_≡_};
-ghost use mathlib.Core.Option.{none};
-ghost use Prim.Native.Nat.{_≤_};
+ghost use Prim.Native.Nat.{_<_, _≤_};
 ghost use lib.ListN.{length};
-ghost use Rattle.laws.specs.Stores.{Stored};
-ghost use Rattle.laws.specs.Text.{text};
-ghost use Rattle.session.specs.Transcript.{transcriptFrom, transcript};
-ghost use Rattle.replay.specs.Answers.{Answered, Room, Filled, most-answers};
-use answer::LONGEST_ANSWER;
+ghost use Rattle.session.specs.Transcript.{most-text, transcript};
+ghost use Rattle.replay.specs.Answers.{Comes, Filled};
 use clock::PLACES;
 use libc::STDERR_FILENO;
 use libc::STDIN_FILENO;
@@ -20,70 +16,67 @@ use table::OPENS;
 // The most bytes of a schedule.
 const LONGEST_TEXT: usize = 65536;
 
-// The most bytes of answers for each byte of a schedule (`answers-bound`).
-const EACH_BYTE: usize = 5;
-
-// What is read at a time of an input that is too long.
+// What is written, and what is read of an input that is too long, at a time.
 const PART: usize = 16384;
 
-// Room for all answers, and before the last line still for one of any length, which `session::run` asks for.
-const ANSWERS: usize = EACH_BYTE * LONGEST_TEXT + LONGEST_ANSWER;
+// The one place that writes to standard output. It asks that what it is handed is what comes next of all that is printed for the text: from so
+// many bytes, which were handed over before, up to so many.
+fn print(text: &[u8], sent: usize, next: usize, part: &[u8]) -> bool
+    requires { ⌜ Comes (transcript (now text)) sent next (now part) ⌝ }
+{
+    io::write_all(STDOUT_FILENO, part)
+}
 
-// The lines of a text one after the other. As there is room for all answers, one run reaches the end.
-fn lines(text: &[u8], out: &mut [u8]) -> usize
-    requires { ⌜ Room (now text) (now out) ⌝ }
-    ensures { λ r. ⌜ Stored (now (out .entry)) 0 (transcriptFrom none (now (text .entry)) 0) (now (out .exit)) r ⌝ }
+// Nothing is done here: it asks that all that is printed for the text was handed over.
+fn all_sent(text: &[u8], sent: usize)
+    requires { ⌜ sent ≡ length (transcript (now text)) ⌝ }
+{}
+
+// The lines of a text one after the other, each part of the answers written. False where a write failed.
+fn lines(text: &[u8]) -> bool
+    requires { ⌜ length (now text) ≤ most-text ⌝ }
 {
     let mut core = session::start();
     let mut cells = [0u16; PLACES * CELLS * CELL];
     let mut opens = [0u16; OPENS * OPEN];
+    let mut out = [0u8; PART];
     let mut at = 0;
-    let mut len = 0;
+    let mut sent = 0;
     while at < text.len() {
-        let p = session::run(core, &mut cells, &mut opens, text, at, &mut out[len..]);
-        let more = p.len;
+        let p = session::run(core, &mut cells, &mut opens, text, at, &mut out);
+        let len = p.len;
+        let next = sent + len;
+        if !print(text, sent, next, &out[..len]) {
+            return false;
+        }
         core = p.core;
         at = p.at;
-        len += more;
+        sent = next;
     }
-    len
+    all_sent(text, sent);
+    true
 }
 
 // The one line for a text that is too long.
-fn too_long(out: &mut [u8]) -> usize
-    requires { ⌜ most-answers ≤ length (now out) ⌝ }
-    ensures { λ r. ⌜ Stored (now (out .entry)) 0 (text "E 14\n") (now (out .exit)) r ⌝ }
+fn too_long(text: &[u8]) -> bool
+    requires { ⌜ most-text < length (now text) ⌝ }
 {
-    out[0] = b'E';
-    out[1] = b' ';
-    out[2] = b'1';
-    out[3] = b'4';
-    out[4] = b'\n';
-    5
+    let done = print(text, 0, 5, b"E 14\n");
+    all_sent(text, 5);
+    done
 }
 
-// All that is printed for all that was read.
-fn answers(text: &[u8], out: &mut [u8; ANSWERS]) -> usize
-    ensures { λ r. ⌜ Answered (now (text .entry)) (now (out .entry)) r (now (out .exit)) ⌝ }
-{
+// Answers a text on standard output. False where a write failed.
+fn answer(text: &[u8]) -> bool {
     if LONGEST_TEXT < text.len() {
-        return too_long(out);
+        return too_long(text);
     }
-    lines(text, out)
+    lines(text)
 }
 
-// The one place that writes to standard output. It asks that what it is handed is all that is printed for the text.
-fn print(text: &[u8], all: &[u8]) -> bool
-    requires { ⌜ now all ≡ transcript (now text) ⌝ }
-{
-    io::write_all(STDOUT_FILENO, all)
-}
-
-// Answers a text on standard output, and says so where it can't.
+// The same, and says so where it can't.
 fn reply(text: &[u8]) {
-    let mut out = [0u8; ANSWERS];
-    let len = answers(text, &mut out);
-    if !print(text, &out[..len]) {
+    if !answer(text) {
         io::write_all(STDERR_FILENO, b"replay: standard output: write failed\n");
     }
 }
