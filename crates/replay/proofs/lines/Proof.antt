@@ -32,16 +32,16 @@ array-share-prefix-out c =
     let r = c .before .run .ensures (L .inv .0 .session) (L .inv .0 .holds) in
     omega (arith, r .len-is, r .fits, L .inv .1)
 
+print-requires : tie.Need-print-requires Inv-loop μ-loop
+print-requires c κs =
+    let g = c .before .before .before .before .before .before .before .loop .inv .0 in
+    reading-comes g (c .before .before .run .ensures (g .session) (g .holds))
+
 slice-aggregate-print : tie.Need-slice-aggregate-print Inv-loop μ-loop
 slice-aggregate-print c =
     let L = c .before .before .before .before .before .before .before .loop in
     let r = c .before .before .run .ensures (L .inv .0 .session) (L .inv .0 .holds) in
     sym (length-take-le _ _ (omega (arith, r .len-is, r .fits, ap length (r .stored) ∙ length-sets (L .out) 0 (r .lines))))
-
-print-requires : tie.Need-print-requires Inv-loop μ-loop
-print-requires c κs =
-    let g = c .before .before .before .before .before .before .before .loop .inv .0 in
-    reading-comes g (c .before .before .run .ensures (g .session) (g .holds))
 
 loop-less : tie.Need-loop-less Inv-loop μ-loop
 loop-less c =
