@@ -1,11 +1,11 @@
 -- Runs of stores, put together.
-use Prim.Native.Nat.{ℕ, suc, _+_, _-_, _<_, _≤_}
+use Prim.Native.Nat.{ℕ, zero, suc, _+_, _<_, _≤_}
 use mathlib.Core.Path.{_≡_, refl, sym, ap, _∙_}
-use mathlib.Core.List.{List, [], _∷_, _++_, append-assoc, append-nil}
+use mathlib.Core.List.{List, [], _∷_, _++_, append-nil}
 use native.Mathlib.Omega.{arith}
-use native.Mathlib.Nat.{zero-add, add-zero}
-use lib.ListN.{length, set, take, drop, length-append, length-drop, drop-of-length-le}
-use lib.Seq.{sets, set-comm, sets-eq, length-sets, take-all, drop-drop}
+use native.Mathlib.Nat.{add-zero}
+use lib.ListN.{length, set, length-set, length-append}
+use lib.Seq.{sets, set-comm, length-sets}
 
 module _ {A : Type 0} where
   -- one run after another
@@ -75,15 +75,3 @@ module _ {A : Type 0} {begun : List A} {at : ℕ} {all : List A} where
   -- the next part fits, if the whole does
   pub left-room : {out : List A} {p : ℕ} (xs vs : List A) → Left begun at all out p (xs ++ vs) → at + length all ≤ length begun → p + length xs ≤ length out
   left-room xs vs w h = omega (arith, w .next, w .long, length-append xs vs)
-
--- stores at the front of a part that goes to the end are stores into the whole
-pub sets-part : {A : Type 0} (vs l : List A) (n k : ℕ) → k ≡ length l - n → n + length vs ≤ length l → take n l ++ (sets (take k (drop n l)) 0 vs ++ drop k (drop n l)) ≡ sets l n vs
-sets-part {A} vs l n k e h =
-    let part : List A = drop n l in
-    let z : length part ≤ k = omega (arith, length-drop n l) in
-    let front : sets part 0 vs ≡ vs ++ drop (n + length vs) l =
-    sets-eq vs part 0 (omega (arith, length-drop n l)) ∙ ap (λ (x : List A). vs ++ x) (rw (zero-add (length vs)) (drop-drop (length vs) n l)) in
-    ap (λ (x : List A). take n l ++ (sets x 0 vs ++ drop k part)) (take-all k part z)
-    ∙ ap (λ (x : List A). take n l ++ (sets part 0 vs ++ x)) (drop-of-length-le part z)
-    ∙ ap (λ (x : List A). take n l ++ x) (append-nil (sets part 0 vs) ∙ front)
-    ∙ sym (append-assoc (take n l) vs (drop (n + length vs) l)) ∙ sym (sets-eq vs l n h)

@@ -23,8 +23,8 @@ use Rattle.answer.specs.declared.Written.{Written}
 use Rattle.answer.specs.declared.Written.the-variants.{Upto, Short}
 use Rattle.table.specs.declared.Table.{Table}
 use Rattle.session.specs.Session.{Session, Turn, turn}
-use Rattle.session.specs.Transcript.{transcriptFrom, sessionFrom, most-text, transcript}
-use Rattle.session.specs.Laws.{turnAt, from-end, from-line, left-line, transcript-run}
+use Rattle.session.specs.Transcript.{transcriptFrom, sessionFrom}
+use Rattle.session.specs.Laws.{turnAt, from-line, left-line}
 use Rattle.session.specs.Holds.{Holds}
 use Rattle.session.specs.Act.{Turned}
 
@@ -213,23 +213,9 @@ module _ (out : List ℕ) (at : ℕ) (line out′ : List ℕ) (w : Written) (h :
       let b : writtenOf w ≡ writtenOf Short = ap writtenOf q in
       absurd (let z : _≡_ {A = ℕ} 0 1 = cc in omega arith)
 
--- The whole text: a call of the run after another, each part of the buffer printed --
-
+-- the part of the buffer that a run filled
 pub ran-part : {z : Session} {text : List ℕ} {from : ℕ} {out : List ℕ} {t : Table} {at len : ℕ} {out′ : List ℕ}
     (r : Ran z text from out t at len out′) → take len out′ ≡ r .lines
 ran-part {out} {len} {out′} r =
     let f : 0 + length (r .lines) ≤ length out = omega (arith, r .fits) in
     rw (r .len-is, r .stored, sets-eq (r .lines) out 0 f) (take-at (r .lines) (drop (0 + length (r .lines)) out) (length (r .lines)) refl)
-
-pub data Printed (text : List ℕ) : Session → ℕ → List ℕ → Type 0 where
-  done : {z : Session} {at : ℕ} → length text ≤ at → Printed text z at []
-  call : {z : Session} {from : ℕ} {out : List ℕ} {t : Table} {at len : ℕ} {out′ more : List ℕ}
-      (r : Ran z text from out t at len out′) → Printed text (r .session) at more → Printed text z from (take len out′ ++ more)
-
-printed-all : {text : List ℕ} {z : Session} {at : ℕ} {all : List ℕ} → Printed text z at all → all ≡ transcriptFrom z text at
-printed-all {text} {z} {at} (done h) = sym (from-end z text at h)
-printed-all (call {more = more} r p) = ap (λ (x : List ℕ). x ++ more) (ran-part r) ∙ ap (λ (x : List ℕ). r .lines ++ x) (printed-all p) ∙ sym (ran-rest r)
-
--- from no table at place 0 to the end
-pub whole-text : {text all : List ℕ} → length text ≤ most-text → Printed text none 0 all → all ≡ transcript text
-whole-text {text} h p = printed-all p ∙ sym (transcript-run text h)
