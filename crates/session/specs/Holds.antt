@@ -25,6 +25,8 @@ use Rattle.table.specs.Shape.{DesksShape}
 use Rattle.table.specs.Model.{appliedM, appliedVec, applied-at, modelOf, tableOf, tableWith}
 use Rattle.table.specs.Sound.{AllZero, SoundTable}
 use Rattle.table.specs.Begin.{freshDesk, freshTable, fresh-model, zeros-at, place-zeros, unique-zeros}
+use Rattle.rules.specs.Test.{ownAt, owns}
+use Rattle.rules.specs.Box.{own-is}
 use Rattle.session.specs.Session.{Session}
 
 abbrev pub zeroDesks : List Desk
@@ -103,19 +105,9 @@ pub record Owns (own : List ℕ) (ds : List Desk) : Type 0 where
   pub size : length own ≡ places
   pub counts : (u : ℕ) → In places u → place own u ≡ appliedM ds u u
 
--- the code's value for it
-abbrev pub ownAt : List Desk → ℕ → ℕ
-ownAt ds i = getD (getD ds i desk0 .applied) i 0
-
-pub owns-all : (ds : List Desk) → length ds ≡ places → Owns (tab places (ownAt ds)) ds
-owns-all ds e = record {
-  size = length-tab (ownAt ds) places;
-  counts = λ u h.
-      let l : u - 1 < places = omega (arith, h .0, h .1) in
-      place-at (tab places (ownAt ds)) u (h .0)
-      ∙ getD-tab (ownAt ds) places (u - 1) 0 l
-      ∙ sym (ap (λ (f : ℕ → ℕ). f u) (applied-at ds u (h .0, omega (arith, h .1, e))) ∙ place-at (getD ds (u - 1) desk0 .applied) u (h .0));
-}
+pub owns-all : (ds : List Desk) → DesksShape ds → Owns (owns ds) ds
+unfolding owns
+owns-all ds sh = record { size = length-tab (ownAt ds) places; counts = λ u h. own-is ds sh u }
 
 -- a desk stored, and its own count with it
 pub owns-put : {own : List ℕ} {ds : List Desk} (p : ℕ) (d : Desk) → length ds ≡ places → p < places → Owns own ds → Owns (set own p (getD (d .applied) p 0)) (set ds p d)

@@ -51,7 +51,7 @@ onward c = next-place (c .before .before .before .before .before .before .before
 loop-holds : tie.Need-loop-holds Inv-loop μ-loop
 loop-holds c =
     let g = c .before .before .before .before .before .args in
-    (rw (c .owns .ensures) (owns-all (g .core .desks) (c .before .desks-shape .ensures .count)), (refl, (search needs, λ z h. going-start h)))
+    (rw (c .own-counts .ensures) (owns-all (g .core .desks) (c .before .desks-shape .ensures)), (refl, (search needs, λ z h. going-start h)))
 
 turn-requires : tie.Need-turn-requires Inv-loop μ-loop
 turn-requires c κs =

@@ -3,8 +3,8 @@ use native.Mathlib.Omega.{arith}
 use Rattle.clock.specs.Vectors.{places, place-at, place-out}
 use lib.ListN.{length}
 use borrow.Author.Needs.{needs}
-use Rattle.rules.proofs.at_place.Statement.{statement}
-use Rattle.rules.proofs.at_place.Tie as tie
+use Rattle.table.proofs.at_place.Statement.{statement}
+use Rattle.table.proofs.at_place.Tie as tie
 
 returns : tie.Need-returns
 returns c = let e = c .if1 .taken in
