@@ -84,7 +84,8 @@ says-each p n h =
     }
 
 abbrev pub each : ℕ → (ℕ → Test) → Test
-each n f = record { passes = all (λ k. f k .passes) n 1; holds = (k : ℕ) → 1 ≤ k → k ≤ n → f k .holds; says = says-each _ n (λ k. f k .says) }
+each n f =
+    record { passes = all (λ k. f k .passes) n 1; holds = (k : ℕ) → 1 ≤ k → k ≤ n → f k .holds; says = says-each _ n (λ k. f k .says) }
 
 -- of 0 to n - 1
 abbrev pub upto : ℕ → (ℕ → Test) → Test

@@ -98,7 +98,9 @@ module _ (s : State) (z : ZeroPast s) (h : kept s .holds) where
           counts = record { inside = λ i t l. (let g = z .counts i t l in (g .0, (g .1 .0, at-count i t g .0 l))); most = to-most };
           clocks = record {
             below = to-clock;
-            own = λ i. same-or (s .applied i i) 0 (λ e. omega (arith, to-clock i i)) (λ e. at-desk i (z .counts i i (omega arith) .0) .1 .0);
+            own = λ i. same-or (s .applied i i) 0
+                (λ e. omega (arith, to-clock i i))
+                (λ e. at-desk i (z .counts i i (omega arith) .0) .1 .0);
           };
           cell = to-cell;
           open-exactly = λ u k. (
@@ -121,8 +123,7 @@ module _ (s : State) (r : Rules s) where
   from-write u k (some w) e a b =
       let h = r .frame .open-write u k w e in
       let marks : (i : ℕ) → 1 ≤ i → i ≤ most-desks → markAt s u k w i .holds =
-      (λ i l _. (h .marks-in i, (λ g. h .marks-flat i g .1, (λ g. h .marked i (l, g), (λ q t _ _. h .below i q t, r .quiet i u k w e))))) in
-      (
+      (λ i l _. (h .marks-in i, (λ g. h .marks-flat i g .1, (λ g. h .marked i (l, g), (λ q t _ _. h .below i q t, r .quiet i u k w e))))) in (
         r .frame .open-exactly u k .0 (ap (λ (o : Option Open). not (isNone o)) e) .lacks,
         (h .cell, (h .status-in, (h .number, (λ t _ _. h .issued t, marks)))),
       )
@@ -130,11 +131,10 @@ module _ (s : State) (r : Rules s) where
   pub from-rules : kept s .holds
   from-rules =
       let f = r .frame in
-      let desk : (i : ℕ) → 1 ≤ i → i ≤ s .setup .desks → deskAt s i .holds =
-      (λ i _ _. (f .ranges .written i, (f .clocks .own i, λ t _ _. (λ g. f .counts .inside i t g .1 .1, (f .counts .most i t, f .clocks .below i t))))) in
-      (
+      let count : (i t : ℕ) → countAt s i t .holds = (λ i t. (λ g. f .counts .inside i t g .1 .1, (f .counts .most i t, f .clocks .below i t))) in
+      let desk : (i : ℕ) → deskAt s i .holds = (λ i. (f .ranges .written i, (f .clocks .own i, λ t _ _. count i t))) in (
         (f .ranges .desks, (f .ranges .cells, f .ranges .few)),
-        (desk, (λ i _ _ x _ _. from-cell i x (s .cell i x) refl, λ u a b k c d. from-write u k (s .opens u k) refl (a, b) (c, d))),
+        (λ i _ _. desk i, (λ i _ _ x _ _. from-cell i x (s .cell i x) refl, λ u a b k c d. from-write u k (s .opens u k) refl (a, b) (c, d))),
       )
 
 -- of a table that was read

@@ -68,14 +68,13 @@ module _ (whole : Table) (sh : DesksShape (whole .core .desks)) (so : SoundTable
 
     used-from : used n (whole .core .m) (owns ds) os e (openAt os e) .holds
     unfolding used
-    used-from =
-        (
-          (due .writer .1, (right .cell, right .status-in)),
-          (
-            (due .number .0, (λ t _ _. omega (arith, right .issued t, own-is ds sh t), lacking)),
-            λ j l hj. lone os e (openAt os e .writer) (number (openAt os e)) (so .unique) h own j hj (λ q. (omega arith)),
-          ),
-        )
+    used-from = (
+      (due .writer .1, (right .cell, right .status-in)),
+      (
+        (due .number .0, (λ t _ _. omega (arith, right .issued t, own-is ds sh t), lacking)),
+        λ j l hj. lone os e (openAt os e .writer) (number (openAt os e)) (so .unique) h own j hj (λ q. (omega arith)),
+      ),
+    )
 
     -- its mark at desk i
     vector-flat : Flat n (place (openAt os e .vector))
@@ -83,20 +82,19 @@ module _ (whole : Table) (sh : DesksShape (whole .core .desks)) (so : SoundTable
 
     mark-from : (i : ℕ) → mark n (getD ds i desk0 .applied) i (openAt os e) .holds
     unfolding appliedM mark
-    mark-from i _ =
-        (
-          λ l. (
-            λ q. (let z = right .marked (suc i) (omega arith, l) .1 q in (z, λ t _ _. right .below (suc i) z t)),
-            λ ne. (
-              λ _. tt,
-              λ nz.
-                  let two : p ≡ done → ⊥ = (λ q. ne (right .marked (suc i) (omega arith, l) .0 q)) in
-                  let z : p ≡ held = omega (arith, right .marks-in (suc i)) in
-                  (z, narrow ∙ so .rules .quiet (suc i) u (number (openAt os e)) (openM (openAt os e)) at-name z),
-            ),
-          ),
-          λ ne. same-or p 0 (λ q. q) (λ q. absurd (ne (right .marks-flat (suc i) (omega arith) .1))),
-        )
+    mark-from i _ = (
+      λ l. (
+        λ q. (let z = right .marked (suc i) (omega arith, l) .1 q in (z, λ t _ _. right .below (suc i) z t)),
+        λ ne. (
+          λ _. tt,
+          λ nz.
+              let two : p ≡ done → ⊥ = (λ q. ne (right .marked (suc i) (omega arith, l) .0 q)) in
+              let z : p ≡ held = omega (arith, right .marks-in (suc i)) in
+              (z, narrow ∙ so .rules .quiet (suc i) u (number (openAt os e)) (openM (openAt os e)) at-name z),
+        ),
+      ),
+      λ ne. same-or p 0 (λ q. q) (λ q. absurd (ne (right .marks-flat (suc i) (omega arith) .1))),
+    )
       where
         p : ℕ
         p = getD (openAt os e .marks) i 0
@@ -131,8 +129,7 @@ module _ (whole : Table) (sh : DesksShape (whole .core .desks)) (so : SoundTable
   counts-from : (i : ℕ) → counts n (owns ds) (gaps (owns ds) os) i (getD ds i desk0) .holds
   unfolding appliedM clockM
   counts-from i =
-      let f = so .rules .frame in
-      (
+      let f = so .rules .frame in (
         λ t _ _. omega (arith, f .counts .most (suc i) t, own-is ds sh t),
         (
           λ t _ _. f .clocks .below (suc i) t,
@@ -140,27 +137,28 @@ module _ (whole : Table) (sh : DesksShape (whole .core .desks)) (so : SoundTable
             f .clocks .own (suc i),
             (
               λ l t _ _. gap-from i l t,
-              λ ne t _ _. same-or (place (getD ds i desk0 .applied) t) 0 (λ q. q) (λ q. absurd (ne (f .counts .inside (suc i) t (omega arith) .0 .1))),
+              λ ne t _ _. same-or (place (getD ds i desk0 .applied) t) 0
+                  (λ q. q)
+                  (λ q. absurd (ne (f .counts .inside (suc i) t (omega arith) .0 .1))),
             ),
           ),
         ),
       )
 
-  cell-from : (i x : ℕ) → i < places → x < desk-cells → cell n (whole .core .m) (getD ds i desk0 .applied) x (cellAt (whole .cells) (i * desk-cells + x)) .holds
+  cell-from : (i x : ℕ) → i < places → x < desk-cells
+      → cell n (whole .core .m) (getD ds i desk0 .applied) x (cellAt (whole .cells) (i * desk-cells + x)) .holds
   unfolding appliedM cell
-  cell-from i x hi hx =
-      (
-        λ e. (let z = so .blanks (i * desk-cells + x) (omega arith) e in (z .status, λ t _ _. z .vector t)),
-        λ ne.
-            let c = cellAt (whole .cells) (i * desk-cells + x) in
-            let g = so .rules .frame .cell (suc i) (suc x) (c .status) (c .writer) (place (c .vector)) (at-set (whole .cells) i x hi hx ne) in
-            (g .cell .1, (g .writer-in .1, (g .status-in, (g .first, λ t _ _. g .below t)))),
-      )
+  cell-from i x hi hx = (
+    λ e. (let z = so .blanks (i * desk-cells + x) (omega arith) e in (z .status, λ t _ _. z .vector t)),
+    λ ne.
+        let c = cellAt (whole .cells) (i * desk-cells + x) in
+        let g = so .rules .frame .cell (suc i) (suc x) (c .status) (c .writer) (place (c .vector)) (at-set (whole .cells) i x hi hx ne) in
+        (g .cell .1, (g .writer-in .1, (g .status-in, (g .first, λ t _ _. g .below t)))),
+  )
 
   pub from-sound : keepsTest whole .holds
   unfolding ownTest allEntries entry allDesks allCells allMarks mark
-  from-sound =
-      (
-        (so .rules .frame .ranges .desks, so .rules .frame .ranges .cells),
-        (used-from, λ i h. (counts-from i, (λ x. cell-from i x h, λ e l f. mark-from e l f i f))),
-      )
+  from-sound = (
+    (so .rules .frame .ranges .desks, so .rules .frame .ranges .cells),
+    (used-from, λ i h. (counts-from i, (λ x. cell-from i x h, λ e l f. mark-from e l f i f))),
+  )

@@ -80,7 +80,9 @@ nought v =
     record {
       passes = coversAll noughts v;
       holds = (t : ℕ) → 1 ≤ t → t ≤ places → place v t ≡ 0;
-      says = says-as _ (says-covers noughts v) (λ h t a b. omega (arith, h t a b, zeros-at (suc places) t)) (λ h t a b. omega (arith, h t a b));
+      says = says-as _ (says-covers noughts v)
+          (λ h t a b. omega (arith, h t a b, zeros-at (suc places) t))
+          (λ h t a b. omega (arith, h t a b));
     }
 
 -- entries --
@@ -94,7 +96,8 @@ unfolding lastOf
 says-last os u k e =
     record {
       to = λ q j l g. not-true _ (all-at (λ j. not (namedAt os u k j)) (entries - (e + 1)) (e + 1) q j (omega arith) (omega arith));
-      from = λ f. all-true (λ j. not (namedAt os u k j)) (entries - (e + 1)) (e + 1) (λ j l g. says-false _ .from (f j (omega arith) (omega arith)));
+      from = λ f. all-true (λ j. not (namedAt os u k j)) (entries - (e + 1)) (e + 1)
+          (λ j l g. says-false _ .from (f j (omega arith) (omega arith)));
     }
 
 abbrev pub last : List ℕ → ℕ → ℕ → ℕ → Test

@@ -190,7 +190,8 @@ module _ (whole : Table) (sh : DesksShape (whole .core .desks)) (fit : Fit (whol
     number-in = let p = flat (o .writer) first in (first, issued (o .writer) (p .0) (p .1))
 
   abbrev OpenSaid : ℕ → ℕ → machine.Open → Type 0
-  OpenSaid u k w = (In n u × (In (written s u) k × (Flat most-desks (w .vector) × Flat most-desks (w .marks)))) × (Lacks s u k × keeps.writeAt s u k w .holds)
+  OpenSaid u k w =
+      (In n u × (In (written s u) k × (Flat most-desks (w .vector) × Flat most-desks (w .marks)))) × (Lacks s u k × keeps.writeAt s u k w .holds)
 
   opens-good : (u k : ℕ) (w : machine.Open) → s .opens u k ≡ some w → OpenSaid u k w
   opens-good =
@@ -234,8 +235,8 @@ module _ (whole : Table) (sh : DesksShape (whole .core .desks)) (fit : Fit (whol
   desk-good zero a b = absurd (omega arith)
   desk-good (suc i) a b =
       let k = counts-of i (omega (arith, sizes-in .0 .1)) in
-      let most : (t : ℕ) → 1 ≤ t → t ≤ places → s .applied (suc i) t ≤ written s t = (λ t c d. omega (arith, k .0 t c d, own-is ds sh t)) in
-      (
+      let most : (t : ℕ) → 1 ≤ t → t ≤ places → s .applied (suc i) t ≤ written s t =
+      (λ t c d. omega (arith, k .0 t c d, own-is ds sh t)) in (
         omega (arith, fit (suc i), own-is ds sh (suc i)),
         (k .1 .1 .0, λ t c d. (λ l. counts-in t t (omega (arith, most t c d)) .0 .1, (most t c d, k .1 .0 t c d))),
       )

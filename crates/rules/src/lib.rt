@@ -142,7 +142,14 @@ fn ranges_ok(n: usize, m: usize, o: Open) -> bool
 }
 
 // Its number is k.
-fn due_ok(n: usize, own: [u16; PLACES], opens: &[u16; OPENS * OPEN], e: usize, o: Open, k: u16) -> bool
+fn due_ok(
+    n: usize,
+    own: [u16; PLACES],
+    opens: &[u16; OPENS * OPEN],
+    e: usize,
+    o: Open,
+    k: u16,
+) -> bool
     requires { ⌜ (n ≤ places) × (e < entries) ⌝ }
     requires { ⌜ (o ≡ openAt (now opens) e) × (k ≡ number o) ⌝ }
     ensures { λ r. ⌜ r ≡ due n own o .passes ⌝ }
@@ -204,7 +211,11 @@ fn entries_ok(n: usize, m: usize, own: [u16; PLACES], opens: &[u16; OPENS * OPEN
 fn live_ok(n: usize, a: [u16; PLACES], gap: [u16; PLACES], i: usize) -> bool
     ensures { λ r. ⌜ r ≡ live n a gap i .passes ⌝ }
 {
-    if lt(i, n) { clock::covers(a, gap) } else { zero(a) }
+    if lt(i, n) {
+        clock::covers(a, gap)
+    } else {
+        zero(a)
+    }
 }
 
 // Desk i, from 0: its counts and its clock.
@@ -215,7 +226,10 @@ fn counts_ok(n: usize, own: [u16; PLACES], gap: [u16; PLACES], i: usize, d: Desk
     let a = d.applied;
     let clock = d.clock;
     let k = clock.at;
-    let below = both(clock::covers(a, k), both(same(k[i], a[i]), live_ok(n, a, gap, i)));
+    let below = both(
+        clock::covers(a, k),
+        both(same(k[i], a[i]), live_ok(n, a, gap, i)),
+    );
     both(clock::covers(own, a), below)
 }
 
@@ -241,7 +255,11 @@ fn blank_ok(c: Cell) -> bool
 fn cell_ok(n: usize, m: usize, a: [u16; PLACES], x: usize, c: Cell) -> bool
     ensures { λ r. ⌜ r ≡ cell n m a x c .passes ⌝ }
 {
-    if same(c.writer, 0) { blank_ok(c) } else { set_ok(n, m, a, x, c) }
+    if same(c.writer, 0) {
+        blank_ok(c)
+    } else {
+        set_ok(n, m, a, x, c)
+    }
 }
 
 fn cells_ok(
@@ -270,7 +288,11 @@ fn wait_ok(a: [u16; PLACES], p: u16, o: Open) -> bool
     ensures { λ r. ⌜ r ≡ waits a p o .passes ⌝ }
 {
     let v = o.vector;
-    if same(p, 0) { true } else { both(same(p, 1), !clock::ready(a, v, table::wide(o.writer))) }
+    if same(p, 0) {
+        true
+    } else {
+        both(same(p, 1), !clock::ready(a, v, table::wide(o.writer)))
+    }
 }
 
 fn mark_live(a: [u16; PLACES], p: u16, o: Open) -> bool
@@ -294,7 +316,11 @@ fn mark_ok(n: usize, a: [u16; PLACES], i: usize, o: Open) -> bool
     if same(o.writer, 0) {
         return true;
     }
-    if lt(i, n) { mark_live(a, p, o) } else { same(p, 0) }
+    if lt(i, n) {
+        mark_live(a, p, o)
+    } else {
+        same(p, 0)
+    }
 }
 
 fn marks_ok(n: usize, a: [u16; PLACES], i: usize, opens: &[u16; OPENS * OPEN]) -> bool
@@ -326,7 +352,10 @@ fn desk_ok(
     ensures { λ r. ⌜ r ≡ desk n m own gap (now (cells .entry)) (now (opens .entry)) i d .passes ⌝ }
 {
     let a = d.applied;
-    both(counts_ok(n, own, gap, i, d), both(cells_ok(n, m, a, i, cells), marks_ok(n, a, i, opens)))
+    both(
+        counts_ok(n, own, gap, i, d),
+        both(cells_ok(n, m, a, i, cells), marks_ok(n, a, i, opens)),
+    )
 }
 
 fn desks_ok(

@@ -81,11 +81,16 @@ pub begun-holds : (n m : ℕ) (t : Table) → In most-desks n → In most-cells 
     → Holds (tableOf n m (t .core .desks) (t .cells) (t .opens)) (some (fresh n m))
 begun-holds n m t hn hm z = rw z (record {
   model-is = zero-model n m;
-  sound = record { rules = rw (zero-model n m) (fresh-rules n m hn hm); blanks = λ s h e. zero-cell s; unique = unique-zeros (entries * open-width) };
+  sound = record {
+    rules = rw (zero-model n m) (fresh-rules n m hn hm);
+    blanks = λ s h e. zero-cell s;
+    unique = unique-zeros (entries * open-width);
+  };
 })
 
 -- a desk stored, and its own count with it
-pub owns-put : (ds : List Desk) (p : ℕ) (d : Desk) → length ds ≡ places → p < places → owns (set ds p d) ≡ set (owns ds) p (getD (d .applied) p 0)
+pub owns-put : (ds : List Desk) (p : ℕ) (d : Desk) → length ds ≡ places → p < places
+    → owns (set ds p d) ≡ set (owns ds) p (getD (d .applied) p 0)
 unfolding owns
 owns-put ds p d e h =
     tab-one places (ownAt ds) (ownAt (set ds p d)) p (getD (d .applied) p 0)

@@ -179,7 +179,7 @@ module _ {z : Session} {text : List ℕ} {from : ℕ} {out : List ℕ} {t : Tabl
       record { session = g .session; lines = g .lines; passed = g .passed; stops = h; holds = g .holds; stored = g .stored; len-is = g .len-is; fits = g .fits }
 
 -- the loop of the code: its own counts, and what holds of any session that the table t was when it began
-pub record InLoop (t : Table) (text : List ℕ) (from : ℕ) (out : List ℕ) (own : List ℕ) (t′ : Table) (at len : ℕ) (out′ : List ℕ) : Type 0 where
+pub record InLoop (t : Table) (text : List ℕ) (from : ℕ) (out own : List ℕ) (t′ : Table) (at len : ℕ) (out′ : List ℕ) : Type 0 where
   pub own-is : own ≡ owns (t′ .core .desks)
   pub long : length out′ ≡ length out
   pub room : len ≤ length out

@@ -9,7 +9,8 @@ use Rattle.rules.proofs.cells_ok.Statement.{statement}
 use Rattle.rules.proofs.cells_ok.Tie as tie
 
 abbrev Inv-loop : tie.InvT-loop
-Inv-loop n m a i cells x₀ x = Rest (λ y. cell n m a y (cellAt cells (i * desk-cells + y)) .passes) desk-cells (allCells n m a i cells .passes) x
+Inv-loop n m a i cells x₀ x =
+    Rest (λ y. cell n m a y (cellAt cells (i * desk-cells + y)) .passes) desk-cells (allCells n m a i cells .passes) x
 
 abbrev μ-loop : tie.MeasureT-loop
 μ-loop n m a i cells x₀ x = desk-cells - x
@@ -19,10 +20,12 @@ unfolding allCells
 loop-holds c = search needs
 
 returns : tie.Need-returns Inv-loop μ-loop
-returns c = rest-fails (c .before .before .before .before .loop .inv) (search needs) (rw (← c .before .before .cell-at .ensures) (sym (c .before .cell-ok .ensures) ∙ not-true _ (c .if1 .taken)))
+returns c = rest-fails (c .before .before .before .before .loop .inv) (search needs)
+    (rw (← c .before .before .cell-at .ensures) (sym (c .before .cell-ok .ensures) ∙ not-true _ (c .if1 .taken)))
 
 loop-again : tie.Need-loop-again Inv-loop μ-loop
-loop-again c = rest-next (c .before .before .before .before .loop .inv) (search needs) (rw (← c .before .before .cell-at .ensures) (sym (c .before .cell-ok .ensures) ∙ not-false _ (c .if1 .left)))
+loop-again c = rest-next (c .before .before .before .before .loop .inv) (search needs)
+    (rw (← c .before .before .cell-at .ensures) (sym (c .before .cell-ok .ensures) ∙ not-false _ (c .if1 .left)))
 
 returns-2 : tie.Need-returns-2 Inv-loop μ-loop
 returns-2 c = rest-end (c .before .loop .inv) (search needs)

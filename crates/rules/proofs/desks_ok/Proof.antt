@@ -11,7 +11,8 @@ use Rattle.rules.proofs.desks_ok.Statement.{statement}
 use Rattle.rules.proofs.desks_ok.Tie as tie
 
 abbrev Inv-loop : tie.InvT-loop
-Inv-loop n m own gap cells opens desks i₀ i = Rest (λ j. desk n m own gap cells opens j (getD desks j desk0) .passes) places (allDesks n m own gap cells opens desks .passes) i
+Inv-loop n m own gap cells opens desks i₀ i =
+    Rest (λ j. desk n m own gap cells opens j (getD desks j desk0) .passes) places (allDesks n m own gap cells opens desks .passes) i
 
 abbrev μ-loop : tie.MeasureT-loop
 μ-loop n m own gap cells opens desks i₀ i = places - i
@@ -21,10 +22,12 @@ unfolding allDesks
 loop-holds c = search needs
 
 returns : tie.Need-returns Inv-loop μ-loop
-returns c = rest-fails (c .before .before .before .before .loop .inv) (search needs) (sym (c .before .desk-ok .ensures) ∙ not-true _ (c .if1 .taken))
+returns c = rest-fails (c .before .before .before .before .loop .inv) (search needs)
+    (sym (c .before .desk-ok .ensures) ∙ not-true _ (c .if1 .taken))
 
 loop-again : tie.Need-loop-again Inv-loop μ-loop
-loop-again c = rest-next (c .before .before .before .before .loop .inv) (search needs) (sym (c .before .desk-ok .ensures) ∙ not-false _ (c .if1 .left))
+loop-again c = rest-next (c .before .before .before .before .loop .inv) (search needs)
+    (sym (c .before .desk-ok .ensures) ∙ not-false _ (c .if1 .left))
 
 returns-2 : tie.Need-returns-2 Inv-loop μ-loop
 returns-2 c = rest-end (c .before .loop .inv) (search needs)

@@ -9,7 +9,8 @@ use Rattle.rules.proofs.entries_ok.Statement.{statement}
 use Rattle.rules.proofs.entries_ok.Tie as tie
 
 abbrev Inv-loop : tie.InvT-loop
-Inv-loop n m own opens e₀ e = Rest (λ f. entry n m own opens f .passes) entries (allEntries n m own opens .passes) e
+Inv-loop n m own opens e₀ e =
+    Rest (λ f. entry n m own opens f .passes) entries (allEntries n m own opens .passes) e
 
 abbrev μ-loop : tie.MeasureT-loop
 μ-loop n m own opens e₀ e = entries - e
@@ -19,10 +20,12 @@ unfolding allEntries
 loop-holds c = search needs
 
 returns : tie.Need-returns Inv-loop μ-loop
-returns c = rest-fails (c .before .before .before .loop .inv) (search needs) (sym (c .before .entry-ok .ensures) ∙ not-true _ (c .if1 .taken))
+returns c = rest-fails (c .before .before .before .loop .inv) (search needs)
+    (sym (c .before .entry-ok .ensures) ∙ not-true _ (c .if1 .taken))
 
 loop-again : tie.Need-loop-again Inv-loop μ-loop
-loop-again c = rest-next (c .before .before .before .loop .inv) (search needs) (sym (c .before .entry-ok .ensures) ∙ not-false _ (c .if1 .left))
+loop-again c = rest-next (c .before .before .before .loop .inv) (search needs)
+    (sym (c .before .entry-ok .ensures) ∙ not-false _ (c .if1 .left))
 
 returns-2 : tie.Need-returns-2 Inv-loop μ-loop
 returns-2 c = rest-end (c .before .loop .inv) (search needs)

@@ -21,7 +21,8 @@ loop-holds c = filled-start (search needs)
 loop-again : tie.Need-loop-again Inv-loop μ-loop
 loop-again c = let L = c .before .before .loop in
     let g = c .before .before .before .args in
-    rw (c .gap .ensures ∙ ap (λ (u : ℕ). gapOf (has (g .opens .now) u) (getD (g .t1) (L .t) 0)) (add-one (L .t))) (filled-more 0 (L .inv) (search needs))
+    let e = c .gap .ensures ∙ ap (λ (u : ℕ). gapOf (has (g .opens .now) u) (getD (g .t1) (L .t) 0)) (add-one (L .t)) in
+    rw e (filled-more 0 (L .inv) (search needs))
 
 returns : tie.Need-returns Inv-loop μ-loop
 unfolding gaps

@@ -7,7 +7,8 @@ use Rattle.rules.proofs.mark_live.Statement.{statement}
 use Rattle.rules.proofs.mark_live.Tie as tie
 
 -- the number against the count, as the code has them
-known : (c : tie.After-le) → let g = c .before .before .before .before .before .before .before .args in leb (number (g .o)) (place (g .a) (g .o .writer)) ≡ c .le .result
+known : (c : tie.After-le)
+    → let g = c .before .before .before .before .before .before .before .args in leb (number (g .o)) (place (g .a) (g .o .writer)) ≡ c .le .result
 known c = cc
 
 returns : tie.Need-returns

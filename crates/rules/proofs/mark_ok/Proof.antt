@@ -10,11 +10,13 @@ returns c = rw (sym (c .before .same .ensures) ∙ c .if1 .taken)
 
 returns-2 : tie.Need-returns-2
 unfolding mark
-returns-2 c = rw (sym (c .before .before .before .before .same .ensures) ∙ c .before .before .before .if1 .left, sym (c .before .before .lt .ensures) ∙ c .before .if2 .taken) (c .mark-live .ensures)
+returns-2 c = let e = c .before .before .before in
+    rw (sym (e .before .same .ensures) ∙ e .if1 .left, sym (c .before .before .lt .ensures) ∙ c .before .if2 .taken) (c .mark-live .ensures)
 
 returns-3 : tie.Need-returns-3
 unfolding mark
-returns-3 c = rw (sym (c .before .before .before .before .same .ensures) ∙ c .before .before .before .if1 .left, sym (c .before .before .lt .ensures) ∙ c .before .if2 .left) (c .same2 .ensures)
+returns-3 c = let e = c .before .before .before in
+    rw (sym (e .before .same .ensures) ∙ e .if1 .left, sym (c .before .before .lt .ensures) ∙ c .before .if2 .left) (c .same2 .ensures)
 
 pub mark-ok-spec : {M : Type 1} → statement M
 mark-ok-spec =

@@ -43,7 +43,9 @@ seat-is c = c .seat .ensures .0 ∙ ap seatOf (c .before .actor .ensures)
 seated : (c : tie.After-opens-size Inv-loop μ-loop) (z : Session)
     → let L = read c .before .before .before .loop in
     Holds (tableOf (L .n) (L .m) (L .desks) (L .cells) (L .opens)) z
-    → Seated (tableOf (L .n) (L .m) (L .desks) (L .cells) (L .opens)) (L .own) (actor (c .before .before .before .before .before .before .before .said .result)) (getD (L .desks) (c .before .before .before .before .before .seat .result) desk0) z
+    → Seated (tableOf (L .n) (L .m) (L .desks) (L .cells) (L .opens)) (L .own)
+    (actor (c .before .before .before .before .before .before .before .said .result))
+    (getD (L .desks) (c .before .before .before .before .before .seat .result) desk0) z
 seated c z h = let L = read c .before .before .before .loop in record {
   holds = h;
   own-is = L .inv .own-is;
@@ -54,14 +56,16 @@ seated c z h = let L = read c .before .before .before .loop in record {
 }
 
 -- the line is the text's
-line-is : (c : tie.After-first-line Inv-loop μ-loop) → c .first-line .result .now ≡ lineAt (textOf c) (c .before .before .before .loop .place)
+line-is : (c : tie.After-first-line Inv-loop μ-loop)
+    → c .first-line .result .now ≡ lineAt (textOf c) (c .before .before .before .loop .place)
 line-is c = c .first-line .ensures .0
 
 -- it begins within the text
 begins-in : (c : tie.After-first-line Inv-loop μ-loop) → c .before .before .before .loop .place < length (textOf c)
 begins-in c = c .before .before .loop-test .taken
 
-onward : (c : tie.After-behind Inv-loop μ-loop) → let r = read (looked (c .before .before .before)) in c .behind .result ≡ nextAt (textOf r) (r .before .before .before .loop .place)
+onward : (c : tie.After-behind Inv-loop μ-loop)
+    → let r = read (looked (c .before .before .before)) in c .behind .result ≡ nextAt (textOf r) (r .before .before .before .loop .place)
 onward c =
     let r = read (looked (c .before .before .before)) in
     next-place (textOf r) (r .before .before .before .loop .place) (omega (arith, begins-in r)) (line-is r) refl (c .behind .ensures)
@@ -75,8 +79,7 @@ turn-requires c κs =
     let r = read q in
     let L = r .before .before .before .loop in
     let p = r .before .before .before .before .before .before .before .before .before .pre in
-    let g = L .inv .going (p .session) (p .holds) in
-    (
+    let g = L .inv .going (p .session) (p .holds) in (
       q .before .before .before .before .before .before .before .said .ensures .few,
       record { desks = L .desks; session = g .session; seated = seated q (g .session) (g .holds) },
     )
@@ -102,15 +105,17 @@ loop-again c =
     let t = c .before .before .before .before .before .before .before .before .turn in
     let i = q .before .before .before .before .before in
     let room = rw (L .inv .long) at (w .1) in
+    let count = q .before .before .before .before .desks-shape2 .ensures .count in
     record {
-      own-is = rw (L .inv .own-is) (sym (owns-put (L .desks) (i .seat .result) (t .result .desk) (q .before .before .before .before .desks-shape2 .ensures .count) (i .seat .ensures .1)));
+      own-is = rw (L .inv .own-is) (sym (owns-put (L .desks) (i .seat .result) (t .result .desk) count (i .seat .ensures .1)));
       long = stored-long (w .0) ∙ L .inv .long;
       room = room;
       going = λ z hz.
           let g = L .inv .going z hz in
           let said = q .before .before .before .before .before .before .before .said .ensures .is in
+          let turned = t .ensures (L .desks) (g .session) (seated q (g .session) (g .holds)) in
           rw (seat-is i)
-          (going-on g _ (begins-in r) (omega (arith, r .before .if1 .left, L .inv .long, L .inv .room)) (t .ensures (L .desks) (g .session) (seated q (g .session) (g .holds)))
+          (going-on g _ (begins-in r) (omega (arith, r .before .if1 .left, L .inv .long, L .inv .room)) turned
           (said ∙ said-is _ _ (omega (arith, begins-in r)) (line-is r) refl refl) (w .0) room (onward c));
     }
 
