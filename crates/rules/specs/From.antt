@@ -146,14 +146,14 @@ module _ (whole : Table) (sh : DesksShape (whole .core .desks)) (so : SoundTable
       )
 
   cell-from : (i x : ℕ) → i < places → x < desk-cells
-      → cell n (whole .core .m) (getD ds i desk0 .applied) x (cellAt (whole .cells) (i * desk-cells + x)) .holds
+      → cell (whole .core .m) (getD ds i desk0 .applied) x (cellAt (whole .cells) (i * desk-cells + x)) .holds
   unfolding appliedM cell
   cell-from i x hi hx = (
     λ e. (let z = so .blanks (i * desk-cells + x) (omega arith) e in (z .status, λ t _ _. z .vector t)),
     λ ne.
         let c = cellAt (whole .cells) (i * desk-cells + x) in
         let g = so .rules .frame .cell (suc i) (suc x) (c .status) (c .writer) (place (c .vector)) (at-set (whole .cells) i x hi hx ne) in
-        (g .cell .1, (g .writer-in .1, (g .status-in, (g .first, λ t _ _. g .below t)))),
+        (g .cell .1, (g .status-in, (g .first, λ t _ _. g .below t))),
   )
 
   pub from-sound : keepsTest whole .holds

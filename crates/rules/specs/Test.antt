@@ -133,23 +133,19 @@ counts n own gap i d =
     (both (eq (getD (d .clock .at) i 0) (getD (d .applied) i 0))
     (live n (d .applied) gap i)))
 
--- cell x of a desk with the counts a
-abbrev pub setCell : ℕ → ℕ → List ℕ → ℕ → Cell → Test
-setCell n m a x c =
-    both (lt x m)
-    (both (le (c .writer) n)
-    (both (le (c .status) most-status)
-    (both (le 1 (place (c .vector) (c .writer)))
-    (covered a (c .vector)))))
+-- cell x of a desk with the counts a (its writer is a desk: the vector has a count there, and the counts past n are zero)
+abbrev pub setCell : ℕ → List ℕ → ℕ → Cell → Test
+setCell m a x c =
+    both (lt x m) (both (le (c .status) most-status) (both (le 1 (place (c .vector) (c .writer))) (covered a (c .vector))))
 
 abbrev pub blankCell : Cell → Test
 blankCell c = both (eq (c .status) 0) (nought (c .vector))
 
-unfoldable pub cell : ℕ → ℕ → List ℕ → ℕ → Cell → Test
-cell n m a x c = choice (eq (c .writer) 0) (blankCell c) (setCell n m a x c)
+unfoldable pub cell : ℕ → List ℕ → ℕ → Cell → Test
+cell m a x c = choice (eq (c .writer) 0) (blankCell c) (setCell m a x c)
 
-unfoldable pub allCells : ℕ → ℕ → List ℕ → ℕ → List ℕ → Test
-allCells n m a i cs = upto desk-cells (λ x. cell n m a x (cellAt cs (i * desk-cells + x)))
+unfoldable pub allCells : ℕ → List ℕ → ℕ → List ℕ → Test
+allCells m a i cs = upto desk-cells (λ x. cell m a x (cellAt cs (i * desk-cells + x)))
 
 -- the mark p at a desk with the counts a: of a write that it has not applied; of any
 abbrev pub waits : List ℕ → ℕ → Open → Test
@@ -168,7 +164,7 @@ unfoldable pub allMarks : ℕ → List ℕ → ℕ → List ℕ → Test
 allMarks n a i os = upto entries (λ e. mark n a i (openAt os e))
 
 abbrev pub desk : ℕ → ℕ → List ℕ → List ℕ → List ℕ → List ℕ → ℕ → Desk → Test
-desk n m own gap cs os i d = both (counts n own gap i d) (both (allCells n m (d .applied) i cs) (allMarks n (d .applied) i os))
+desk n m own gap cs os i d = both (counts n own gap i d) (both (allCells m (d .applied) i cs) (allMarks n (d .applied) i os))
 
 unfoldable pub allDesks : ℕ → ℕ → List ℕ → List ℕ → List ℕ → List ℕ → List Desk → Test
 allDesks n m own gap cs os ds = upto places (λ i. desk n m own gap cs os i (getD ds i desk0))

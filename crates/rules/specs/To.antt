@@ -74,7 +74,7 @@ module _ (whole : Table) (sh : DesksShape (whole .core .desks)) (fit : Fit (whol
   unfolding ownTest allDesks
   counts-of i b = ok .1 .1 i b .0
 
-  cell-of : (i x : ℕ) → i < places → x < desk-cells → cell n m (getD ds i desk0 .applied) x (cellAt cs (i * desk-cells + x)) .holds
+  cell-of : (i x : ℕ) → i < places → x < desk-cells → cell m (getD ds i desk0 .applied) x (cellAt cs (i * desk-cells + x)) .holds
   unfolding ownTest allDesks allCells
   cell-of i x b = ok .1 .1 i b .1 .0 x
 
@@ -112,14 +112,14 @@ module _ (whole : Table) (sh : DesksShape (whole .core .desks)) (fit : Fit (whol
       let row = i * desk-cells + x in
       let u = cellAt cs row .writer in
       let g = cell-of i x hi hx .1 isSet in
-      let first = g .1 .1 .1 .0 in
-      let below = g .1 .1 .1 .1 in
+      let first = g .1 .1 .0 in
+      let below = g .1 .1 .1 in
       let flat = flat-place (cellAt cs row .vector) (full-cellAt cs row .vector) in
       let p = flat u first in
       let b = below u (p .0) (p .1) in
       let d = counts-in (suc i) u (omega (arith, first, b)) in
       let w = counts-in u u (omega (arith, first, b, own-is ds sh u, counts-of i hi .0 u (p .0) (p .1))) in
-      (d .0, ((omega arith, g .0), (flat, (g .1 .1 .0, (w .0, (first, below))))))
+      (d .0, ((omega arith, g .0), (flat, (g .1 .0, (w .0, (first, below))))))
 
   set-good : (i x v u : ℕ) (w : Vec) → s .cell i x ≡ set v u w → SetSaid i x v u w
   set-good = set-each cs SetSaid row-good

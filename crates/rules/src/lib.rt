@@ -234,15 +234,13 @@ fn counts_ok(n: usize, own: [u16; PLACES], gap: [u16; PLACES], i: usize, d: Desk
 }
 
 // Cell x, from 0, of a desk with the counts a.
-fn set_ok(n: usize, m: usize, a: [u16; PLACES], x: usize, c: Cell) -> bool
-    ensures { λ r. ⌜ r ≡ setCell n m a x c .passes ⌝ }
+fn set_ok(m: usize, a: [u16; PLACES], x: usize, c: Cell) -> bool
+    ensures { λ r. ⌜ r ≡ setCell m a x c .passes ⌝ }
 {
-    let w = table::wide(c.writer);
     let v = c.vector;
-    let first = table::wide(table::at_place(v, w));
+    let first = table::wide(table::at_place(v, table::wide(c.writer)));
     let vector = both(le(1, first), clock::covers(a, v));
-    let status = both(le(table::wide(c.status), 2), vector);
-    both(lt(x, m), both(le(w, n), status))
+    both(lt(x, m), both(le(table::wide(c.status), 2), vector))
 }
 
 fn blank_ok(c: Cell) -> bool
@@ -252,30 +250,24 @@ fn blank_ok(c: Cell) -> bool
     both(same(c.status, 0), zero(v))
 }
 
-fn cell_ok(n: usize, m: usize, a: [u16; PLACES], x: usize, c: Cell) -> bool
-    ensures { λ r. ⌜ r ≡ cell n m a x c .passes ⌝ }
+fn cell_ok(m: usize, a: [u16; PLACES], x: usize, c: Cell) -> bool
+    ensures { λ r. ⌜ r ≡ cell m a x c .passes ⌝ }
 {
     if same(c.writer, 0) {
         blank_ok(c)
     } else {
-        set_ok(n, m, a, x, c)
+        set_ok(m, a, x, c)
     }
 }
 
-fn cells_ok(
-    n: usize,
-    m: usize,
-    a: [u16; PLACES],
-    i: usize,
-    cells: &[u16; PLACES * CELLS * CELL],
-) -> bool
+fn cells_ok(m: usize, a: [u16; PLACES], i: usize, cells: &[u16; PLACES * CELLS * CELL]) -> bool
     requires { ⌜ i < places ⌝ }
-    ensures { λ r. ⌜ r ≡ allCells n m a i (now (cells .entry)) .passes ⌝ }
+    ensures { λ r. ⌜ r ≡ allCells m a i (now (cells .entry)) .passes ⌝ }
 {
     let mut x = 0;
     while x < CELLS {
         let c = table::cell_at(cells, i * CELLS + x);
-        if !cell_ok(n, m, a, x, c) {
+        if !cell_ok(m, a, x, c) {
             return false;
         }
         x += 1;
@@ -354,7 +346,7 @@ fn desk_ok(
     let a = d.applied;
     both(
         counts_ok(n, own, gap, i, d),
-        both(cells_ok(n, m, a, i, cells), marks_ok(n, a, i, opens)),
+        both(cells_ok(m, a, i, cells), marks_ok(n, a, i, opens)),
     )
 }
 

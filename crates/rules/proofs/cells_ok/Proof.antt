@@ -9,11 +9,11 @@ use Rattle.rules.proofs.cells_ok.Statement.{statement}
 use Rattle.rules.proofs.cells_ok.Tie as tie
 
 abbrev Inv-loop : tie.InvT-loop
-Inv-loop n m a i cells x₀ x =
-    Rest (λ y. cell n m a y (cellAt cells (i * desk-cells + y)) .passes) desk-cells (allCells n m a i cells .passes) x
+Inv-loop m a i cells x₀ x =
+    Rest (λ y. cell m a y (cellAt cells (i * desk-cells + y)) .passes) desk-cells (allCells m a i cells .passes) x
 
 abbrev μ-loop : tie.MeasureT-loop
-μ-loop n m a i cells x₀ x = desk-cells - x
+μ-loop m a i cells x₀ x = desk-cells - x
 
 loop-holds : tie.Need-loop-holds Inv-loop μ-loop
 unfolding allCells
