@@ -12,7 +12,7 @@ use Rattle.machine.specs.Steps.{begins, begin, step}
 use Rattle.machine.specs.Rules.{In}
 use Rattle.machine.specs.History.{Act, take-step, run, history}
 use Rattle.machine.specs.Demand3.{Demand3}
-use Rattle.rules.specs.Parts.{says-begins}
+use Rattle.rules.specs.Test.{sizes}
 use Rattle.schedule.specs.Grammar.{Line, begin-line, step-line, lineOf}
 use Rattle.session.specs.Session.{Session, Turn, begun, turn, lineAnswer}
 use Rattle.session.specs.Transcript.{TextLine, linesOf, sessionOf, sessionFrom}
@@ -110,8 +110,8 @@ begun-at (l ∷ ls) s e = go (λ h. begun-at ls s h) (said l) refl e
           after = ls;
           n = n;
           m = m;
-          desks = says-begins n m .to t .0;
-          cells = says-begins n m .to t .1;
+          desks = sizes n m .says .to t .0;
+          cells = sizes n m .says .to t .1;
           split = refl;
           none-yet = refl;
           begins-it = ap (turn none) q ∙ ap begun (accepted n m t);

@@ -19,7 +19,7 @@ use Rattle.machine.specs.Rules.{In, Flat, Rules}
 use Rattle.machine.specs.Within.{says-within}
 use Rattle.image.specs.Fields.{vecOf, marksOf, cellOf, openOf}
 use Rattle.image.specs.Decode.{nIn, mIn, deskPlace, cellPlace, deskIn, cellIn, entriesIn, bears, opensIn, decodeAt}
-use Rattle.machine.specs.Keeps.{keeps, Shaped}
+use Rattle.machine.specs.Keeps.{keeps, ZeroPast}
 use Rattle.machine.specs.Tells.{says-rules}
 use Rattle.image.specs.Limits.{vector-at, vector-bytes, after-vector, cell-bytes}
 
@@ -80,7 +80,7 @@ module _ (ps : ℕ) (few : ps ≤ most-desks) where
       (i .0, (i .1, rw (f .is) (open-flat (getD l (f .at) []))))))
       (λ g. rw g (λ e. absurd (let z : _≡_ {A = ℕ} 0 1 = cc in omega arith)))
 
-  pub shaped : (b : List ℕ) → Shaped (decodeAt ps b)
+  pub shaped : (b : List ℕ) → ZeroPast (decodeAt ps b)
   unfolding decodeAt
   shaped b =
       record {

@@ -37,6 +37,21 @@ module _ (p : ℕ → Bool) where
   pub all-fails-at : (n at k : ℕ) → at ≤ k → k < at + n → p k ≡ false → all p n at ≡ false
   all-fails-at n at k l h e = cases (all p n at) (λ t. absurd (let f : true ≡ false = sym (all-at n at t k l h) ∙ e in let z : _≡_ {A = ℕ} 0 1 = cc in omega arith)) (λ t. t)
 
+-- a loop over n indexes that answers false at the first failure: at i, what is left answers r as the whole does
+pub record Rest (p : ℕ → Bool) (n : ℕ) (r : Bool) (i : ℕ) : Type 0 where
+  pub most : i ≤ n
+  pub is : all p (n - i) i ≡ r
+
+module _ {p : ℕ → Bool} {n : ℕ} {r : Bool} {i : ℕ} (h : Rest p n r i) where
+  pub rest-fails : i < n → p i ≡ false → false ≡ r
+  rest-fails l e = sym (all-fails p n i l e) ∙ h .is
+
+  pub rest-next : i < n → p i ≡ true → Rest p n r (i + 1)
+  rest-next l e = record { most = omega arith; is = sym (all-next p n i l e) ∙ h .is }
+
+  pub rest-end : n ≤ i → true ≡ r
+  rest-end l = sym (all-end p n i l) ∙ h .is
+
 -- two tests that agree on the indexes
 pub all-same : (p q : ℕ → Bool) (n at : ℕ) → ((k : ℕ) → at ≤ k → k < at + n → p k ≡ q k) → all p n at ≡ all q n at
 unfolding all

@@ -11,13 +11,6 @@ unfoldable pub count : {A : Type 0} → (A → Bool) → List A → ℕ
 count p [] = 0
 count p (x ∷ l) = pick (p x) 1 0 + count p l
 
--- a store that ends the test at one element that passed it
-pub count-set : {A : Type 0} (p : A → Bool) (l : List A) (k : ℕ) (a d : A) → p d ≡ false → p (getD l k d) ≡ true → p a ≡ false → count p l ≡ suc (count p (set l k a))
-unfolding count
-count-set p [] k a d no-d yes-k no-a = cc
-count-set p (x ∷ l) zero a d no-d yes-k no-a = rw (yes-k, no-a) (omega arith)
-count-set p (x ∷ l) (suc k) a d no-d yes-k no-a = let h : count p l ≡ suc (count p (set l k a)) = count-set p l k a d no-d yes-k no-a in omega arith
-
 -- how many pass, beside how many there are
 module _ {A : Type 0} (p : A → Bool) (d : A) where
   count-le : (l : List A) → count p l ≤ length l

@@ -8,8 +8,6 @@ pub mod Ends
 pub mod Find
 pub mod Count
 pub mod Tab
-pub mod Fold
-pub mod Run
 pub mod Put
 pub mod Own
 pub mod Cat

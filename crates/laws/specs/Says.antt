@@ -12,9 +12,6 @@ pub record Says (b : Bool) (P : Type 0) : Type 0 where
   pub to : b ≡ true → P
   pub from : P → b ≡ true
 
-abbrev pub and : Bool → Bool → Bool
-and a b = pick a b false
-
 pub says-leb : (a b : ℕ) → Says (leb a b) (a ≤ b)
 says-leb a b = record { to = leb-true a b; from = le-leb a b }
 
@@ -28,13 +25,9 @@ clash e = absurd (let z : _≡_ {A = ℕ} 0 1 = cc in omega arith)
 pub apart : {R : Type 0} (b : Bool) → b ≡ true → b ≡ false → R
 apart b p q = clash (sym q ∙ p)
 
-pub says-and : {P Q : Type 0} (a b : Bool) → Says a P → Says b Q → Says (and a b) (P × Q)
-says-and true b p q = record { to = λ e. (p .to refl, q .to e); from = λ h. q .from (h .1) }
-says-and false b p q = record { to = λ e. clash e; from = λ h. p .from (h .0) }
-
 pub says-both : {P Q : Type 0} (a b : Bool) → Says a P → Says b Q → Says (a && b) (P × Q)
-says-both true b p q = says-and true b p q
-says-both false b p q = says-and false b p q
+says-both true b p q = record { to = λ e. (p .to refl, q .to e); from = λ h. q .from (h .1) }
+says-both false b p q = record { to = λ e. clash e; from = λ h. p .from (h .0) }
 
 pub says-if : {P Q R : Type 0} (a b c : Bool) → Says a P → Says b Q → Says c R → Says (pick a b c) ((P → Q) × ((P → ⊥) → R))
 says-if true b c p q r = record { to = λ e. (λ h. q .to e, λ n. absurd (n (p .to refl))); from = λ h. q .from (h .0 (p .to refl)) }

@@ -15,12 +15,6 @@ module _ {A : Type 0} where
       let e : i + suc (length xs) ≡ suc i + length xs = omega arith in
       rw e (sets-append xs ys (set l i x) (suc i))
 
-  -- a store before a run that it lies outside of
-  set-sets : (xs l : List A) (i j : ℕ) (a : A) → j < i → sets (set l j a) i xs ≡ set (sets l i xs) j a
-  set-sets [] l i j a h = refl
-  set-sets (x ∷ xs) l i j a h =
-      rw (set-comm l j i a x (λ e. (omega arith))) (set-sets xs (set l i x) (suc i) j a (omega arith))
-
   -- the last store first
   pub sets-last : (xs l : List A) (i : ℕ) (a : A) → sets l i (xs ++ (a ∷ [])) ≡ sets (set l (i + length xs) a) i xs
   sets-last [] l i a = rw add-zero
@@ -71,7 +65,3 @@ module _ {A : Type 0} {begun : List A} {at : ℕ} {all : List A} where
   -- the last part was put
   pub left-last : {out after : List A} {p r : ℕ} {xs : List A} → Stored out p xs after r → Left begun at all out p xs → Stored begun at all after r
   left-last {xs} s w = left-none (left-put s (rw append-nil w))
-
-  -- the next part fits, if the whole does
-  pub left-room : {out : List A} {p : ℕ} (xs vs : List A) → Left begun at all out p (xs ++ vs) → at + length all ≤ length begun → p + length xs ≤ length out
-  left-room xs vs w h = omega (arith, w .next, w .long, length-append xs vs)

@@ -33,16 +33,6 @@ unfolding sum
 sum-zero zero = refl
 sum-zero (suc n) = omega (arith, sum-zero n)
 
--- one term is within the sum
-pub sum-at : (n : ℕ) (f : ℕ → ℕ) (u : ℕ) → 1 ≤ u → u ≤ n → f u ≤ sum n f
-unfolding sum
-sum-at zero f u a b = absurd (omega arith)
-sum-at (suc n) f u a b =
-    same-or u (suc n) (λ e. omega (arith, ap f e)) (λ e. omega (arith, sum-at n f u a (below u n b e)))
-  where
-    below : (u n : ℕ) → u ≤ suc n → (u ≡ suc n → ⊥) → u ≤ n
-    below u n b e = omega arith
-
 -- one term has d more, and no other changes
 pub sum-more : (n : ℕ) (f g : ℕ → ℕ) (a d : ℕ) → 1 ≤ a → a ≤ n → g a ≡ d + f a → ((j : ℕ) → (j ≡ a → ⊥) → g j ≡ f j) → sum n g ≡ d + sum n f
 unfolding sum

@@ -1,13 +1,13 @@
 -- More of what a test says (Says): of an implication, of the numbers 1 to n, of two lists.
-use Prim.Native.Nat.{ℕ, _≤_}
+use Prim.Native.Nat.{ℕ, _≤_, _<_}
 use mathlib.Core.Path.{_≡_, refl, sym}
 use mathlib.Core.Bool.{Bool, true, false, not, _&&_}
 use mathlib.Core.List.{List, [], _∷_}
 use native.Mathlib.Omega.{arith}
-use lib.Dec.{eqb}
+use lib.Dec.{eqb, leb, ltb}
 use Rattle.laws.specs.Loop.{pick}
 use Rattle.laws.specs.All.{all, all-at, all-true}
-use Rattle.laws.specs.Says.{Says, says-both, says-if, says-as, says-eqb, clash}
+use Rattle.laws.specs.Says.{Says, says-both, says-if, says-not, says-all, says-as, says-eqb, says-leb, says-ltb, clash}
 
 pub says-yes : Says true Unit
 says-yes = record { to = λ e. tt; from = λ h. refl }
@@ -21,20 +21,59 @@ pub says-unless : {Q : Type 0} (a b : Bool) → (a ≡ false → Says b Q) → S
 says-unless true b f = record { to = λ e q. clash (sym q); from = λ g. refl }
 says-unless false b f = record { to = λ e q. f refl .to e; from = λ g. f refl .from (g refl) }
 
+-- A test with its meaning: what it computes, what holds where it passes, and that it says so.
+pub record Test : Type 1 where
+  pub passes : Bool
+  pub holds : Type 0
+  pub says : Says passes holds
+
+abbrev pub le : ℕ → ℕ → Test
+le a b = record { passes = leb a b; holds = a ≤ b; says = says-leb a b }
+
+abbrev pub lt : ℕ → ℕ → Test
+lt a b = record { passes = ltb a b; holds = a < b; says = says-ltb a b }
+
+abbrev pub eq : ℕ → ℕ → Test
+eq a b = record { passes = eqb a b; holds = a ≡ b; says = says-eqb a b }
+
+abbrev pub yes : Test
+yes = record { passes = true; holds = Unit; says = says-yes }
+
+-- b is false
+abbrev pub fails : Bool → Test
+fails b = record { passes = not b; holds = b ≡ false; says = says-false b }
+
+abbrev pub none-of : Test → Test
+none-of a = record { passes = not (a .passes); holds = a .holds → ⊥; says = says-not _ (a .says) }
+
+abbrev pub both : Test → Test → Test
+both a b = record { passes = a .passes && b .passes; holds = a .holds × b .holds; says = says-both _ _ (a .says) (b .says) }
+
+-- a, or else b
+abbrev pub choice : Test → Test → Test → Test
+choice a b c =
+    record {
+      passes = pick (a .passes) (b .passes) (c .passes);
+      holds = (a .holds → b .holds) × ((a .holds → ⊥) → c .holds);
+      says = says-if _ _ _ (a .says) (b .says) (c .says);
+    }
+
 -- where a holds, b
-abbrev pub where? : Bool → Bool → Bool
-where? a b = pick a b true
+abbrev pub given : Test → Test → Test
+given a b =
+    record {
+      passes = pick (a .passes) (b .passes) true;
+      holds = a .holds → b .holds;
+      says = says-as _ (says-if _ _ true (a .says) (b .says) says-yes) (λ h. h .0) (λ f. (f, λ _. tt));
+    }
 
-pub says-where : {P Q : Type 0} (a b : Bool) → Says a P → Says b Q → Says (where? a b) (P → Q)
-says-where a b p q =
-    says-as (where? a b) (says-if a b true p q says-yes) (λ h. h .0) (λ f. (f, λ _. tt))
+-- b, but where a holds
+abbrev pub unless : Bool → Test → Test
+unless a b = record { passes = pick a true (b .passes); holds = a ≡ false → b .holds; says = says-unless a _ (λ _. b .says) }
 
--- of two tests, both hold or none
-abbrev pub alike : Bool → Bool → Bool
-alike a b = where? a b && where? b a
-
-pub says-alike : {P Q : Type 0} (a b : Bool) → Says a P → Says b Q → Says (alike a b) ((P → Q) × (Q → P))
-says-alike a b p q = says-both (where? a b) (where? b a) (says-where a b p q) (says-where b a q p)
+-- both hold or none
+abbrev pub alike : Test → Test → Test
+alike a b = both (given a b) (given b a)
 
 -- of 1 to n
 pub says-each : {P : ℕ → Type 0} (p : ℕ → Bool) (n : ℕ) → ((k : ℕ) → Says (p k) (P k)) → Says (all p n 1) ((k : ℕ) → 1 ≤ k → k ≤ n → P k)
@@ -43,6 +82,14 @@ says-each p n h =
       to = λ e k l g. h k .to (all-at p n 1 e k l (omega arith));
       from = λ f. all-true p n 1 (λ k l g. h k .from (f k l (omega arith)));
     }
+
+abbrev pub each : ℕ → (ℕ → Test) → Test
+each n f =
+    record { passes = all (λ k. f k .passes) n 1; holds = (k : ℕ) → 1 ≤ k → k ≤ n → f k .holds; says = says-each _ n (λ k. f k .says) }
+
+-- of 0 to n - 1
+abbrev pub upto : ℕ → (ℕ → Test) → Test
+upto n f = record { passes = all (λ k. f k .passes) n 0; holds = (k : ℕ) → k < n → f k .holds; says = says-all _ n (λ k _. f k .says) }
 
 -- two lists of numbers, compared
 unfoldable pub same : List ℕ → List ℕ → Bool

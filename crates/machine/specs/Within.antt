@@ -2,8 +2,12 @@
 use Prim.Native.Nat.{ℕ}
 use lib.Dec.{leb}
 use Rattle.laws.specs.Says.{Says, says-leb, says-both}
+use Rattle.laws.specs.Tests.{Test}
 use Rattle.machine.specs.Steps.{within}
 use Rattle.machine.specs.Rules.{In}
 
 pub says-within : (n i : ℕ) → Says (within n i) (In n i)
 says-within n i = says-both (leb 1 i) (leb i n) (says-leb 1 i) (says-leb i n)
+
+abbrev pub inside : ℕ → ℕ → Test
+inside n i = record { passes = within n i; holds = In n i; says = says-within n i }

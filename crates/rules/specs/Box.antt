@@ -9,11 +9,12 @@ use borrow.Author.Tests.{ltb-true, ltb-false, lt-ltb, ne-eqb, eqb-false}
 use lib.ListN.{length, getD, List·getD-eq-default}
 use lib.Dec.{ltb, eqb}
 use Rattle.laws.specs.Loop.{cases}
+use Rattle.laws.specs.Update.{same-or}
 use Rattle.laws.specs.Tab.{getD-tab, getD-tab-out}
 use Rattle.machine.specs.Table.{Vec, blank, set}
 use Rattle.machine.specs.Table as machine
 use Rattle.machine.specs.Rules.{In, Flat}
-use Rattle.clock.specs.Vectors.{places, place}
+use Rattle.clock.specs.Vectors.{places, place, place-out}
 use Rattle.table.specs.declared.Desk.{Desk}
 use Rattle.table.specs.Value.{desk0, desk-cells, entries, cellAt, openAt, isFree}
 use Rattle.table.specs.Shape.{DesksShape}
@@ -21,7 +22,6 @@ use Rattle.table.specs.Names.{number, namedAt, named-is}
 use Rattle.table.specs.Model.{appliedVec, clockVec, appliedM, clockM, cellsM, openM, opensM}
 use Rattle.table.specs.Opens.{opens-some}
 use Rattle.rules.specs.Test.{ownAt, owns}
-use Rattle.rules.specs.Parts.{place-past}
 
 nil-at : (t : ℕ) → place [] t ≡ 0
 nil-at zero = refl
@@ -32,7 +32,11 @@ flat-place l e zero h = absurd (omega arith)
 flat-place l e (suc t) h =
     cases (ltb t places)
     (λ b. (omega arith, ltb-true t places b))
-    (λ b. absurd (omega (arith, place-past l t e (ltb-false t places b))))
+    (λ b. absurd (omega (arith, place-out l (suc t) (omega (arith, ltb-false t places b)))))
+
+-- zero at the 8 places, so at all
+pub zero-all : (l : List ℕ) → length l ≡ places → ((t : ℕ) → 1 ≤ t → t ≤ places → place l t ≡ 0) → (t : ℕ) → place l t ≡ 0
+zero-all l e h t = same-or (place l t) 0 (λ q. q) (λ q. let b = flat-place l e t (omega arith) in h t (b .0) (b .1))
 
 -- the desks --
 

@@ -28,9 +28,8 @@ use Rattle.table.specs.Names.{number, namedAt, own-named}
 use Rattle.table.specs.Model.{appliedM, clockM, openM, opensM, modelOf}
 use Rattle.table.specs.Opens.{lone, opens-at}
 use Rattle.table.specs.Sound.{SoundTable}
-use Rattle.rules.specs.Test.{owns, has, gapAt, gaps}
+use Rattle.rules.specs.Test.{owns, has, gapAt, gaps, used, entry, allEntries, counts, cell, allCells, mark, allMarks, allDesks, ownTest, keepsTest}
 use Rattle.rules.specs.Gap.{gap-most, gap-not}
-use Rattle.rules.specs.Parts.{UsedGood, EntriesGood, CountsGood, CellGood, MarkGood, DesksGood}
 use Rattle.rules.specs.Box.{own-is, at-set}
 
 module _ (whole : Table) (sh : DesksShape (whole .core .desks)) (so : SoundTable whole) where
@@ -67,33 +66,35 @@ module _ (whole : Table) (sh : DesksShape (whole .core .desks)) (so : SoundTable
         all-fails-at (λ t. eqb (place (openAt os e .marks) t) done) n 1 (l .desk) (l .desk-in .0) (omega (arith, l .desk-in .1))
         (ne-eqb (place (openAt os e .marks) (l .desk)) done (λ q. (omega (arith, l .lower, right .marked (l .desk) (l .desk-in) .0 q))))
 
-    used-from : UsedGood n (whole .core .m) (owns ds) os e (openAt os e)
-    used-from =
-        record {
-          writer = due .writer .1;
-          cell = right .cell;
-          status = right .status-in;
-          first = due .number .0;
-          vector = λ t. omega (arith, right .issued t, own-is ds sh t);
-          lacks = lacking;
-          last = λ j l hj. lone os e (openAt os e .writer) (number (openAt os e)) (so .unique) h own j hj (λ q. (omega arith));
-        }
+    used-from : used n (whole .core .m) (owns ds) os e (openAt os e) .holds
+    unfolding used
+    used-from = (
+      (due .writer .1, (right .cell, right .status-in)),
+      (
+        (due .number .0, (λ t _ _. omega (arith, right .issued t, own-is ds sh t), lacking)),
+        λ j l hj. lone os e (openAt os e .writer) (number (openAt os e)) (so .unique) h own j hj (λ q. (omega arith)),
+      ),
+    )
 
     -- its mark at desk i
     vector-flat : Flat n (place (openAt os e .vector))
     vector-flat t l = so .rules .frame .counts .inside t t (omega (arith, right .issued t)) .0
 
-    mark-from : (i : ℕ) → MarkGood n (getD ds i desk0 .applied) i (openAt os e)
-    unfolding appliedM
-    mark-from i =
-        record {
-          past = λ ne. same-or p 0 (λ q. q) (λ q. absurd (ne (right .marks-flat (suc i) (omega arith) .1)));
-          applied = λ l q. (let z = right .marked (suc i) (omega arith, l) .1 q in (z, right .below (suc i) z));
-          waits = λ l ne nz.
+    mark-from : (i : ℕ) → mark n (getD ds i desk0 .applied) i (openAt os e) .holds
+    unfolding appliedM mark
+    mark-from i _ = (
+      λ l. (
+        λ q. (let z = right .marked (suc i) (omega arith, l) .1 q in (z, λ t _ _. right .below (suc i) z t)),
+        λ ne. (
+          λ _. tt,
+          λ nz.
               let two : p ≡ done → ⊥ = (λ q. ne (right .marked (suc i) (omega arith, l) .0 q)) in
               let z : p ≡ held = omega (arith, right .marks-in (suc i)) in
-              (z, narrow ∙ so .rules .quiet (suc i) u (number (openAt os e)) (openM (openAt os e)) at-name z);
-        }
+              (z, narrow ∙ so .rules .quiet (suc i) u (number (openAt os e)) (openM (openAt os e)) at-name z),
+        ),
+      ),
+      λ ne. same-or p 0 (λ q. q) (λ q. absurd (ne (right .marks-flat (suc i) (omega arith) .1))),
+    )
       where
         p : ℕ
         p = getD (openAt os e .marks) i 0
@@ -103,9 +104,6 @@ module _ (whole : Table) (sh : DesksShape (whole .core .desks)) (so : SoundTable
 
         narrow : readyAt (getD ds i desk0 .applied) (openAt os e .vector) u ≡ ready n (place (getD ds i desk0 .applied)) u (place (openAt os e .vector))
         narrow = ready-narrow n places (place (getD ds i desk0 .applied)) u (place (openAt os e .vector)) vector-flat (due .writer .1) (so .rules .frame .ranges .desks .1)
-
-  pub entries-from : EntriesGood n (whole .core .m) (owns ds) os
-  entries-from e h f = used-from e h f
 
   -- the latest write that is not open has been applied at each of the n desks
   gap-from : (i : ℕ) → i < n → (t : ℕ) → place (gaps (owns ds) os) t ≤ s .applied (suc i) t
@@ -128,27 +126,39 @@ module _ (whole : Table) (sh : DesksShape (whole .core .desks)) (so : SoundTable
           (so .rules .frame .open-exactly (suc t) k .1 (record { writer = w .0; number = (omega arith, b); lacks = record { desk = suc i; desk-in = (omega arith, l); lower = q } }))
           (gap-not (has os (suc t)) (getD (owns ds) t 0) (omega arith))
 
-  counts-from : (i : ℕ) → CountsGood n (owns ds) (gaps (owns ds) os) i (getD ds i desk0)
+  counts-from : (i : ℕ) → counts n (owns ds) (gaps (owns ds) os) i (getD ds i desk0) .holds
   unfolding appliedM clockM
   counts-from i =
-      record {
-        most = λ t. omega (arith, so .rules .frame .counts .most (suc i) t, own-is ds sh t);
-        below = so .rules .frame .clocks .below (suc i);
-        same = so .rules .frame .clocks .own (suc i);
-        live = gap-from i;
-        past = λ ne t. same-or (place (getD ds i desk0 .applied) t) 0 (λ q. q) (λ q. absurd (ne (so .rules .frame .counts .inside (suc i) t (omega arith) .0 .1)));
-      }
+      let f = so .rules .frame in (
+        λ t _ _. omega (arith, f .counts .most (suc i) t, own-is ds sh t),
+        (
+          λ t _ _. f .clocks .below (suc i) t,
+          (
+            f .clocks .own (suc i),
+            (
+              λ l t _ _. gap-from i l t,
+              λ ne t _ _. same-or (place (getD ds i desk0 .applied) t) 0
+                  (λ q. q)
+                  (λ q. absurd (ne (f .counts .inside (suc i) t (omega arith) .0 .1))),
+            ),
+          ),
+        ),
+      )
 
-  cell-from : (i x : ℕ) → i < places → x < desk-cells → CellGood n (whole .core .m) (getD ds i desk0 .applied) x (cellAt (whole .cells) (i * desk-cells + x))
-  unfolding appliedM
-  cell-from i x hi hx =
-      record {
-        unset = so .blanks (i * desk-cells + x) (omega arith);
-        isSet = λ ne.
-            let c = cellAt (whole .cells) (i * desk-cells + x) in
-            let g = so .rules .frame .cell (suc i) (suc x) (c .status) (c .writer) (place (c .vector)) (at-set (whole .cells) i x hi hx ne) in
-            record { cell = g .cell .1; writer = g .writer-in .1; status = g .status-in; first = g .first; vector = g .below };
-      }
+  cell-from : (i x : ℕ) → i < places → x < desk-cells
+      → cell (whole .core .m) (getD ds i desk0 .applied) x (cellAt (whole .cells) (i * desk-cells + x)) .holds
+  unfolding appliedM cell
+  cell-from i x hi hx = (
+    λ e. (let z = so .blanks (i * desk-cells + x) (omega arith) e in (z .status, λ t _ _. z .vector t)),
+    λ ne.
+        let c = cellAt (whole .cells) (i * desk-cells + x) in
+        let g = so .rules .frame .cell (suc i) (suc x) (c .status) (c .writer) (place (c .vector)) (at-set (whole .cells) i x hi hx ne) in
+        (g .cell .1, (g .status-in, (g .first, λ t _ _. g .below t))),
+  )
 
-  pub desks-from : DesksGood n (whole .core .m) (owns ds) (gaps (owns ds) os) ds (whole .cells) os
-  desks-from i h = record { counts = counts-from i; cells = λ x. cell-from i x h; marks = λ e l f. mark-from e l f i }
+  pub from-sound : keepsTest whole .holds
+  unfolding ownTest allEntries entry allDesks allCells allMarks mark
+  from-sound = (
+    (so .rules .frame .ranges .desks, so .rules .frame .ranges .cells),
+    (used-from, λ i h. (counts-from i, (λ x. cell-from i x h, λ e l f. mark-from e l f i f))),
+  )

@@ -1,18 +1,24 @@
--- The rules of a table value as one computed test, built as the code is: the entries, then desk by desk its counts, its cells and
--- its marks. Desks, places and cells count from 0 here, writers and write numbers from 1.
-use Prim.Native.Nat.{ℕ, zero, suc, _+_, _-_, _*_}
+-- The rules of a table value as one test, built as the code is: the entries, then desk by desk its counts, its cells and its marks.
+-- Desks, places and cells count from 0 here, writers and write numbers from 1.
+use Prim.Native.Nat.{ℕ, zero, suc, _+_, _-_, _*_, _<_, _≤_}
+use mathlib.Core.Path.{_≡_}
 use mathlib.Core.List.{List}
-use mathlib.Core.Bool.{Bool, true, not}
+use mathlib.Core.Bool.{Bool, false, not}
+use native.Mathlib.Omega.{arith}
+use borrow.Author.Tests.{ltb-false, not-true}
 use lib.ListN.{getD, replicate}
-use lib.Dec.{eqb, leb, ltb}
+use lib.Dec.{ltb}
 use Rattle.laws.specs.Loop.{pick}
-use Rattle.laws.specs.All.{all}
+use Rattle.laws.specs.All.{all, all-at, all-true}
 use Rattle.laws.specs.Tab.{tab}
-use Rattle.laws.specs.Says.{and}
-use Rattle.machine.specs.Table.{most-status, away, held, done}
-use Rattle.machine.specs.Steps.{begins, isNone, everywhere}
+use Rattle.laws.specs.Says.{Says, says-ltb, says-not, says-all, says-as}
+use Rattle.laws.specs.Tests.{says-false, Test, le, lt, eq, yes, fails, both, choice, unless, upto}
+use Rattle.machine.specs.Table.{most-desks, most-cells, most-status, away, held, done}
+use Rattle.machine.specs.Steps.{isNone, everywhere}
+use Rattle.machine.specs.Within.{inside}
+use Rattle.machine.specs.Keeps.{belowAt}
 use Rattle.clock.specs.Vectors.{places, place}
-use Rattle.clock.specs.Readiness.{coversAll, readyAt}
+use Rattle.clock.specs.Readiness.{coversAll, covers, readyAt}
 use Rattle.table.specs.declared.Cell.{Cell}
 use Rattle.table.specs.declared.Desk.{Desk}
 use Rattle.table.specs.declared.Open.{Open}
@@ -20,12 +26,9 @@ use Rattle.table.specs.declared.Table.{Table}
 use Rattle.table.specs.Value.{desk0, desk-cells, entries, cellAt, openAt, isFree}
 use Rattle.table.specs.Names.{number, namedAt}
 use Rattle.table.specs.Model.{openM, opensM}
+use Rattle.table.specs.Begin.{zeros-at}
 
-abbrev pub noughts : List ℕ
-noughts = replicate places 0
-
-abbrev pub zeroTest : List ℕ → Bool
-zeroTest v = coversAll noughts v
+-- what the test computes with --
 
 -- each desk's count of its own writes
 abbrev pub ownAt : List Desk → ℕ → ℕ
@@ -50,83 +53,129 @@ gapAt own os t = gapOf (has os (suc t)) (getD own t 0)
 unfoldable pub gaps : List ℕ → List ℕ → List ℕ
 gaps own os = tab places (gapAt own os)
 
+-- a vector at most another, and one of zeros, at the 8 places --
+
+abbrev pub noughts : List ℕ
+noughts = replicate places 0
+
+says-under : (x y : ℕ) → Says (not (ltb x y)) (y ≤ x)
+says-under x y = record { to = λ e. ltb-false x y (not-true _ e); from = λ h. says-not _ (says-ltb x y) .from (λ q. (omega arith)) }
+
+pub says-covers : (a v : List ℕ) → Says (coversAll a v) (belowAt (place v) (place a) .holds)
+unfolding covers
+says-covers a v =
+    says-as (coversAll a v) (says-all (λ t. not (ltb (getD a t 0) (getD v t 0))) places (λ t l. says-under (getD a t 0) (getD v t 0)))
+    from-one
+    (λ h t l. h (suc t) (omega arith) l)
+  where
+    from-one : ((t : ℕ) → t < places → getD v t 0 ≤ getD a t 0) → (t : ℕ) → 1 ≤ t → t ≤ places → place v t ≤ place a t
+    from-one h zero a b = absurd (omega arith)
+    from-one h (suc t) a b = h t b
+
+abbrev pub covered : List ℕ → List ℕ → Test
+covered a v = record { passes = coversAll a v; holds = belowAt (place v) (place a) .holds; says = says-covers a v }
+
+abbrev pub nought : List ℕ → Test
+nought v =
+    record {
+      passes = coversAll noughts v;
+      holds = (t : ℕ) → 1 ≤ t → t ≤ places → place v t ≡ 0;
+      says = says-as _ (says-covers noughts v)
+          (λ h t a b. omega (arith, h t a b, zeros-at (suc places) t))
+          (λ h t a b. omega (arith, h t a b));
+    }
+
+-- entries --
+
 -- no entry after e holds u.k
 unfoldable pub lastOf : List ℕ → ℕ → ℕ → ℕ → Bool
 lastOf os u k e = all (λ j. not (namedAt os u k j)) (entries - (e + 1)) (e + 1)
 
--- entry e, where its write is o: ranges, vector, that some desk lacks it, and that it stands once
-unfoldable pub rangesTest : ℕ → ℕ → Open → Bool
-rangesTest n m o = and (leb (o .writer) n) (and (leb 1 (o .cell)) (and (leb (o .cell) m) (leb (o .status) most-status)))
+pub says-last : (os : List ℕ) (u k e : ℕ) → Says (lastOf os u k e) ((j : ℕ) → e < j → j < entries → namedAt os u k j ≡ false)
+unfolding lastOf
+says-last os u k e =
+    record {
+      to = λ q j l g. not-true _ (all-at (λ j. not (namedAt os u k j)) (entries - (e + 1)) (e + 1) q j (omega arith) (omega arith));
+      from = λ f. all-true (λ j. not (namedAt os u k j)) (entries - (e + 1)) (e + 1)
+          (λ j l g. says-false _ .from (f j (omega arith) (omega arith)));
+    }
 
-unfoldable pub usedTest : ℕ → ℕ → List ℕ → List ℕ → ℕ → Open → Bool
-usedTest n m own os e o =
-    and (rangesTest n m o)
-    (and (leb 1 (number o))
-    (and (coversAll own (o .vector))
-    (and (not (everywhere n (openM o)))
-    (lastOf os (o .writer) (number o) e))))
+abbrev pub last : List ℕ → ℕ → ℕ → ℕ → Test
+last os u k e =
+    record { passes = lastOf os u k e; holds = (j : ℕ) → e < j → j < entries → namedAt os u k j ≡ false; says = says-last os u k e }
 
-unfoldable pub entryTest : ℕ → ℕ → List ℕ → List ℕ → ℕ → Bool
-entryTest n m own os e = pick (isFree (openAt os e)) true (usedTest n m own os e (openAt os e))
+-- entry e, where its write is o: ranges; vector, and that some desk lacks it; that it stands once
+abbrev pub ranges : ℕ → ℕ → Open → Test
+ranges n m o = both (le (o .writer) n) (both (inside m (o .cell)) (le (o .status) most-status))
 
-unfoldable pub entriesTest : ℕ → ℕ → List ℕ → List ℕ → Bool
-entriesTest n m own os = all (entryTest n m own os) entries 0
+abbrev pub due : ℕ → List ℕ → Open → Test
+due n own o = both (le 1 (number o)) (both (covered own (o .vector)) (fails (everywhere n (openM o))))
+
+unfoldable pub used : ℕ → ℕ → List ℕ → List ℕ → ℕ → Open → Test
+used n m own os e o = both (ranges n m o) (both (due n own o) (last os (o .writer) (number o) e))
+
+unfoldable pub entry : ℕ → ℕ → List ℕ → List ℕ → ℕ → Test
+entry n m own os e = unless (isFree (openAt os e)) (used n m own os e (openAt os e))
+
+unfoldable pub allEntries : ℕ → ℕ → List ℕ → List ℕ → Test
+allEntries n m own os = upto entries (entry n m own os)
+
+-- a desk --
 
 -- the counts and the clock of desk i
-unfoldable pub countsTest : ℕ → List ℕ → List ℕ → ℕ → Desk → Bool
-countsTest n own gap i d =
-    and (coversAll own (d .applied))
-    (and (coversAll (d .applied) (d .clock .at))
-    (and (eqb (getD (d .clock .at) i 0) (getD (d .applied) i 0))
-    (pick (ltb i n) (coversAll (d .applied) gap) (zeroTest (d .applied)))))
+abbrev pub live : ℕ → List ℕ → List ℕ → ℕ → Test
+live n a gap i = choice (lt i n) (covered a gap) (nought a)
 
--- cell x of a desk with the counts a
-unfoldable pub setTest : ℕ → ℕ → List ℕ → ℕ → Cell → Bool
-setTest n m a x c =
-    and (ltb x m)
-    (and (leb (c .writer) n)
-    (and (leb (c .status) most-status)
-    (and (leb 1 (place (c .vector) (c .writer)))
-    (coversAll a (c .vector)))))
+abbrev pub counts : ℕ → List ℕ → List ℕ → ℕ → Desk → Test
+counts n own gap i d =
+    both (covered own (d .applied))
+    (both (covered (d .applied) (d .clock .at))
+    (both (eq (getD (d .clock .at) i 0) (getD (d .applied) i 0))
+    (live n (d .applied) gap i)))
 
-unfoldable pub cellTest : ℕ → ℕ → List ℕ → ℕ → Cell → Bool
-cellTest n m a x c =
-    pick (eqb (c .writer) 0)
-    (and (eqb (c .status) 0) (zeroTest (c .vector)))
-    (setTest n m a x c)
+-- cell x of a desk with the counts a (its writer is a desk: the vector has a count there, and the counts past n are zero)
+abbrev pub setCell : ℕ → List ℕ → ℕ → Cell → Test
+setCell m a x c =
+    both (lt x m) (both (le (c .status) most-status) (both (le 1 (place (c .vector) (c .writer))) (covered a (c .vector))))
 
-unfoldable pub cellsTest : ℕ → ℕ → List ℕ → ℕ → List ℕ → Bool
-cellsTest n m a i cs = all (λ x. cellTest n m a x (cellAt cs (i * desk-cells + x))) desk-cells 0
+abbrev pub blankCell : Cell → Test
+blankCell c = both (eq (c .status) 0) (nought (c .vector))
+
+unfoldable pub cell : ℕ → List ℕ → ℕ → Cell → Test
+cell m a x c = choice (eq (c .writer) 0) (blankCell c) (setCell m a x c)
+
+unfoldable pub allCells : ℕ → List ℕ → ℕ → List ℕ → Test
+allCells m a i cs = upto desk-cells (λ x. cell m a x (cellAt cs (i * desk-cells + x)))
 
 -- the mark p at a desk with the counts a: of a write that it has not applied; of any
-unfoldable pub waitTest : List ℕ → ℕ → Open → Bool
-waitTest a p o = pick (eqb p away) true (and (eqb p held) (not (readyAt a (o .vector) (o .writer))))
+abbrev pub waits : List ℕ → ℕ → Open → Test
+waits a p o = choice (eq p away) yes (both (eq p held) (fails (readyAt a (o .vector) (o .writer))))
 
-unfoldable pub liveTest : List ℕ → ℕ → Open → Bool
-liveTest a p o =
-    pick (leb (number o) (place a (o .writer)))
-    (and (eqb p done) (coversAll a (o .vector)))
-    (waitTest a p o)
+abbrev pub applied : List ℕ → ℕ → Open → Test
+applied a p o = both (eq p done) (covered a (o .vector))
 
-unfoldable pub markTest : ℕ → List ℕ → ℕ → Open → Bool
-markTest n a i o =
-    pick (isFree o) true
-    (pick (ltb i n) (liveTest a (getD (o .marks) i 0) o) (eqb (getD (o .marks) i 0) away))
+abbrev pub liveMark : List ℕ → ℕ → Open → Test
+liveMark a p o = choice (le (number o) (place a (o .writer))) (applied a p o) (waits a p o)
 
-unfoldable pub marksTest : ℕ → List ℕ → ℕ → List ℕ → Bool
-marksTest n a i os = all (λ e. markTest n a i (openAt os e)) entries 0
+unfoldable pub mark : ℕ → List ℕ → ℕ → Open → Test
+mark n a i o = unless (isFree o) (choice (lt i n) (liveMark a (getD (o .marks) i 0) o) (eq (getD (o .marks) i 0) away))
 
-unfoldable pub deskTest : ℕ → ℕ → List ℕ → List ℕ → ℕ → Desk → List ℕ → List ℕ → Bool
-deskTest n m own gap i d cs os =
-    and (countsTest n own gap i d) (and (cellsTest n m (d .applied) i cs) (marksTest n (d .applied) i os))
+unfoldable pub allMarks : ℕ → List ℕ → ℕ → List ℕ → Test
+allMarks n a i os = upto entries (λ e. mark n a i (openAt os e))
 
-unfoldable pub desksTest : ℕ → ℕ → List ℕ → List ℕ → List Desk → List ℕ → List ℕ → Bool
-desksTest n m own gap ds cs os = all (λ i. deskTest n m own gap i (getD ds i desk0) cs os) places 0
+abbrev pub desk : ℕ → ℕ → List ℕ → List ℕ → List ℕ → List ℕ → ℕ → Desk → Test
+desk n m own gap cs os i d = both (counts n own gap i d) (both (allCells m (d .applied) i cs) (allMarks n (d .applied) i os))
 
--- the whole, where own are the own counts
-unfoldable pub ownTest : ℕ → ℕ → List ℕ → List Desk → List ℕ → List ℕ → Bool
-ownTest n m own ds cs os =
-    and (begins n m) (and (entriesTest n m own os) (desksTest n m own (gaps own os) ds cs os))
+unfoldable pub allDesks : ℕ → ℕ → List ℕ → List ℕ → List ℕ → List ℕ → List Desk → Test
+allDesks n m own gap cs os ds = upto places (λ i. desk n m own gap cs os i (getD ds i desk0))
 
-abbrev pub keepsTest : Table → Bool
+-- the whole, where own are the own counts --
+
+abbrev pub sizes : ℕ → ℕ → Test
+sizes n m = both (inside most-desks n) (inside most-cells m)
+
+unfoldable pub ownTest : ℕ → ℕ → List ℕ → List Desk → List ℕ → List ℕ → Test
+ownTest n m own ds cs os = both (sizes n m) (both (allEntries n m own os) (allDesks n m own (gaps own os) cs os ds))
+
+abbrev pub keepsTest : Table → Test
 keepsTest t = ownTest (t .core .n) (t .core .m) (owns (t .core .desks)) (t .core .desks) (t .cells) (t .opens)

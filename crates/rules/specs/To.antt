@@ -15,7 +15,8 @@ use Rattle.machine.specs.Table.{most-desks, most-cells, most-writes, Vec, Cell,
 use Rattle.machine.specs.Table as machine
 use Rattle.machine.specs.Steps.{isNone, everywhere, ready}
 use Rattle.machine.specs.Rules.{In, Flat, Lacks}
-use Rattle.machine.specs.Keeps.{CellAt, MarkAt, WriteAt, OpenAt, Kept, Shaped}
+use Rattle.machine.specs.Keeps.{ZeroPast}
+use Rattle.machine.specs.Keeps as keeps
 use Rattle.machine.specs.Tells.{to-rules}
 use Rattle.clock.specs.Vectors.{places, place}
 use Rattle.clock.specs.Readiness.{readyAt, ready-narrow}
@@ -28,11 +29,10 @@ use Rattle.table.specs.Names.{number, namedAt, named-is}
 use Rattle.table.specs.Model.{appliedM, clockM, openM, modelOf}
 use Rattle.table.specs.Opens.{Unique}
 use Rattle.table.specs.Sound.{AllZero, SoundTable}
-use Rattle.rules.specs.Test.{owns, has, gapAt, gaps}
+use Rattle.rules.specs.Test.{owns, has, gapAt, gaps, ranges, due, last, used, entry, allEntries, counts, cell, allCells, mark, allMarks, allDesks, ownTest, keepsTest}
 use Rattle.rules.specs.Few.{few}
 use Rattle.rules.specs.Gap.{gap-above}
-use Rattle.rules.specs.Parts.{UsedGood, EntriesGood, CountsGood, DesksGood}
-use Rattle.rules.specs.Box.{flat-place, applied-in, clock-in, own-is, set-each, open-each}
+use Rattle.rules.specs.Box.{flat-place, zero-all, applied-in, clock-in, own-is, set-each, open-each}
 
 -- the test's numbers within the arrays
 abbrev pub Fit : List Desk → Type 0
@@ -41,10 +41,12 @@ Fit ds = (t : ℕ) → place (owns ds) t ≤ most-writes
 abbrev isSome : Option machine.Open → Bool
 isSome o = not (isNone o)
 
-module _ (whole : Table) (sh : DesksShape (whole .core .desks)) (fit : Fit (whole .core .desks)) (hn : In most-desks (whole .core .n)) (hm : In most-cells (whole .core .m))
-    (E : EntriesGood (whole .core .n) (whole .core .m) (owns (whole .core .desks)) (whole .opens)) (D : DesksGood (whole .core .n) (whole .core .m) (owns (whole .core .desks)) (gaps (owns (whole .core .desks)) (whole .opens)) (whole .core .desks) (whole .cells) (whole .opens)) where
+module _ (whole : Table) (sh : DesksShape (whole .core .desks)) (fit : Fit (whole .core .desks)) (ok : keepsTest whole .holds) where
   abbrev n : ℕ
   n = whole .core .n
+
+  abbrev m : ℕ
+  m = whole .core .m
 
   abbrev ds : List Desk
   ds = whole .core .desks
@@ -58,112 +60,145 @@ module _ (whole : Table) (sh : DesksShape (whole .core .desks)) (fit : Fit (whol
   abbrev s : State
   s = modelOf whole
 
-  counts-of : (i : ℕ) → i < places → CountsGood n (owns ds) (gaps (owns ds) os) i (getD ds i desk0)
-  counts-of i h = D i h .counts
+  -- what each part of the test says
+  sizes-in : In most-desks n × In most-cells m
+  unfolding ownTest
+  sizes-in = ok .0
+
+  entry-of : (e : ℕ) → e < entries → isFree (openAt os e) ≡ false
+      → let o = openAt os e in ranges n m o .holds × (due n (owns ds) o .holds × last os (o .writer) (number o) e .holds)
+  unfolding ownTest allEntries entry used
+  entry-of e b f = ok .1 .0 e b f
+
+  counts-of : (i : ℕ) → i < places → counts n (owns ds) (gaps (owns ds) os) i (getD ds i desk0) .holds
+  unfolding ownTest allDesks
+  counts-of i b = ok .1 .1 i b .0
+
+  cell-of : (i x : ℕ) → i < places → x < desk-cells → cell m (getD ds i desk0 .applied) x (cellAt cs (i * desk-cells + x)) .holds
+  unfolding ownTest allDesks allCells
+  cell-of i x b = ok .1 .1 i b .1 .0 x
+
+  mark-of : (i e : ℕ) → i < places → e < entries → mark n (getD ds i desk0 .applied) i (openAt os e) .holds
+  unfolding ownTest allDesks allMarks
+  mark-of i e b = ok .1 .1 i b .1 .1 e
 
   counts-in : (i t : ℕ) → 1 ≤ s .applied i t → In n i × In places t
   unfolding appliedM
-  counts-in i t h = let b = applied-in ds sh i t h in (go i (b .0) h, b .1)
+  counts-in i t h = let b = applied-in ds sh i t h in (go i b h, b .1)
     where
-      go : (i : ℕ) → In places i → 1 ≤ appliedM ds i t → In n i
-      go zero b h = absurd (omega (arith, b .0))
+      go : (i : ℕ) → In places i × In places t → 1 ≤ appliedM ds i t → In n i
+      go zero b h = absurd (omega (arith, b .0 .0))
       go (suc i) b h =
           cases (ltb i n)
           (λ q. (omega arith, ltb-true i n q))
-          (λ q. absurd (omega (arith, counts-of i (b .1) .past (λ z. (omega (arith, ltb-false i n q))) t)))
+          (λ q. absurd (omega (arith, counts-of i (b .0 .1) .1 .1 .1 .1 (λ z. (omega (arith, ltb-false i n q))) t (b .1 .0) (b .1 .1))))
 
   clocks-in : (i t : ℕ) → 1 ≤ s .clock i t → In n i × In places t
   unfolding appliedM clockM
-  clocks-in i t h = let b = clock-in ds sh i t h in counts-in i t (go i (b .0) h)
+  clocks-in i t h = counts-in i t (go i (clock-in ds sh i t h) h)
     where
-      go : (i : ℕ) → In places i → 1 ≤ clockM ds i t → 1 ≤ appliedM ds i t
-      go zero b h = absurd (omega (arith, b .0))
-      go (suc i) b h = omega (arith, counts-of i (b .1) .below t)
+      go : (i : ℕ) → In places i × In places t → 1 ≤ clockM ds i t → 1 ≤ appliedM ds i t
+      go zero b h = absurd (omega (arith, b .0 .0))
+      go (suc i) b h = omega (arith, counts-of i (b .0 .1) .1 .0 t (b .1 .0) (b .1 .1))
 
   -- the cells
   abbrev SetSaid : ℕ → ℕ → ℕ → ℕ → Vec → Type 0
-  SetSaid i x v u w = In n i × (In (whole .core .m) x × (Flat most-desks w × CellAt s i (set v u w)))
+  SetSaid i x v u w = In n i × (In m x × (Flat most-desks w × keeps.cellAt s i (set v u w) .holds))
 
   row-good : (i x : ℕ) → i < places → x < desk-cells → (cellAt cs (i * desk-cells + x) .writer ≡ 0 → ⊥)
-      → SetSaid (suc i) (suc x) (cellAt cs (i * desk-cells + x) .status) (cellAt cs (i * desk-cells + x) .writer) (place (cellAt cs (i * desk-cells + x) .vector))
-  unfolding appliedM
-  row-good i x hi hx used =
+      → let c = cellAt cs (i * desk-cells + x) in SetSaid (suc i) (suc x) (c .status) (c .writer) (place (c .vector))
+  unfolding appliedM cell
+  row-good i x hi hx isSet =
       let row = i * desk-cells + x in
       let u = cellAt cs row .writer in
-      let g = D i hi .cells x hx .isSet used in
-      let d = counts-in (suc i) u (omega (arith, g .first, g .vector u)) in
-      let w = counts-in u u (omega (arith, g .first, g .vector u, own-is ds sh u, counts-of i hi .most u)) in
-      (d .0, ((omega arith, g .cell), (flat-place (cellAt cs row .vector) (full-cellAt cs row .vector), (g .status, (w .0, (g .first, λ t _ _. g .vector t))))))
+      let g = cell-of i x hi hx .1 isSet in
+      let first = g .1 .1 .0 in
+      let below = g .1 .1 .1 in
+      let flat = flat-place (cellAt cs row .vector) (full-cellAt cs row .vector) in
+      let p = flat u first in
+      let b = below u (p .0) (p .1) in
+      let d = counts-in (suc i) u (omega (arith, first, b)) in
+      let w = counts-in u u (omega (arith, first, b, own-is ds sh u, counts-of i hi .0 u (p .0) (p .1))) in
+      (d .0, ((omega arith, g .0), (flat, (g .1 .0, (w .0, (first, below))))))
 
   set-good : (i x v u : ℕ) (w : Vec) → s .cell i x ≡ set v u w → SetSaid i x v u w
   set-good = set-each cs SetSaid row-good
 
   -- an open write
   module _ (e : ℕ) (h : e < entries) (f : isFree (openAt os e) ≡ false) where
-    g : UsedGood n (whole .core .m) (owns ds) os e (openAt os e)
-    g = E e h f
+    abbrev o : Open
+    o = openAt os e
 
-    vector-flat : Flat n (place (openAt os e .vector))
-    vector-flat t l = counts-in t t (omega (arith, g .vector t, own-is ds sh t)) .0
+    flat : Flat places (place (o .vector))
+    flat = flat-place (o .vector) (full-openAt os e .vector)
 
-    writer-in : In n (openAt os e .writer)
-    writer-in = vector-flat (openAt os e .writer) (g .first)
+    first : 1 ≤ number o
+    first = entry-of e h f .1 .0 .0
 
-    not-ready : (a : List ℕ) → readyAt a (openAt os e .vector) (openAt os e .writer) ≡ false → ready n (place a) (openAt os e .writer) (place (openAt os e .vector)) ≡ false
-    not-ready a q =
-        sym (ready-narrow n places (place a) (openAt os e .writer) (place (openAt os e .vector)) vector-flat (writer-in .1) (hn .1)) ∙ q
+    issued : (t : ℕ) → 1 ≤ t → t ≤ places → place (o .vector) t ≤ written s t
+    issued t a b = omega (arith, entry-of e h f .1 .0 .1 .0 t a b, own-is ds sh t)
 
-    mark-of : (i : ℕ) → 1 ≤ i → i ≤ places → MarkAt s (openAt os e .writer) (number (openAt os e)) (openM (openAt os e)) i
-    unfolding appliedM
-    mark-of zero a b = absurd (omega arith)
-    mark-of (suc i) a b =
-        let k = D i b .marks e h f in
+    vector-flat : Flat n (place (o .vector))
+    vector-flat t l = let p = flat t l in counts-in t t (omega (arith, issued t (p .0) (p .1))) .0
+
+    writer-in : In n (o .writer)
+    writer-in = vector-flat (o .writer) first
+
+    not-ready : (a : List ℕ) → readyAt a (o .vector) (o .writer) ≡ false → ready n (place a) (o .writer) (place (o .vector)) ≡ false
+    not-ready a q = sym (ready-narrow n places (place a) (o .writer) (place (o .vector)) vector-flat (writer-in .1) (sizes-in .0 .1)) ∙ q
+
+    mark-good : (i : ℕ) → 1 ≤ i → i ≤ places → keeps.markAt s (o .writer) (number o) (openM o) i .holds
+    unfolding appliedM mark
+    mark-good zero a b = absurd (omega arith)
+    mark-good (suc i) a b =
+        let k = mark-of i e b h f in
         let cnt = getD ds i desk0 .applied in
-        let p = getD (openAt os e .marks) i 0 in
+        let p = getD (o .marks) i 0 in
         cases (ltb i n)
         (λ l. let li : i < n = ltb-true i n l in
-        cases (leb (number (openAt os e)) (place cnt (openAt os e .writer)))
-        (λ q. let y = leb-true (number (openAt os e)) (place cnt (openAt os e .writer)) q in
-        let z = k .applied li y in
-        (omega (arith, z .0), (λ _. li, (λ _. (λ _. y, λ _. z .0), (λ _ t _ _. z .1 t, λ r. absurd (omega (arith, z .0)))))))
-        (λ q. let y = leb-false (number (openAt os e)) (place cnt (openAt os e .writer)) q in
+        cases (leb (number o) (place cnt (o .writer)))
+        (λ q. let y = leb-true (number o) (place cnt (o .writer)) q in
+        let z = k .0 li .0 y in
+        (omega (arith, z .0), (λ _. li, (λ _. (λ _. y, λ _. z .0), (λ _. z .1, λ r. absurd (omega (arith, z .0)))))))
+        (λ q. let y = leb-false (number o) (place cnt (o .writer)) q in
         cases (eqb p 0)
         (λ r. let z : p ≡ 0 = eqb-true p 0 r in
         (omega arith, (λ _. li, (λ _. (λ r. absurd (omega arith), λ r. absurd (omega arith)), (λ r. absurd (omega arith), λ r. absurd (omega arith))))))
-        (λ r. let z = k .waits li (λ r. (omega arith)) (eqb-false p 0 r) in
+        (λ r. let z = k .0 li .1 (λ r. (omega arith)) .1 (eqb-false p 0 r) in
         (omega (arith, z .0), (λ _. li, (λ _. (λ r. absurd (omega (arith, z .0)), λ r. absurd (omega arith)), (λ r. absurd (omega (arith, z .0)), λ _. not-ready cnt (z .1))))))))
-        (λ l. let z = k .past (λ r. (omega (arith, ltb-false i n l))) in
+        (λ l. let z = k .1 (λ r. (omega (arith, ltb-false i n l))) in
         let nl = ltb-false i n l in
         (omega (arith, z), (λ r. absurd (omega (arith, z)), (λ r. absurd (omega arith), (λ r. absurd (omega (arith, z)), λ r. absurd (omega (arith, z)))))))
 
-    lacks-of : Lacks s (openAt os e .writer) (number (openAt os e))
+    lacks-good : Lacks s (o .writer) (number o)
     unfolding everywhere
-    lacks-of =
-        let r = all-not (λ t. eqb (place (openAt os e .marks) t) done) n 1 (g .lacks) in
-        let z = mark-of (r .0) (r .1) (omega (arith, r .2, hn .1)) .1 .1 .0 (omega (arith, r .2)) .1 in
+    lacks-good =
+        let r = all-not (λ t. eqb (place (o .marks) t) done) n 1 (entry-of e h f .1 .0 .1 .1) in
+        let z = mark-good (r .0) (r .1) (omega (arith, r .2, sizes-in .0 .1)) .1 .1 .0 (omega (arith, r .2)) .1 in
         record {
           desk = r .0;
           desk-in = (r .1, omega (arith, r .2));
-          lower = cases (ltb (s .applied (r .0) (openAt os e .writer)) (number (openAt os e)))
+          lower = cases (ltb (s .applied (r .0) (o .writer)) (number o))
               (λ q. ltb-true _ _ q)
-              (λ q. absurd (eqb-false (place (openAt os e .marks) (r .0)) done (r .3) (z (ltb-false _ _ q))));
+              (λ q. absurd (eqb-false (place (o .marks) (r .0)) done (r .3) (z (ltb-false _ _ q))));
         }
 
-    write-of : WriteAt s (openAt os e .writer) (number (openAt os e)) (openM (openAt os e))
-    write-of = (g .cell, (g .status, (refl, (λ t _ _. omega (arith, g .vector t, own-is ds sh t), mark-of))))
+    write-good : keeps.writeAt s (o .writer) (number o) (openM o) .holds
+    write-good = let g = entry-of e h f .0 .1 in (g .0, (g .1, (refl, (issued, mark-good))))
 
-    number-in : In (written s (openAt os e .writer)) (number (openAt os e))
-    number-in = (g .first, omega (arith, g .vector (openAt os e .writer), own-is ds sh (openAt os e .writer)))
+    number-in : In (written s (o .writer)) (number o)
+    number-in = let p = flat (o .writer) first in (first, issued (o .writer) (p .0) (p .1))
 
   abbrev OpenSaid : ℕ → ℕ → machine.Open → Type 0
-  OpenSaid u k w = (In n u × (In (written s u) k × (Flat most-desks (w .vector) × Flat most-desks (w .marks)))) × (Lacks s u k × WriteAt s u k w)
+  OpenSaid u k w =
+      (In n u × (In (written s u) k × (Flat most-desks (w .vector) × Flat most-desks (w .marks)))) × (Lacks s u k × keeps.writeAt s u k w .holds)
 
   opens-good : (u k : ℕ) (w : machine.Open) → s .opens u k ≡ some w → OpenSaid u k w
   opens-good =
       open-each os OpenSaid
       (λ e h f. (
-        (writer-in e h f, (number-in e h f, (flat-place (openAt os e .vector) (full-openAt os e .vector), flat-place (openAt os e .marks) (full-openAt os e .marks)))),
-        (lacks-of e h f, write-of e h f),
+        (writer-in e h f, (number-in e h f, (flat e h f, flat-place (openAt os e .marks) (full-openAt os e .marks)))),
+        (lacks-good e h f, write-good e h f),
       ))
 
   -- none is missing
@@ -183,44 +218,31 @@ module _ (whole : Table) (sh : DesksShape (whole .core .desks)) (fit : Fit (whol
       go : (i : ℕ) → In n i → s .applied i u < k → ⊥
       go zero a b = omega (arith, a .0)
       go (suc i) a b =
-          let z = gap-least u k (hu .0, omega (arith, hu .1, hn .1)) hk (ap isSome q) in
-          omega (arith, counts-of i (omega (arith, a .1, hn .1)) .live (a .1) u)
+          let p : u ≤ places = omega (arith, hu .1, sizes-in .0 .1) in
+          let z = gap-least u k (hu .0, p) hk (ap isSome q) in
+          omega (arith, counts-of i (omega (arith, a .1, sizes-in .0 .1)) .1 .1 .1 .0 (a .1) u (hu .0) p)
 
-  cell-good : (i x : ℕ) (c : Cell) → s .cell i x ≡ c → CellAt s i c
+  cell-good : (i x : ℕ) (c : Cell) → s .cell i x ≡ c → keeps.cellAt s i c .holds
   cell-good i x blank e = tt
   cell-good i x (set v u w) e = set-good i x v u w e .1 .1 .1
 
-  open-good : (u k : ℕ) (w : Option machine.Open) → s .opens u k ≡ w → In n u → k ≤ written s u → OpenAt s u k w
+  open-good : (u k : ℕ) (w : Option machine.Open) → s .opens u k ≡ w → In n u → k ≤ written s u → keeps.openAt s u k w .holds
   open-good u k none e hu hk = closed u k hu hk e
   open-good u k (some w) e hu hk = opens-good u k w e .1
 
-  desk-good : (i : ℕ) → 1 ≤ i → i ≤ n
-      → (written s i ≤ most-writes) × ((s .clock i i ≡ s .applied i i) × ((t : ℕ) → 1 ≤ t → t ≤ most-desks → (1 ≤ s .applied i t → t ≤ n) × ((s .applied i t ≤ written s t) × (s .clock i t ≤ s .applied i t))))
+  desk-good : (i : ℕ) → 1 ≤ i → i ≤ n → keeps.deskAt s i .holds
   unfolding appliedM clockM
   desk-good zero a b = absurd (omega arith)
   desk-good (suc i) a b =
-      let k = counts-of i (omega (arith, hn .1)) in (
+      let k = counts-of i (omega (arith, sizes-in .0 .1)) in
+      let most : (t : ℕ) → 1 ≤ t → t ≤ places → s .applied (suc i) t ≤ written s t =
+      (λ t c d. omega (arith, k .0 t c d, own-is ds sh t)) in (
         omega (arith, fit (suc i), own-is ds sh (suc i)),
-        (
-          k .same,
-          λ t _ _. (
-            λ l. counts-in t t (omega (arith, k .most t, own-is ds sh t)) .0 .1,
-            (omega (arith, k .most t, own-is ds sh t), k .below t),
-          ),
-        ),
+        (k .1 .1 .0, λ t c d. (λ l. counts-in t t (omega (arith, most t c d)) .0 .1, (most t c d, k .1 .0 t c d))),
       )
 
-  kept : Kept s
-  kept =
-      record {
-        sizes = (hn, (hm, few whole));
-        desk = desk-good;
-        cell = λ i _ _ x _ _. cell-good i x (s .cell i x) refl;
-        opens = λ u a b k _ d. open-good u k (s .opens u k) refl (a, b) d;
-      }
-
-  shaped : Shaped s
-  shaped =
+  zero-past : ZeroPast s
+  zero-past =
       record {
         counts = counts-in;
         clocks = clocks-in;
@@ -237,15 +259,25 @@ module _ (whole : Table) (sh : DesksShape (whole .core .desks)) (fit : Fit (whol
       meet : (e j : ℕ) → e < entries → j < entries → e < j → namedAt os u k e ≡ true → namedAt os u k j ≡ true → ⊥
       meet e j he hj l te tj =
           let a = named-is (openAt os e) u k te in
-          let z : namedAt os u k j ≡ false = rw (a .2, a .1) at (E e he (a .0) .last j l hj) in
+          let z : namedAt os u k j ≡ false = rw (a .2, a .1) at (entry-of e he (a .0) .1 .1 j l hj) in
           apart (namedAt os u k j) tj z
 
   unset : (r : ℕ) → r < all-cells → cellAt cs r .writer ≡ 0 → AllZero (cellAt cs r)
+  unfolding cell
   unset r h q =
       let i = r / desk-cells in
       let x = r % desk-cells in
-      let z : i * desk-cells + x ≡ r = omega arith in
-      rw z at (D i (omega arith) .cells x (omega arith) .unset) q
+      let e : i * desk-cells + x ≡ r = omega arith in
+      let z = rw e at (cell-of i x (omega arith) (omega arith) .0) q in
+      record { status = z .0; vector = zero-all (cellAt cs r .vector) (full-cellAt cs r .vector) (z .1) }
 
   pub to-sound : SoundTable whole
-  to-sound = record { rules = to-rules s shaped kept; blanks = unset; unique = once }
+  to-sound =
+      record {
+        rules = to-rules s zero-past (
+          (sizes-in .0, (sizes-in .1, few whole)),
+          (desk-good, (λ i _ _ x _ _. cell-good i x (s .cell i x) refl, λ u a b k _ d. open-good u k (s .opens u k) refl (a, b) d)),
+        );
+        blanks = unset;
+        unique = once;
+      }

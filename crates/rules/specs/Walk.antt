@@ -6,7 +6,7 @@ use mathlib.Core.Option.{Option, none, some}
 use mathlib.Core.Bool.{true, false, not}
 use native.Mathlib.Omega.{arith}
 use lib.ListN.{getD}
-use Rattle.laws.specs.Says.{apart, says-and, says-leb}
+use Rattle.laws.specs.Says.{apart}
 use Rattle.machine.specs.Steps.{isNone, begins}
 use Rattle.clock.specs.Vectors.{places}
 use Rattle.machine.specs.Table.{most-writes}
@@ -18,8 +18,7 @@ use Rattle.table.specs.Model.{opensM}
 use Rattle.table.specs.Opens.{opens-not, found-none}
 use Rattle.table.specs.declared.Desk.{Desk}
 use Rattle.table.specs.declared.Open.{Open}
-use Rattle.rules.specs.Test.{has, owns, rangesTest}
-use Rattle.rules.specs.Parts.{says-begins}
+use Rattle.rules.specs.Test.{has, owns, ranges, sizes}
 use Rattle.rules.specs.To.{Fit}
 
 -- what a search by name says
@@ -35,12 +34,11 @@ module _ (os : List ℕ) (u k : ℕ) (r : Found) (f : FoundIn (namedAt os u k) r
   has-no q = sym (ap (λ (o : Option machine.Open). not (isNone o)) (found-none os u k r f q))
 
 -- an entry in range has a writer within n
-pub writer-within : (n m : ℕ) (o : Open) → rangesTest n m o ≡ true → o .writer ≤ n
-unfolding rangesTest
-writer-within n m o e = says-and _ _ (says-leb (o .writer) n) (record { to = λ t. t; from = λ t. t }) .to e .0
+pub writer-within : (n m : ℕ) (o : Open) → ranges n m o .passes ≡ true → o .writer ≤ n
+writer-within n m o e = ranges n m o .says .to e .0
 
 pub desks-within : (n m : ℕ) → begins n m ≡ true → n ≤ places
-desks-within n m e = says-begins n m .to e .0 .1
+desks-within n m e = sizes n m .says .to e .0 .1
 
 pub fit-of : (own : List ℕ) (ds : List Desk) → own ≡ owns ds → ((t : ℕ) → getD own t 0 ≤ most-writes) → Fit ds
 fit-of own ds e h zero = omega arith

@@ -1,17 +1,18 @@
 // Whether a table value keeps the rules of the image.
 ghost use mathlib.Core.Path.{_≡_};
-ghost use mathlib.Core.Bool.{not};
+ghost use mathlib.Core.Bool.{not, _&&_};
 ghost use Prim.Native.Nat.{ℕ, _<_, _≤_};
 ghost use lib.ListN.{getD};
-ghost use lib.Dec.{leb};
-ghost use Rattle.laws.specs.Says.{Says, and};
+ghost use lib.Dec.{leb, ltb, eqb};
+ghost use Rattle.laws.specs.Says.{Says};
 ghost use Rattle.machine.specs.Table.{most-writes};
 ghost use Rattle.machine.specs.Rules.{In};
 ghost use Rattle.clock.specs.Vectors.{places, place};
-ghost use Rattle.table.specs.Value.{entries, openAt, isFree};
+ghost use Rattle.table.specs.Value.{entries, openAt};
+ghost use Rattle.table.specs.Names.{number};
 ghost use Rattle.table.specs.Sound.{SoundTable};
 ghost use Rattle.table.specs.Model.{tableWith};
-ghost use Rattle.rules.specs.Test.{zeroTest, has, owns, gapOf, gaps, lastOf, rangesTest, usedTest, entryTest, entriesTest, countsTest, setTest, cellTest, cellsTest, waitTest, liveTest, markTest, marksTest, deskTest, desksTest, ownTest};
+ghost use Rattle.rules.specs.Test.{has, owns, gapOf, gaps, lastOf, nought, ranges, due, used, entry, allEntries, live, counts, setCell, blankCell, cell, allCells, waits, liveMark, mark, allMarks, desk, allDesks, ownTest};
 use clock::PLACES;
 use table::CELL;
 use table::CELLS;
@@ -24,26 +25,6 @@ use table::OPENS;
 use table::Open;
 use table::Table;
 
-fn wide(x: u16) -> usize
-    ensures { λ r. ⌜ r ≡ x ⌝ }
-{
-    x as usize
-}
-
-// The number at place u, from 1, and 0 where there is none.
-fn at_place(v: [u16; PLACES], u: usize) -> u16
-    ensures { λ r. ⌜ r ≡ place v u ⌝ }
-{
-    if u == 0 {
-        return 0;
-    }
-    let at = u - 1;
-    if PLACES <= at {
-        return 0;
-    }
-    v[at]
-}
-
 // Tests as values: what is joined by these runs without a branch.
 fn le(a: usize, b: usize) -> bool
     ensures { λ r. ⌜ r ≡ leb a b ⌝ }
@@ -51,14 +32,26 @@ fn le(a: usize, b: usize) -> bool
     a <= b
 }
 
+fn lt(a: usize, b: usize) -> bool
+    ensures { λ r. ⌜ r ≡ ltb a b ⌝ }
+{
+    a < b
+}
+
+fn same(a: u16, b: u16) -> bool
+    ensures { λ r. ⌜ r ≡ eqb a b ⌝ }
+{
+    a == b
+}
+
 fn both(a: bool, b: bool) -> bool
-    ensures { λ r. ⌜ r ≡ and a b ⌝ }
+    ensures { λ r. ⌜ r ≡ a && b ⌝ }
 {
     if a { b } else { false }
 }
 
 fn zero(v: [u16; PLACES]) -> bool
-    ensures { λ r. ⌜ r ≡ zeroTest v ⌝ }
+    ensures { λ r. ⌜ r ≡ nought v .passes ⌝ }
 {
     clock::covers([0u16; PLACES], v)
 }
@@ -141,11 +134,29 @@ fn last_of(opens: &[u16; OPENS * OPEN], u: usize, k: u16, e: usize) -> bool
 }
 
 fn ranges_ok(n: usize, m: usize, o: Open) -> bool
-    ensures { λ r. ⌜ r ≡ rangesTest n m o ⌝ }
+    ensures { λ r. ⌜ r ≡ ranges n m o .passes ⌝ }
 {
-    let x = wide(o.cell);
-    let cell = both(le(1, x), both(le(x, m), le(wide(o.status), 2)));
-    both(le(wide(o.writer), n), cell)
+    let x = table::wide(o.cell);
+    let cell = both(both(le(1, x), le(x, m)), le(table::wide(o.status), 2));
+    both(le(table::wide(o.writer), n), cell)
+}
+
+// Its number is k.
+fn due_ok(
+    n: usize,
+    own: [u16; PLACES],
+    opens: &[u16; OPENS * OPEN],
+    e: usize,
+    o: Open,
+    k: u16,
+) -> bool
+    requires { ⌜ (n ≤ places) × (e < entries) ⌝ }
+    requires { ⌜ (o ≡ openAt (now opens) e) × (k ≡ number o) ⌝ }
+    ensures { λ r. ⌜ r ≡ due n own o .passes ⌝ }
+{
+    let v = o.vector;
+    let open = both(clock::covers(own, v), !table::all_applied(opens, e, n));
+    both(le(1, table::wide(k)), open)
 }
 
 fn used_ok(
@@ -158,29 +169,21 @@ fn used_ok(
 ) -> bool
     requires { ⌜ (n ≤ places) × (e < entries) ⌝ }
     requires { ⌜ (o ≡ openAt (now opens) e) × (1 ≤ o .writer) ⌝ }
-    ensures { λ r. ⌜ r ≡ usedTest n m own (now (opens .entry)) e o ⌝ }
+    ensures { λ r. ⌜ r ≡ used n m own (now (opens .entry)) e o .passes ⌝ }
 {
-    let u = wide(o.writer);
-    let v = o.vector;
-    let k = at_place(v, u);
     if !ranges_ok(n, m, o) {
         return false;
     }
-    if k == 0 {
-        return false;
-    }
-    if !clock::covers(own, v) {
-        return false;
-    }
-    if table::all_applied(opens, e, n) {
-        return false;
-    }
-    last_of(opens, u, k, e)
+    let u = table::wide(o.writer);
+    let v = o.vector;
+    let k = table::at_place(v, u);
+    let due = due_ok(n, own, opens, e, o, k);
+    both(due, last_of(opens, u, k, e))
 }
 
 fn entry_ok(n: usize, m: usize, own: [u16; PLACES], opens: &[u16; OPENS * OPEN], e: usize) -> bool
     requires { ⌜ (n ≤ places) × (e < entries) ⌝ }
-    ensures { λ r. ⌜ r ≡ entryTest n m own (now (opens .entry)) e ⌝ }
+    ensures { λ r. ⌜ r ≡ entry n m own (now (opens .entry)) e .passes ⌝ }
 {
     let o = table::open_at(opens, e);
     let w = o.writer;
@@ -192,7 +195,7 @@ fn entry_ok(n: usize, m: usize, own: [u16; PLACES], opens: &[u16; OPENS * OPEN],
 
 fn entries_ok(n: usize, m: usize, own: [u16; PLACES], opens: &[u16; OPENS * OPEN]) -> bool
     requires { ⌜ n ≤ places ⌝ }
-    ensures { λ r. ⌜ r ≡ entriesTest n m own (now (opens .entry)) ⌝ }
+    ensures { λ r. ⌜ r ≡ allEntries n m own (now (opens .entry)) .passes ⌝ }
 {
     let mut e = 0;
     while e < OPENS {
@@ -204,80 +207,67 @@ fn entries_ok(n: usize, m: usize, own: [u16; PLACES], opens: &[u16; OPENS * OPEN
     true
 }
 
-// Desk i, from 0: its counts and its clock. gap: what every desk must have applied.
+// What a desk must have applied: gap of one in use, nothing past n.
+fn live_ok(n: usize, a: [u16; PLACES], gap: [u16; PLACES], i: usize) -> bool
+    ensures { λ r. ⌜ r ≡ live n a gap i .passes ⌝ }
+{
+    if lt(i, n) {
+        clock::covers(a, gap)
+    } else {
+        zero(a)
+    }
+}
+
+// Desk i, from 0: its counts and its clock.
 fn counts_ok(n: usize, own: [u16; PLACES], gap: [u16; PLACES], i: usize, d: Desk) -> bool
     requires { ⌜ i < places ⌝ }
-    ensures { λ r. ⌜ r ≡ countsTest n own gap i d ⌝ }
+    ensures { λ r. ⌜ r ≡ counts n own gap i d .passes ⌝ }
 {
     let a = d.applied;
     let clock = d.clock;
     let k = clock.at;
-    if !clock::covers(own, a) {
-        return false;
-    }
-    if !clock::covers(a, k) {
-        return false;
-    }
-    if k[i] != a[i] {
-        return false;
-    }
-    if i < n {
-        return clock::covers(a, gap);
-    }
-    zero(a)
+    let below = both(
+        clock::covers(a, k),
+        both(same(k[i], a[i]), live_ok(n, a, gap, i)),
+    );
+    both(clock::covers(own, a), below)
 }
 
 // Cell x, from 0, of a desk with the counts a.
-fn set_ok(n: usize, m: usize, a: [u16; PLACES], x: usize, c: Cell) -> bool
-    ensures { λ r. ⌜ r ≡ setTest n m a x c ⌝ }
+fn set_ok(m: usize, a: [u16; PLACES], x: usize, c: Cell) -> bool
+    ensures { λ r. ⌜ r ≡ setCell m a x c .passes ⌝ }
 {
-    let s = wide(c.status);
-    let w = wide(c.writer);
     let v = c.vector;
-    if m <= x {
-        return false;
-    }
-    if n < w {
-        return false;
-    }
-    if 2 < s {
-        return false;
-    }
-    if at_place(v, w) == 0 {
-        return false;
-    }
-    clock::covers(a, v)
+    let first = table::wide(table::at_place(v, table::wide(c.writer)));
+    let vector = both(le(1, first), clock::covers(a, v));
+    both(lt(x, m), both(le(table::wide(c.status), 2), vector))
 }
 
-fn cell_ok(n: usize, m: usize, a: [u16; PLACES], x: usize, c: Cell) -> bool
-    ensures { λ r. ⌜ r ≡ cellTest n m a x c ⌝ }
+fn blank_ok(c: Cell) -> bool
+    ensures { λ r. ⌜ r ≡ blankCell c .passes ⌝ }
 {
-    let w = c.writer;
-    let s = c.status;
     let v = c.vector;
-    if w != 0 {
-        return set_ok(n, m, a, x, c);
-    }
-    if s != 0 {
-        return false;
-    }
-    zero(v)
+    both(same(c.status, 0), zero(v))
 }
 
-fn cells_ok(
-    n: usize,
-    m: usize,
-    a: [u16; PLACES],
-    i: usize,
-    cells: &[u16; PLACES * CELLS * CELL],
-) -> bool
+fn cell_ok(m: usize, a: [u16; PLACES], x: usize, c: Cell) -> bool
+    ensures { λ r. ⌜ r ≡ cell m a x c .passes ⌝ }
+{
+    if same(c.writer, 0) {
+        blank_ok(c)
+    } else {
+        set_ok(m, a, x, c)
+    }
+}
+
+fn cells_ok(m: usize, a: [u16; PLACES], i: usize, cells: &[u16; PLACES * CELLS * CELL]) -> bool
     requires { ⌜ i < places ⌝ }
-    ensures { λ r. ⌜ r ≡ cellsTest n m a i (now (cells .entry)) ⌝ }
+    ensures { λ r. ⌜ r ≡ allCells m a i (now (cells .entry)) .passes ⌝ }
 {
     let mut x = 0;
     while x < CELLS {
         let c = table::cell_at(cells, i * CELLS + x);
-        if !cell_ok(n, m, a, x, c) {
+        if !cell_ok(m, a, x, c) {
             return false;
         }
         x += 1;
@@ -287,51 +277,47 @@ fn cells_ok(
 
 // The mark p of o at a desk with the counts a, where the desk has not applied it; and in any case.
 fn wait_ok(a: [u16; PLACES], p: u16, o: Open) -> bool
-    ensures { λ r. ⌜ r ≡ waitTest a p o ⌝ }
+    ensures { λ r. ⌜ r ≡ waits a p o .passes ⌝ }
 {
-    let u = wide(o.writer);
     let v = o.vector;
-    if p == 0 {
-        return true;
+    if same(p, 0) {
+        true
+    } else {
+        both(same(p, 1), !clock::ready(a, v, table::wide(o.writer)))
     }
-    if p != 1 {
-        return false;
-    }
-    !clock::ready(a, v, u)
 }
 
-fn live_ok(a: [u16; PLACES], p: u16, o: Open) -> bool
-    ensures { λ r. ⌜ r ≡ liveTest a p o ⌝ }
+fn mark_live(a: [u16; PLACES], p: u16, o: Open) -> bool
+    ensures { λ r. ⌜ r ≡ liveMark a p o .passes ⌝ }
 {
-    let u = wide(o.writer);
+    let u = table::wide(o.writer);
     let v = o.vector;
-    if at_place(v, u) <= at_place(a, u) {
-        if p != 2 {
-            return false;
-        }
-        return clock::covers(a, v);
+    let k = table::wide(table::at_place(v, u));
+    if le(k, table::wide(table::at_place(a, u))) {
+        both(same(p, 2), clock::covers(a, v))
+    } else {
+        wait_ok(a, p, o)
     }
-    wait_ok(a, p, o)
 }
 
 fn mark_ok(n: usize, a: [u16; PLACES], i: usize, o: Open) -> bool
     requires { ⌜ i < places ⌝ }
-    ensures { λ r. ⌜ r ≡ markTest n a i o ⌝ }
+    ensures { λ r. ⌜ r ≡ mark n a i o .passes ⌝ }
 {
-    let w = o.writer;
     let p = o.marks[i];
-    if w == 0 {
+    if same(o.writer, 0) {
         return true;
     }
-    if i < n {
-        return live_ok(a, p, o);
+    if lt(i, n) {
+        mark_live(a, p, o)
+    } else {
+        same(p, 0)
     }
-    p == 0
 }
 
 fn marks_ok(n: usize, a: [u16; PLACES], i: usize, opens: &[u16; OPENS * OPEN]) -> bool
     requires { ⌜ i < places ⌝ }
-    ensures { λ r. ⌜ r ≡ marksTest n a i (now (opens .entry)) ⌝ }
+    ensures { λ r. ⌜ r ≡ allMarks n a i (now (opens .entry)) .passes ⌝ }
 {
     let mut e = 0;
     while e < OPENS {
@@ -355,16 +341,13 @@ fn desk_ok(
     opens: &[u16; OPENS * OPEN],
 ) -> bool
     requires { ⌜ i < places ⌝ }
-    ensures { λ r. ⌜ r ≡ deskTest n m own gap i d (now (cells .entry)) (now (opens .entry)) ⌝ }
+    ensures { λ r. ⌜ r ≡ desk n m own gap (now (cells .entry)) (now (opens .entry)) i d .passes ⌝ }
 {
-    if !counts_ok(n, own, gap, i, d) {
-        return false;
-    }
     let a = d.applied;
-    if !cells_ok(n, m, a, i, cells) {
-        return false;
-    }
-    marks_ok(n, a, i, opens)
+    both(
+        counts_ok(n, own, gap, i, d),
+        both(cells_ok(m, a, i, cells), marks_ok(n, a, i, opens)),
+    )
 }
 
 fn desks_ok(
@@ -376,7 +359,7 @@ fn desks_ok(
     cells: &[u16; PLACES * CELLS * CELL],
     opens: &[u16; OPENS * OPEN],
 ) -> bool
-    ensures { λ r. ⌜ r ≡ desksTest n m own gap desks (now (cells .entry)) (now (opens .entry)) ⌝ }
+    ensures { λ r. ⌜ r ≡ allDesks n m own gap (now (cells .entry)) (now (opens .entry)) desks .passes ⌝ }
 {
     let mut i = 0;
     while i < PLACES {
@@ -397,16 +380,14 @@ fn passes(
     cells: &[u16; PLACES * CELLS * CELL],
     opens: &[u16; OPENS * OPEN],
 ) -> bool
-    ensures { λ r. ⌜ r ≡ ownTest n m own desks (now (cells .entry)) (now (opens .entry)) ⌝ }
+    ensures { λ r. ⌜ r ≡ ownTest n m own desks (now (cells .entry)) (now (opens .entry)) .passes ⌝ }
 {
     if !table::begins(n, m) {
         return false;
     }
-    if !entries_ok(n, m, own, opens) {
-        return false;
-    }
     let gap = gap_counts(own, opens);
-    desks_ok(n, m, own, gap, desks, cells, opens)
+    let desks_ok = desks_ok(n, m, own, gap, desks, cells, opens);
+    both(entries_ok(n, m, own, opens), desks_ok)
 }
 
 // Does the table keep the rules? Its model does, its unset cells are all zero, and no name stands in two of its entries.

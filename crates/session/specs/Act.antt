@@ -34,7 +34,9 @@ use Rattle.steps.specs.Stepped.{Placed, putDesk, Stepped, tableAfter}
 use Rattle.session.specs.declared.Next.{Next}
 use Rattle.session.specs.Session.{Session, Turn, turn}
 use Rattle.session.specs.Line.{lineIn, actor, seatOf}
-use Rattle.session.specs.Holds.{zeroTable, Holds, Owns, begun-holds}
+use Rattle.rules.specs.Test.{owns, sizes}
+use Rattle.rules.specs.Box.{own-is}
+use Rattle.session.specs.Holds.{zeroTable, Holds, begun-holds}
 
 -- On a table --
 
@@ -137,7 +139,7 @@ acted-none o p e = record {
 -- the code's values hold the session z, and d is the desk at the seat of i
 pub record Seated (t : Table) (own : List ℕ) (i : ℕ) (d : Desk) (z : Session) : Type 0 where
   pub holds : Holds t z
-  pub owns : Owns own (t .core .desks)
+  pub own-is : own ≡ owns (t .core .desks)
   pub shape : DesksShape (t .core .desks)
   pub cells-size : length (t .cells) ≡ all-cells * cell-width
   pub opens-size : length (t .opens) ≡ entries * open-width
@@ -189,7 +191,7 @@ module _ {whole : Table} {own : List ℕ} {i : ℕ} {d : Desk} where
     cells-size = h .cells-size;
     opens-size = h .opens-size;
     desk = λ hi. rw (← seat hi) (h .desk);
-    own-counts = h .owns .counts;
+    own-counts = λ u _. rw (h .own-is) (own-is (whole .core .desks) (h .shape) u);
   }
     where
       seat : In (whole .core .n) i → seatOf i ≡ i - 1
@@ -251,7 +253,7 @@ turned-first {whole} {own} {d} s list names z e h =
         → (let r = firstOf d s in Turned (tableSeated (r .n) (r .m) (whole .core .desks) (actor s) (r .desk) (whole .cells) (whole .opens)) (answerOf (r .answer) names) (turn none (lineIn s list)))
     go (New a b) q y =
         cases (begins a b)
-        (λ t. let w = says-both (within most-desks a) (within most-cells b) (says-within most-desks a) (says-within most-cells b) .to t in
+        (λ t. let w = sizes a b .says .to t in
         rw (begin-yes a b t, t) (record { answer-is = refl; holds = rw q (begun-holds a b whole (w .0) (w .1) y) }))
         (λ t. rw (begin-no a b t, t) (record { answer-is = refl; holds = rw q (none-yet y) }))
     go (Read i x) q y = stay i q y

@@ -22,6 +22,7 @@ use Rattle.answer.specs.Outcome.{upto, writtenOf, written, buffer}
 use Rattle.answer.specs.declared.Written.{Written}
 use Rattle.answer.specs.declared.Written.the-variants.{Upto, Short}
 use Rattle.table.specs.declared.Table.{Table}
+use Rattle.rules.specs.Test.{owns}
 use Rattle.session.specs.Session.{Session, Turn, turn}
 use Rattle.session.specs.Transcript.{transcriptFrom, sessionFrom}
 use Rattle.session.specs.Laws.{turnAt, from-line, left-line}
@@ -177,8 +178,12 @@ module _ {z : Session} {text : List ℕ} {from : ℕ} {out : List ℕ} {t : Tabl
   going-end h =
       record { session = g .session; lines = g .lines; passed = g .passed; stops = h; holds = g .holds; stored = g .stored; len-is = g .len-is; fits = g .fits }
 
-  pub going-long : length out′ ≡ length out
-  going-long = ap length (g .stored) ∙ length-sets out 0 (g .lines)
+-- the loop of the code: its own counts, and what holds of any session that the table t was when it began
+pub record InLoop (t : Table) (text : List ℕ) (from : ℕ) (out own : List ℕ) (t′ : Table) (at len : ℕ) (out′ : List ℕ) : Type 0 where
+  pub own-is : own ≡ owns (t′ .core .desks)
+  pub long : length out′ ≡ length out
+  pub room : len ≤ length out
+  pub going : (z : Session) → Holds t z → Going z text from out t′ at len out′
 
 -- the line at a place, as the code finds it
 pub said-is : (text : List ℕ) (at : ℕ) {line : List ℕ} {end : ℕ} {ended : Bool} → at ≤ length text → line ≡ lineAt text at → end ≡ at + length line → ended ≡ ltb end (length text)

@@ -4,13 +4,12 @@ ghost use Prim.Native.Nat.{ℕ, _+_, _-_, _<_, _≤_, min};
 ghost use lib.ListN.{length, take};
 ghost use mathlib.Core.Option.{none};
 ghost use Rattle.laws.specs.Loop.{pick};
-ghost use Rattle.laws.specs.Tab.{tab};
 ghost use Rattle.clock.specs.Vectors.{places};
 ghost use Rattle.machine.specs.Steps.{begins};
 ghost use Rattle.schedule.specs.Grammar.{lineOf};
 ghost use Rattle.schedule.specs.Value.{most-listed, cellCount};
 ghost use Rattle.session.specs.Line.{Means, actor, seatOf};
-ghost use Rattle.session.specs.Holds.{zeroCore, ownAt, SomeSession};
+ghost use Rattle.session.specs.Holds.{zeroCore, SomeSession};
 ghost use Rattle.session.specs.Act.{Acting, Acts, SomeSeat, Turns, nextOf, begunOf, noStepOf, firstOf};
 ghost use Rattle.reply.specs.declared.Answer.the-variants.{Refused};
 ghost use Rattle.answer.specs.Bytes.{answerLine, most-answer};
@@ -69,16 +68,6 @@ fn seat(i: usize) -> usize
     0
 }
 
-fn begins(n: usize, m: usize) -> bool
-    ensures { λ r. ⌜ r ≡ begins n m ⌝ }
-{
-    if table::inside(PLACES, n) {
-        table::inside(CELLS, m)
-    } else {
-        false
-    }
-}
-
 // Still no table.
 fn none_yet(d: Desk, why: Refusal) -> Next
     ensures { λ r. ⌜ r ≡ nextOf 0 0 d (Refused why) ⌝ }
@@ -95,7 +84,7 @@ fn none_yet(d: Desk, why: Refusal) -> Next
 fn begun(d: Desk, n: usize, m: usize) -> Next
     ensures { λ r. ⌜ r ≡ begunOf d n m ⌝ }
 {
-    if begins(n, m) {
+    if table::begins(n, m) {
         return Next {
             n: n,
             m: m,
@@ -221,19 +210,6 @@ fn said(line: &[u8], ended: bool, list: &mut [u16; LIST]) -> Line
     Line::NoStep
 }
 
-// How many writes each desk has made.
-fn owns(desks: [Desk; PLACES]) -> [u16; PLACES]
-    ensures { λ r. ⌜ r ≡ tab places (ownAt desks) ⌝ }
-{
-    let mut own = [0u16; PLACES];
-    for i in 0..PLACES {
-        let d = desks[i];
-        let a = d.applied;
-        own[i] = a[i];
-    }
-    own
-}
-
 // Behind a line that ends at a place: past its LF, or the end of all.
 fn behind(end: usize, len: usize) -> usize
     requires { ⌜ end ≤ len ⌝ }
@@ -295,7 +271,7 @@ pub fn run(
     let mut m = core.m;
     let mut desks = core.desks;
     table::desks_shape(desks);
-    let mut own = owns(desks);
+    let mut own = rules::own_counts(desks);
     let mut names = [0u16; NAMES];
     let mut list = [0u16; LIST];
     let mut place = at;

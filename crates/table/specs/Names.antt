@@ -4,6 +4,7 @@ use mathlib.Core.Path.{_≡_, refl}
 use mathlib.Core.List.{List}
 use mathlib.Core.Bool.{Bool, true, false}
 use native.Mathlib.Omega.{arith}
+use borrow.Author.Count.{below-more}
 use borrow.Author.Tests.{eqb-true, eq-eqb, ne-eqb}
 use lib.ListN.{getD}
 use lib.Dec.{eqb}
@@ -76,9 +77,20 @@ namedAt l u k e = named u k (openAt l e)
 abbrev pub freeAt : List ℕ → ℕ → Bool
 freeAt l e = isFree (openAt l e)
 
--- a search that begins at any entry and goes round has seen them all
-pub round : (p : ℕ → Bool) (first : ℕ) → ((i : ℕ) → i < entries → p ((first + i) % entries) ≡ false) → (e : ℕ) → e < entries → p e ≡ false
-round p first h e b =
-    let i : ℕ = (e + entries - first % entries) % entries in
-    let c : (first + i) % entries ≡ e = omega arith in
-    rw (← c) (h i (omega arith))
+-- a search that begins at any entry and goes round: j entries were seen, and none passed
+pub record Seen (p : ℕ → Bool) (first j : ℕ) : Type 0 where
+  pub most : j ≤ entries
+  pub misses : (i : ℕ) → i < j → p ((first + i) % entries) ≡ false
+
+pub seen-none : {p : ℕ → Bool} {first : ℕ} → Seen p first 0
+seen-none = record { most = omega arith; misses = λ i h. absurd (omega arith) }
+
+module _ {p : ℕ → Bool} {first j : ℕ} (s : Seen p first j) where
+  pub seen-more : j < entries → p ((first + j) % entries) ≡ false → Seen p first (j + 1)
+  seen-more h e = record { most = omega arith; misses = below-more _ _ (s .misses) e }
+
+  pub seen-all : entries ≤ j → (e : ℕ) → e < entries → p e ≡ false
+  seen-all h e b =
+      let i : ℕ = (e + entries - first % entries) % entries in
+      let c : (first + i) % entries ≡ e = omega arith in
+      rw (← c) (s .misses i (omega arith))

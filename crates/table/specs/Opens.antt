@@ -16,7 +16,7 @@ use Rattle.machine.specs.Steps.{mark}
 use Rattle.machine.specs.Rules.{In}
 use Rattle.table.specs.declared.Open.{Open}
 use Rattle.table.specs.declared.Found.{Found}
-use Rattle.table.specs.declared.Found.the-variants.{At, Nothing}
+use Rattle.table.specs.declared.Found.the-variants.{Nothing}
 use Rattle.table.specs.Value.{entries, open-width, open0, openAt, putOpen, putMark, freeEntry, entriesOf, marked, emptied, isFree, FullOpen, full-openAt, length-putMark, getD-entriesOf, length-entriesOf, openAt-stored, openAt-kept, entriesOf-put, entriesOf-mark, entriesOf-free}
 use Rattle.table.specs.Names.{number, named, namedAt, FoundIn, free-named, own-named, named-is, not-named}
 use Rattle.table.specs.Model.{openM, opensM}
@@ -72,9 +72,6 @@ opens-some l u k w f =
     record { at = r .at; small = b; holds = rw (getD-entriesOf l (r .at) b) at (r .passes); is = r .is ∙ ap openM (getD-entriesOf l (r .at) b) }
 
 -- what a search by name finds is what the model has under the name
-pub found-some : (l : List ℕ) (u k : ℕ) (r : Found) (e : ℕ) → Unique l → FoundIn (namedAt l u k) r → r ≡ At e → opensM l u k ≡ some (openM (openAt l e))
-found-some l u k r e q f p = let g : FoundIn (namedAt l u k) (At e) = rw p at f in opens-at l e u k q (g .0) (g .1)
-
 pub found-none : (l : List ℕ) (u k : ℕ) (r : Found) → FoundIn (namedAt l u k) r → r ≡ Nothing → opensM l u k ≡ none
 found-none l u k r f p = let g : FoundIn (namedAt l u k) Nothing = rw p at f in opens-none l u k g
 

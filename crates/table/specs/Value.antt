@@ -45,9 +45,6 @@ marks-from = 3 + places
 
 -- what stands where nothing is --
 
-abbrev pub cell0 : Cell
-cell0 = record { writer = 0; status = 0; vector = [] }
-
 abbrev pub desk0 : Desk
 desk0 = record { applied = []; clock = clockOf [] }
 
@@ -68,9 +65,6 @@ cellAt l s = cellOf (row l cell-width s)
 
 unfoldable pub putCell : List ℕ → ℕ → Cell → List ℕ
 putCell l s c = putRow l cell-width s (cellRow c)
-
-unfoldable pub cellsOf : List ℕ → List Cell
-cellsOf l = tab all-cells (cellAt l)
 
 pub record FullCell (c : Cell) : Type 0 where
   pub vector : length (c .vector) ≡ places
@@ -115,16 +109,6 @@ module _ (l : List ℕ) (s : ℕ) where
   pub cellAt-other : (c : Cell) → FullCell c → (r : ℕ) → (r ≡ s → ⊥) → cellAt (putCell l s c) r ≡ cellAt l r
   unfolding cellAt putCell
   cellAt-other c f r ne = ap cellOf (row-put-other l cell-width s (cellRow c) (omega (arith, f .vector)) r ne)
-
-pub getD-cellsOf : (l : List ℕ) (s : ℕ) → s < all-cells → getD (cellsOf l) s cell0 ≡ cellAt l s
-unfolding cellsOf
-getD-cellsOf l s h = getD-tab (cellAt l) all-cells s cell0 h
-
-pub cellsOf-put : (l : List ℕ) (s : ℕ) (c : Cell) → FullCell c → s < all-cells → length l ≡ all-cells * cell-width → cellsOf (putCell l s c) ≡ set (cellsOf l) s c
-unfolding cellsOf cellAt putCell
-cellsOf-put l s c f h e =
-    rows-put cellOf all-cells cell-width l s h (omega arith) (cellRow c) (omega (arith, f .vector))
-    ∙ ap (λ (a : Cell). set (tab all-cells (λ f. cellOf (row l cell-width f))) s a) (cell-back c f)
 
 -- Open writes --
 
@@ -220,10 +204,6 @@ module _ (l : List ℕ) (e : ℕ) where
   pub full-openAt : FullOpen (openAt l e)
   unfolding openAt
   full-openAt = record { vector = length-part (row l open-width e) vector-from places; marks = length-part (row l open-width e) marks-from places }
-
-  pub length-putOpen : (o : Open) → length (putOpen l e o) ≡ length l
-  unfolding putOpen
-  length-putOpen o = length-sets l (e * open-width) (openRow o)
 
   pub length-putMark : (i v : ℕ) → length (putMark l e i v) ≡ length l
   unfolding putMark

@@ -4,7 +4,7 @@ ghost use Prim.Native.Nat.{ℕ, _+_, _-_, _*_, _<_, _≤_};
 ghost use lib.ListN.{getD, set, length};
 ghost use lib.Seq.{sets};
 ghost use Rattle.laws.specs.Rows.{part};
-ghost use Rattle.clock.specs.Vectors.{places};
+ghost use Rattle.clock.specs.Vectors.{places, place};
 ghost use Rattle.machine.specs.Rules.{In};
 ghost use Rattle.machine.specs.Steps.{everywhere, within, begins};
 ghost use Rattle.table.specs.Value.{desk-cells, all-cells, cell-width, entries, open-width, cellAt, CellPut, openAt, OpenPut, MarkPut, Freed};
@@ -254,6 +254,20 @@ pub fn wide(x: u16) -> usize
     ensures { λ r. ⌜ (r ≡ x) × (r < 65536) ⌝ }
 {
     x as usize
+}
+
+// The number at place u, from 1, and 0 where there is none.
+pub fn at_place(v: [u16; PLACES], u: usize) -> u16
+    ensures { λ r. ⌜ r ≡ place v u ⌝ }
+{
+    if u == 0 {
+        return 0;
+    }
+    let at = u - 1;
+    if PLACES <= at {
+        return 0;
+    }
+    v[at]
 }
 
 // Where the search for an entry of write u.k begins: any entry may hold it, and this makes most searches short.

@@ -1,36 +1,36 @@
-use mathlib.Core.Path.{_≡_, sym, _∙_}
-use Prim.Native.Nat.{_≤_, _-_}
-use Rattle.laws.specs.All.{all, all-fails, all-next, all-end}
+use mathlib.Core.Path.{sym, _∙_}
+use Prim.Native.Nat.{_-_}
+use Rattle.laws.specs.All.{Rest, rest-fails, rest-next, rest-end}
 use borrow.Author.Tests.{not-true, not-false}
 use Rattle.table.specs.Value.{desk0}
 use Rattle.clock.specs.Vectors.{places}
 use lib.ListN.{getD}
-use Rattle.rules.specs.Test.{deskTest, desksTest}
+use Rattle.rules.specs.Test.{desk, allDesks}
 use borrow.Author.Needs.{needs}
 use Rattle.rules.proofs.desks_ok.Statement.{statement}
 use Rattle.rules.proofs.desks_ok.Tie as tie
 
 abbrev Inv-loop : tie.InvT-loop
-Inv-loop n m own gap cells opens desks i₀ i = (i ≤ places) × (all (λ j. deskTest n m own gap j (getD desks j desk0) cells opens) (places - i) i ≡ desksTest n m own gap desks cells opens)
+Inv-loop n m own gap cells opens desks i₀ i =
+    Rest (λ j. desk n m own gap cells opens j (getD desks j desk0) .passes) places (allDesks n m own gap cells opens desks .passes) i
 
 abbrev μ-loop : tie.MeasureT-loop
 μ-loop n m own gap cells opens desks i₀ i = places - i
 
 loop-holds : tie.Need-loop-holds Inv-loop μ-loop
-unfolding desksTest
+unfolding allDesks
 loop-holds c = search needs
 
 returns : tie.Need-returns Inv-loop μ-loop
-returns c = let L = c .before .before .before .before .loop in
-    sym (all-fails _ places (L .i) (search needs) ((sym (c .before .desk-ok .ensures) ∙ not-true _ (c .if1 .taken)))) ∙ L .inv .1
+returns c = rest-fails (c .before .before .before .before .loop .inv) (search needs)
+    (sym (c .before .desk-ok .ensures) ∙ not-true _ (c .if1 .taken))
 
 loop-again : tie.Need-loop-again Inv-loop μ-loop
-loop-again c = let L = c .before .before .before .before .loop in
-    (search needs, sym (all-next _ places (L .i) (search needs) ((sym (c .before .desk-ok .ensures) ∙ not-false _ (c .if1 .left)))) ∙ L .inv .1)
+loop-again c = rest-next (c .before .before .before .before .loop .inv) (search needs)
+    (sym (c .before .desk-ok .ensures) ∙ not-false _ (c .if1 .left))
 
 returns-2 : tie.Need-returns-2 Inv-loop μ-loop
-returns-2 c = let L = c .before .loop in
-    sym (all-end _ places (L .i) (search needs)) ∙ L .inv .1
+returns-2 c = rest-end (c .before .loop .inv) (search needs)
 
 pub desks-ok-spec : {M : Type 1} → statement M
 desks-ok-spec =

@@ -1,34 +1,34 @@
-use mathlib.Core.Path.{_≡_, sym, _∙_}
-use Prim.Native.Nat.{_≤_, _-_}
-use Rattle.laws.specs.All.{all, all-fails, all-next, all-end}
+use mathlib.Core.Path.{sym, _∙_}
+use Prim.Native.Nat.{_-_}
+use Rattle.laws.specs.All.{Rest, rest-fails, rest-next, rest-end}
 use borrow.Author.Tests.{not-true, not-false}
 use Rattle.table.specs.Value.{entries}
-use Rattle.rules.specs.Test.{entryTest, entriesTest}
+use Rattle.rules.specs.Test.{entry, allEntries}
 use borrow.Author.Needs.{needs}
 use Rattle.rules.proofs.entries_ok.Statement.{statement}
 use Rattle.rules.proofs.entries_ok.Tie as tie
 
 abbrev Inv-loop : tie.InvT-loop
-Inv-loop n m own opens e₀ e = (e ≤ entries) × (all (entryTest n m own opens) (entries - e) e ≡ entriesTest n m own opens)
+Inv-loop n m own opens e₀ e =
+    Rest (λ f. entry n m own opens f .passes) entries (allEntries n m own opens .passes) e
 
 abbrev μ-loop : tie.MeasureT-loop
 μ-loop n m own opens e₀ e = entries - e
 
 loop-holds : tie.Need-loop-holds Inv-loop μ-loop
-unfolding entriesTest
+unfolding allEntries
 loop-holds c = search needs
 
 returns : tie.Need-returns Inv-loop μ-loop
-returns c = let L = c .before .before .before .loop in
-    sym (all-fails _ entries (L .e) (search needs) ((sym (c .before .entry-ok .ensures) ∙ not-true _ (c .if1 .taken)))) ∙ L .inv .1
+returns c = rest-fails (c .before .before .before .loop .inv) (search needs)
+    (sym (c .before .entry-ok .ensures) ∙ not-true _ (c .if1 .taken))
 
 loop-again : tie.Need-loop-again Inv-loop μ-loop
-loop-again c = let L = c .before .before .before .loop in
-    (search needs, sym (all-next _ entries (L .e) (search needs) ((sym (c .before .entry-ok .ensures) ∙ not-false _ (c .if1 .left)))) ∙ L .inv .1)
+loop-again c = rest-next (c .before .before .before .loop .inv) (search needs)
+    (sym (c .before .entry-ok .ensures) ∙ not-false _ (c .if1 .left))
 
 returns-2 : tie.Need-returns-2 Inv-loop μ-loop
-returns-2 c = let L = c .before .loop in
-    sym (all-end _ entries (L .e) (search needs)) ∙ L .inv .1
+returns-2 c = rest-end (c .before .loop .inv) (search needs)
 
 pub entries-ok-spec : {M : Type 1} → statement M
 entries-ok-spec =

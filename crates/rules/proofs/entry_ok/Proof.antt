@@ -1,22 +1,22 @@
 use borrow.Author.Tests.{eq-eqb, ne-eqb}
-use Rattle.rules.specs.Test.{entryTest}
+use Rattle.rules.specs.Test.{entry}
 use borrow.Author.Needs.{needs}
 use Rattle.rules.proofs.entry_ok.Statement.{statement}
 use Rattle.rules.proofs.entry_ok.Tie as tie
 
-open-at-requires : tie.Need-open-at-requires
-open-at-requires c κs = search needs
-
 returns : tie.Need-returns
-unfolding entryTest
+unfolding entry
 returns c = rw (← c .before .open-at .ensures, eq-eqb _ _ (c .if1 .taken))
 
-used-ok-requires : tie.Need-used-ok-requires
-used-ok-requires c κs = search needs
-
 returns-2 : tie.Need-returns-2
-unfolding entryTest
+unfolding entry
 returns-2 c = rw (← c .before .before .open-at .ensures, ne-eqb _ _ (c .before .if1 .left)) (c .used-ok .ensures)
 
 pub entry-ok-spec : {M : Type 1} → statement M
-entry-ok-spec = tie.close (tie.spec open-at-requires returns used-ok-requires returns-2)
+entry-ok-spec =
+    tie.close
+    (tie.spec
+    (λ c κs. search needs)
+    returns
+    (λ c κs. search needs)
+    returns-2)

@@ -12,21 +12,9 @@ Inv-loop opens u most k₀ k = gapOf (has opens u) k ≡ gapOf (has opens u) mos
 abbrev μ-loop : tie.MeasureT-loop
 μ-loop opens u most k₀ k = k
 
-loop-holds : tie.Need-loop-holds Inv-loop μ-loop
-loop-holds c = search needs
-
-has-requires : tie.Need-has-requires Inv-loop μ-loop
-has-requires c κs = search needs
-
 returns : tie.Need-returns Inv-loop μ-loop
 returns c = let L = c .before .before .before .loop in
     sym (gap-here _ (L .k) (search needs) (sym (c .before .has .ensures) ∙ not-true _ (c .if1 .taken))) ∙ L .inv
-
-sub-k : tie.Need-sub-k Inv-loop μ-loop
-sub-k c = search needs
-
-loop-less : tie.Need-loop-less Inv-loop μ-loop
-loop-less c = search needs
 
 loop-again : tie.Need-loop-again Inv-loop μ-loop
 loop-again c = let L = c .before .before .before .loop in
@@ -39,4 +27,13 @@ returns-2 c = let L = c .before .loop in
 pub gap-spec : {M : Type 1} → statement M
 gap-spec =
     tie.close
-    (tie.spec Inv-loop μ-loop loop-holds has-requires returns sub-k loop-less loop-again returns-2)
+    (tie.spec
+    Inv-loop
+    μ-loop
+    (λ c. search needs)
+    (λ c κs. search needs)
+    returns
+    (λ c. search needs)
+    (λ c. search needs)
+    loop-again
+    returns-2)

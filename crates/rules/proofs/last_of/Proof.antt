@@ -1,6 +1,6 @@
-use mathlib.Core.Path.{_≡_, refl, sym, ap, _∙_}
-use Prim.Native.Nat.{_≤_, _-_}
-use Rattle.laws.specs.All.{all, all-fails, all-next, all-end}
+use mathlib.Core.Path.{refl, sym, ap, _∙_}
+use Prim.Native.Nat.{_-_}
+use Rattle.laws.specs.All.{Rest, rest-fails, rest-next, rest-end}
 use mathlib.Core.Bool.{not}
 use Rattle.table.specs.Value.{entries}
 use Rattle.table.specs.Names.{namedAt}
@@ -10,26 +10,23 @@ use Rattle.rules.proofs.last_of.Statement.{statement}
 use Rattle.rules.proofs.last_of.Tie as tie
 
 abbrev Inv-loop : tie.InvT-loop
-Inv-loop opens u k e j₀ j = (j ≤ entries) × (all (λ f. not (namedAt opens u k f)) (entries - j) j ≡ lastOf opens u k e)
+Inv-loop opens u k e j₀ j = Rest (λ f. not (namedAt opens u k f)) entries (lastOf opens u k e) j
 
 abbrev μ-loop : tie.MeasureT-loop
 μ-loop opens u k e j₀ j = entries - j
 
 loop-holds : tie.Need-loop-holds Inv-loop μ-loop
 unfolding lastOf
-loop-holds c = (search needs, refl)
+loop-holds c = record { most = search needs; is = refl }
 
 returns : tie.Need-returns Inv-loop μ-loop
-returns c = let L = c .before .before .before .loop in
-    sym (all-fails _ entries (L .j) (search needs) (ap not (sym (c .before .holds .ensures) ∙ c .if1 .taken))) ∙ L .inv .1
+returns c = rest-fails (c .before .before .before .loop .inv) (search needs) (ap not (sym (c .before .holds .ensures) ∙ c .if1 .taken))
 
 loop-again : tie.Need-loop-again Inv-loop μ-loop
-loop-again c = let L = c .before .before .before .loop in
-    (search needs, sym (all-next _ entries (L .j) (search needs) (ap not (sym (c .before .holds .ensures) ∙ c .if1 .left))) ∙ L .inv .1)
+loop-again c = rest-next (c .before .before .before .loop .inv) (search needs) (ap not (sym (c .before .holds .ensures) ∙ c .if1 .left))
 
 returns-2 : tie.Need-returns-2 Inv-loop μ-loop
-returns-2 c = let L = c .before .loop in
-    sym (all-end _ entries (L .j) (search needs)) ∙ L .inv .1
+returns-2 c = rest-end (c .before .loop .inv) (search needs)
 
 pub last-of-spec : {M : Type 1} → statement M
 last-of-spec =

@@ -1,30 +1,33 @@
-use borrow.Author.Tests.{eq-eqb, ne-eqb, lt-ltb, le-ltb}
-use Rattle.rules.specs.Test.{markTest}
+use mathlib.Core.Path.{sym, _∙_}
+use Rattle.rules.specs.Test.{mark}
 use borrow.Author.Needs.{needs}
 use Rattle.rules.proofs.mark_ok.Statement.{statement}
 use Rattle.rules.proofs.mark_ok.Tie as tie
 
-mul-p : tie.Need-mul-p
-mul-p c = search needs
-
-element-copy-out-p : tie.Need-element-copy-out-p
-element-copy-out-p c = search needs
-
 returns : tie.Need-returns
-unfolding markTest
-returns c = rw (eq-eqb _ _ (c .if1 .taken))
-
-live-ok-requires : tie.Need-live-ok-requires
-live-ok-requires c κs = search needs
+unfolding mark
+returns c = rw (sym (c .before .same .ensures) ∙ c .if1 .taken)
 
 returns-2 : tie.Need-returns-2
-unfolding markTest
-returns-2 c = rw (ne-eqb _ _ (c .before .before .if1 .left), lt-ltb _ _ (c .before .if2 .taken)) (c .live-ok .ensures)
+unfolding mark
+returns-2 c = let e = c .before .before .before in
+    rw (sym (e .before .same .ensures) ∙ e .if1 .left, sym (c .before .before .lt .ensures) ∙ c .before .if2 .taken) (c .mark-live .ensures)
 
 returns-3 : tie.Need-returns-3
-unfolding markTest
-returns-3 c = rw (ne-eqb _ _ (c .before .if1 .left), le-ltb _ _ (c .if2 .left))
+unfolding mark
+returns-3 c = let e = c .before .before .before in
+    rw (sym (e .before .same .ensures) ∙ e .if1 .left, sym (c .before .before .lt .ensures) ∙ c .before .if2 .left) (c .same2 .ensures)
 
 pub mark-ok-spec : {M : Type 1} → statement M
 mark-ok-spec =
-    tie.close (tie.spec mul-p element-copy-out-p returns live-ok-requires returns-2 returns-3)
+    tie.close
+    (tie.spec
+    (λ c. search needs)
+    (λ c. search needs)
+    (λ c κs. search needs)
+    returns
+    (λ c κs. search needs)
+    (λ c κs. search needs)
+    (λ c κs. search needs)
+    returns-2
+    returns-3)

@@ -1,10 +1,8 @@
-use Rattle.rules.specs.Test.{rangesTest}
 use borrow.Author.Needs.{needs}
 use Rattle.rules.proofs.ranges_ok.Statement.{statement}
 use Rattle.rules.proofs.ranges_ok.Tie as tie
 
 returns : tie.Need-returns
-unfolding rangesTest
 returns c = cc
 
 pub ranges-ok-spec : {M : Type 1} → statement M

@@ -8,12 +8,6 @@ use borrow.Author.Needs.{needs}
 use Rattle.session.proofs.said.Statement.{statement}
 use Rattle.session.proofs.said.Tie as tie
 
-list-size-requires : tie.Need-list-size-requires
-list-size-requires c κs = search needs
-
-line-of-requires : tie.Need-line-of-requires
-line-of-requires c κs = search needs
-
 returns : tie.Need-returns
 returns c =
     let z = c .before .before .before .before in
@@ -26,4 +20,10 @@ returns-2 : tie.Need-returns-2
 returns-2 c = rw (c .if1 .left) record { is = refl; few = search needs }
 
 pub said-spec : {M : Type 1} → statement M
-said-spec = tie.close (tie.spec list-size-requires line-of-requires returns returns-2)
+said-spec =
+    tie.close
+    (tie.spec
+    (λ c κs. search needs)
+    (λ c κs. search needs)
+    returns
+    returns-2)

@@ -7,9 +7,6 @@ use borrow.Author.Needs.{needs}
 use Rattle.session.proofs.seat.Statement.{statement}
 use Rattle.session.proofs.seat.Tie as tie
 
-inside-requires : tie.Need-inside-requires
-inside-requires c κs = search needs
-
 within-here : (c : tie.Then1) → In places (c .before .before .args .i)
 within-here c = says-within _ _ .to (sym (c .before .inside .ensures) ∙ c .if1 .taken)
 
@@ -23,4 +20,10 @@ returns-2 : tie.Need-returns-2
 returns-2 c = (rw (← c .before .inside .ensures, c .if1 .left), search needs)
 
 pub seat-spec : {M : Type 1} → statement M
-seat-spec = tie.close (tie.spec inside-requires sub-result returns returns-2)
+seat-spec =
+    tie.close
+    (tie.spec
+    (λ c κs. search needs)
+    sub-result
+    returns
+    returns-2)

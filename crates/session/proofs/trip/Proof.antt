@@ -7,11 +7,10 @@ use Rattle.session.proofs.trip.Tie as tie
 slice-aggregate-trip-at : tie.Need-slice-aggregate-trip-at
 slice-aggregate-trip-at c = sym (length-take-le _ _ (c .before .before .pre .0))
 
-trip-at-requires : tie.Need-trip-at-requires
-trip-at-requires c κs = search needs
-
-returns : tie.Need-returns
-returns c = search needs
-
 pub trip-spec : {M : Type 1} → statement M
-trip-spec = tie.close (tie.spec slice-aggregate-trip-at trip-at-requires returns)
+trip-spec =
+    tie.close
+    (tie.spec
+    slice-aggregate-trip-at
+    (λ c κs. search needs)
+    (λ c. search needs))

@@ -4,9 +4,6 @@ use borrow.Author.Needs.{needs}
 use Rattle.session.proofs.turn.Statement.{statement}
 use Rattle.session.proofs.turn.Tie as tie
 
-first-requires : tie.Need-first-requires
-first-requires c κs = search needs
-
 returns : tie.Need-returns
 returns c ds z h = let g = c .before .before .args in rw (c .first .ensures) (turned-first (g .s) (g .list .now) (g .names .now) z (c .before .if1 .taken) h)
 
@@ -21,4 +18,10 @@ returns-2 c ds z h =
     turned-act z (lineIn (g .s) (g .list .now)) (c .before .before .before .before .before .if1 .left) h (λ p. c .before .act .ensures ds p)
 
 pub turn-spec : {M : Type 1} → statement M
-turn-spec = tie.close (tie.spec first-requires returns act-requires returns-2)
+turn-spec =
+    tie.close
+    (tie.spec
+    (λ c κs. search needs)
+    returns
+    act-requires
+    returns-2)

@@ -3,26 +3,17 @@ use native.Mathlib.Omega.{arith}
 use Rattle.clock.specs.Vectors.{places, place-at, place-out}
 use lib.ListN.{length}
 use borrow.Author.Needs.{needs}
-use Rattle.rules.proofs.at_place.Statement.{statement}
-use Rattle.rules.proofs.at_place.Tie as tie
+use Rattle.table.proofs.at_place.Statement.{statement}
+use Rattle.table.proofs.at_place.Tie as tie
 
 returns : tie.Need-returns
 returns c = let e = c .if1 .taken in
     rw e
 
-sub-at : tie.Need-sub-at
-sub-at c = search needs
-
 returns-2 : tie.Need-returns-2
 returns-2 c = let g = c .before .before .args in
     let n : length (g .t1) ≡ places = search needs in
     sym (place-out (g .t1) (g .u) (omega arith))
-
-mul-result : tie.Need-mul-result
-mul-result c = search needs
-
-array-read-result : tie.Need-array-read-result
-array-read-result c = search needs
 
 returns-3 : tie.Need-returns-3
 returns-3 c = let g = c .before .before .args in
@@ -30,4 +21,11 @@ returns-3 c = let g = c .before .before .args in
 
 pub at-place-spec : {M : Type 1} → statement M
 at-place-spec =
-    tie.close (tie.spec returns sub-at returns-2 mul-result array-read-result returns-3)
+    tie.close
+    (tie.spec
+    returns
+    (λ c. search needs)
+    returns-2
+    (λ c. search needs)
+    (λ c. search needs)
+    returns-3)
