@@ -8,15 +8,6 @@ use Rattle.image.proofs.cell_or.Reads as reads
 use Rattle.image.proofs.cell_or.Lts as lts
 use Rattle.table.proofs.cell_at.Reads as cell-at-reads
 
-mul-cell-at : tie.Need-mul-cell-at
-mul-cell-at c = search needs
-
-add-cell-at : tie.Need-add-cell-at
-add-cell-at c = search needs
-
-cell-at-requires : tie.Need-cell-at-requires
-cell-at-requires c κs = search needs
-
 returns : tie.Need-returns
 returns c = let A = c .before .before .args in cell-there places (A .cells .now) (A .i) (A .x) _ _ (c .before .before .pre .0) (c .before .if1 .taken) refl (c .before .before .pre .1) (c .cell-at .ensures)
 
@@ -24,4 +15,4 @@ returns-2 : tie.Need-returns-2
 returns-2 c = let A = c .before .args in cell-past places (A .cells .now) (A .i) (A .x) _ (c .if1 .left) refl
 
 pub cell-or-spec : {M : Type 1} → statement M
-cell-or-spec = tie.close (tie.spec mul-cell-at add-cell-at cell-at-requires returns returns-2)
+cell-or-spec = tie.close (tie.spec (λ c. search needs) (λ c. search needs) (λ c κs. search needs) returns returns-2)

@@ -8,12 +8,6 @@ use Rattle.image.proofs.open_or.Reads as reads
 use Rattle.image.proofs.open_or.Lts as lts
 use Rattle.table.proofs.open_at.Reads as open-at-reads
 
-mul-e : tie.Need-mul-e
-mul-e c = search needs
-
-element-copy-out-e : tie.Need-element-copy-out-e
-element-copy-out-e c = search needs
-
 open-at-requires : tie.Need-open-at-requires
 open-at-requires c κs = omega (arith, c .before .before .pre .each (c .before .before .args .p) (c .before .if1 .taken) .0, c .before .before .pre .few)
 
@@ -24,4 +18,4 @@ returns-2 : tie.Need-returns-2
 returns-2 c = let A = c .before .args in open-past (A .opens .now) (A .order .now) (A .count) (A .p) _ (c .if1 .left) refl
 
 pub open-or-spec : {M : Type 1} → statement M
-open-or-spec = tie.close (tie.spec mul-e element-copy-out-e open-at-requires returns returns-2)
+open-or-spec = tie.close (tie.spec (λ c. search needs) (λ c. search needs) open-at-requires returns returns-2)

@@ -8,9 +8,6 @@ use Rattle.load.proofs.desk_or.Reads as reads
 use Rattle.load.proofs.desk_or.Lts as lts
 use Rattle.load.proofs.read_desk.Reads as read-desk-reads
 
-read-desk-requires : tie.Need-read-desk-requires
-read-desk-requires c κs = search needs
-
 returns : tie.Need-returns
 returns c = let A = (c .before .before .before .args) in desk-there places (A .b .now) (A .n) (A .i) _ (c .before .if1 .taken) (c .read-desk .ensures)
 
@@ -18,4 +15,4 @@ returns-2 : tie.Need-returns-2
 returns-2 c = let A = (c .before .before .args) in desk-past places (A .b .now) (A .n) (A .i) _ (c .if1 .left) refl
 
 pub desk-or-spec : {M : Type 1} → statement M
-desk-or-spec = tie.close (tie.spec read-desk-requires returns returns-2)
+desk-or-spec = tie.close (tie.spec (λ c κs. search needs) returns returns-2)
