@@ -1,10 +1,12 @@
 -- A block as the code fills it: zeros, then its head and its payload, then its check.
-use Prim.Native.Nat.{ℕ, suc, _+_, _-_, _<_, _≤_}
-use mathlib.Core.Path.{_≡_, refl, _∙_}
+use Prim.Native.Nat.{ℕ, zero, suc, _+_, _-_, _*_, _<_, _≤_}
+use mathlib.Core.Path.{_≡_, refl, sym, ap, _∙_}
 use mathlib.Core.List.{List, [], _∷_, _++_, append-assoc, append-nil}
 use native.Mathlib.Omega.{arith}
-use lib.ListN.{length, getD, set, drop, replicate, length-append, replicate-append-replicate}
+use lib.ListN.{length, getD, set, drop, replicate, length-append, length-replicate, replicate-append-replicate}
 use lib.Seq.{sets, sets-eq, take-at, drop-append-add}
+use native.Mathlib.Nat.{add-zero}
+use Rattle.laws.specs.Cat.{cat, length-cat}
 use Rattle.clock.specs.Vectors.{place}
 use Rattle.table.specs.declared.Cell.{Cell}
 use Rattle.table.specs.declared.Open.{Open}
@@ -51,6 +53,30 @@ unfolding block
 made kind at l h e0 e1 e =
     let z = e1 ∙ rw e0 (then-put (replicate block-bytes 0) (head kind at) l 0 payload-at refl) ∙ body-put kind at l h in
     e ∙ rw z (sealed-sets (body kind at l) (length-body kind at l h))
+
+-- pieces of zeros at its end need not be put: the rest of a block is zeros
+cat-zeros : (f : ℕ → List ℕ) (w n d : ℕ) → ((j : ℕ) → n ≤ j → j < n + d → f j ≡ replicate w 0) → cat f (n + d) ≡ cat f n ++ replicate (w * d) 0
+unfolding cat
+cat-zeros f w n zero h = let e : w * 0 ≡ 0 = omega arith in rw (add-zero n, e) (sym (append-nil (cat f n)))
+cat-zeros f w n (suc d) h =
+    let a : n + suc d ≡ suc (n + d) = omega arith in
+    let e : w * suc d ≡ w * d + w = omega arith in
+    rw (a, cat-zeros f w n d (λ j g l. h j g (omega arith)), h (n + d) (omega arith) (omega arith), e)
+    (append-assoc (cat f n) (replicate (w * d) 0) (replicate w 0) ∙ rw (replicate-append-replicate {A = ℕ} (w * d) w 0))
+
+pub zeros-behind : (kind at w n all : ℕ) (f : ℕ → List ℕ) → n ≤ all → ((j : ℕ) → length (f j) ≡ w) → w * all ≤ payload-bytes
+    → ((j : ℕ) → n ≤ j → j < all → f j ≡ replicate w 0) → block kind at (cat f n) ≡ block kind at (cat f all)
+unfolding block
+zeros-behind kind at w n all f h l fits z =
+    let d : ℕ = all - n in
+    let e : all ≡ n + d = omega arith in
+    let m = ap (λ (x : ℕ). w * x) e in
+    let c : cat f all ≡ cat f n ++ replicate (w * d) 0 = ap (cat f) e ∙ cat-zeros f w n d (λ j g k. z j g (omega arith)) in
+    let k = length-cat f w l n in
+    let r : payload-bytes - length (cat f n) ≡ w * d + (payload-bytes - length (cat f n ++ replicate (w * d) 0)) = rw (length-append, length-replicate) (omega arith) in
+    let q : cat f n ++ replicate (payload-bytes - length (cat f n)) 0 ≡ cat f all ++ replicate (payload-bytes - length (cat f all)) 0 =
+    rw (c, append-assoc (cat f n), replicate-append-replicate {A = ℕ} (w * d), r) in
+    ap (λ (b : List ℕ). sealed (kind ∷ 1 ∷ (word at ++ b))) q
 
 -- where a vector takes ps places
 module _ (ps : ℕ) where

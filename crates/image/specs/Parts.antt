@@ -1,12 +1,12 @@
 -- The bytes of a table's parts, as the code puts them: of the desks, of the flat cells, of the entries in their order.
-use Prim.Native.Nat.{ℕ, zero, suc, _+_, _*_, _<_, _≤_}
+use Prim.Native.Nat.{ℕ, suc, _+_, _*_, _<_, _≤_}
 use mathlib.Core.Path.{_≡_, refl, _∙_}
 use mathlib.Core.List.{List}
 use mathlib.Core.Bool.{Bool, true, false}
 use native.Mathlib.Omega.{arith}
 use borrow.Author.Tests.{lt-ltb, le-ltb}
 use lib.Dec.{ltb}
-use lib.ListN.{length, getD, replicate}
+use lib.ListN.{length, getD, replicate, length-replicate}
 use lib.Seq.{sets}
 use Rattle.laws.specs.Loop.{pick}
 use Rattle.laws.specs.Cat.{cat, length-cat}
@@ -17,52 +17,21 @@ use Rattle.table.specs.declared.Open.{Open}
 use Rattle.table.specs.Value.{desk-cells, all-cells, cellAt, entries, openAt}
 use Rattle.table.specs.Model.{cellM, cellsM}
 use Rattle.image.specs.Encode.{cellBytes}
-use Rattle.image.specs.Fields.{length-cell, zero-words}
+use Rattle.image.specs.Fields.{length-cell}
+use Rattle.image.specs.Places.{pick-has}
 use Rattle.image.specs.Fill.{sets-more}
 use Rattle.image.specs.Block.{cellRaw, openRaw, SmallCell, SmallOpen, length-openRaw}
-use Rattle.image.specs.Limits.{vector-bytes, cell-bytes, open-bytes, cells-in, opens-in}
-use Rattle.table.specs.Begin.{place-zeros}
+use Rattle.image.specs.Limits.{cell-bytes, open-bytes, cells-in, opens-in}
 
 -- a loop that puts pieces of one length, one after the other: one more
 pub one-more : (f : ℕ → List ℕ) (w : ℕ) → ((j : ℕ) → length (f j) ≡ w) → (d₀ : List ℕ) {d r b : List ℕ} (at i : ℕ) {p : ℕ} → d ≡ sets d₀ at (cat f i) → p ≡ at + w * i → b ≡ f i
     → r ≡ sets d p b → r ≡ sets d₀ at (cat f (i + 1))
 one-more f w l d₀ at i e ep eb er = er ∙ rw (e, ep, eb) (sets-more f d₀ at i (w * i) (length-cat f w l i))
 
--- past the last cell of a desk
-abbrev pub noCell : Cell
-noCell = record { writer = 0; status = 0; vector = replicate places 0 }
-
--- Open writes in their order --
-
 -- the entries that are to be saved, in their order
 pub record OrderFits (os order : List ℕ) (count : ℕ) : Type 0 where
   pub few : count ≤ entries
   pub each : (p : ℕ) → p < count → (getD order p 0 < entries) × SmallOpen (openAt os (getD order p 0))
-
-abbrev pub noOpen : Open
-noOpen = record { writer = 0; status = 0; cell = 0; vector = replicate places 0; marks = replicate places 0 }
-
--- the one at place p, and zeros past the last
-unfoldable pub openOr : List ℕ → List ℕ → ℕ → ℕ → Open
-openOr os order count p = pick (ltb p count) (openAt os (getD order p 0)) noOpen
-
-pub record OpenFor (os order : List ℕ) (count p : ℕ) (o : Open) : Type 0 where
-  pub small : SmallOpen o
-  pub is : o ≡ openOr os order count p
-
-pub open-there : (os order : List ℕ) (count p : ℕ) (o : Open) → p < count → OrderFits os order count → o ≡ openAt os (getD order p 0) → OpenFor os order count p o
-unfolding openOr
-open-there os order count p o h f e = record { small = rw e (f .each p h .1); is = rw (lt-ltb p count h) e }
-
-zeros-small : (n t : ℕ) → getD {A = ℕ} (replicate n 0) t 0 < 256
-zeros-small zero t = omega arith
-zeros-small (suc n) zero = omega arith
-zeros-small (suc n) (suc t) = zeros-small n t
-
-pub open-past : (os order : List ℕ) (count p : ℕ) (o : Open) → count ≤ p → o ≡ noOpen → OpenFor os order count p o
-unfolding openOr
-open-past os order count p o h e =
-    record { small = rw e (record { writer = omega arith; status = omega arith; cell = omega arith; marks = zeros-small places }); is = rw (le-ltb p count h) e }
 
 -- where a vector takes ps places in the image
 module _ (ps : ℕ) where
@@ -93,24 +62,31 @@ module _ (ps : ℕ) where
       let g = f s (omega arith) in
       record { small = rw e (g .small); bytes = rw (lt-ltb i places hi, lt-ltb x desk-cells hx, e) (g .bytes ∙ rw es) }
 
-  no-cell-bytes : cellRaw ps noCell ≡ cellBytes ps machine.blank
-  unfolding cellRaw cellBytes
-  no-cell-bytes =
-      let e : 4 + vector-bytes ps ≡ suc (suc (suc (suc (vector-bytes ps)))) = omega arith in
-      rw (place-zeros places, zero-words ps, e)
-
-  pub cell-past : (cs : List ℕ) (i x : ℕ) (c : Cell) → desk-cells ≤ x → c ≡ noCell → CellFor cs i x c
-  unfolding cellsM
-  cell-past cs i x c hx e = record { small = rw e (record { writer = omega arith; status = omega arith }); bytes = rw (e, le-ltb x desk-cells hx) (no-cell-bytes ∙ none (ltb i places)) }
+  pub cell-past : (cs : List ℕ) (i q j : ℕ) → desk-cells ≤ cells-in ps * q + j → cellPiece cs i q j ≡ replicate (cell-bytes ps) 0
+  unfolding cellBytes cellsM
+  cell-past cs i q j h = rw (le-ltb (cells-in ps * q + j) desk-cells h) (none (ltb i places))
     where
-      none : (b : Bool) → cellBytes ps machine.blank ≡ cellBytes ps (pick b machine.blank machine.blank)
+      none : (b : Bool) → cellBytes ps (pick b machine.blank machine.blank) ≡ replicate (cell-bytes ps) 0
       none true = refl
       none false = refl
 
-  -- Open writes --
+  -- Open writes: the one at place p of the order, and zeros past the last
+
+  unfoldable pub openOr : List ℕ → List ℕ → ℕ → ℕ → List ℕ
+  openOr os order count p = pick (ltb p count) (openRaw ps (openAt os (getD order p 0))) (replicate (open-bytes ps) 0)
 
   abbrev pub openPiece : List ℕ → List ℕ → ℕ → ℕ → ℕ → List ℕ
-  openPiece os order count q j = openRaw ps (openOr os order count (opens-in ps * q + j))
+  openPiece os order count q j = openOr os order count (opens-in ps * q + j)
 
   pub length-openPiece : (os order : List ℕ) (count q j : ℕ) → length (openPiece os order count q j) ≡ open-bytes ps
-  length-openPiece os order count q j = length-openRaw ps (openOr os order count (opens-in ps * q + j))
+  unfolding openOr
+  length-openPiece os order count q j =
+      pick-has (λ (l : List ℕ). length l ≡ open-bytes ps) (ltb (opens-in ps * q + j) count) (length-openRaw ps (openAt os (getD order (opens-in ps * q + j) 0))) (length-replicate {A = ℕ} (open-bytes ps) 0)
+
+  pub open-there : (os order : List ℕ) (count q j : ℕ) {o : Open} → opens-in ps * q + j < count → o ≡ openAt os (getD order (opens-in ps * q + j) 0) → openRaw ps o ≡ openPiece os order count q j
+  unfolding openOr
+  open-there os order count q j h e = rw (lt-ltb (opens-in ps * q + j) count h, e)
+
+  pub open-past : (os order : List ℕ) (count q j : ℕ) → count ≤ opens-in ps * q + j → openPiece os order count q j ≡ replicate (open-bytes ps) 0
+  unfolding openOr
+  open-past os order count q j h = rw (le-ltb (opens-in ps * q + j) count h)

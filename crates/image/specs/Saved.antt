@@ -8,7 +8,7 @@ use native.Mathlib.Omega.{arith}
 use native.Mathlib.Decide.{decLt}
 use borrow.Author.Tests.{eqb-true, ne-eqb, le-leb, lt-leb, lt-ltb, le-ltb}
 use lib.Dec.{eqb}
-use lib.ListN.{length, getD, replicate, List·getD-eq-default, length-map, replicate-append-replicate}
+use lib.ListN.{length, getD, replicate, List·getD-eq-default, length-map}
 use lib.Seq.{sets}
 use Rattle.laws.specs.Loop.{cases}
 use Rattle.laws.specs.Says.{clash}
@@ -33,11 +33,10 @@ use Rattle.image.specs.Encode.{words, cellBytes, openBytes, deskBytes, b
 use Rattle.image.specs.Bytes.{most-blocks}
 use Rattle.image.specs.Places.{blockAt, encode-is, length-encode}
 use Rattle.image.specs.Block.{cellRaw, openRaw}
-use Rattle.image.specs.Parts.{CellsFit, cellPiece, OrderFits, noOpen, openOr, openPiece}
+use Rattle.image.specs.Parts.{CellsFit, cellPiece, OrderFits, openOr, openPiece}
 use Rattle.image.specs.Order.{Holds, Ordered, Known}
 use Rattle.image.specs.Limits.{Wide, some-cells, some-opens, block-of, blocks-mono, block-bytes, vector-bytes, cell-bytes, open-bytes, cells-in, opens-in, blocks-for, row-most, opens-most, blocks-most}
-use Rattle.table.specs.Begin.{place-zeros}
-use Rattle.image.specs.Fields.{zero-words, zero-marks}
+use Rattle.image.specs.Fields.{zero-words}
 
 -- the image of s stands in the buffer from its start on, what lies behind it is as it was, and the result is its length
 pub record Saved (s : State) (before after : List ℕ) (r : ℕ) : Type 0 where
@@ -51,12 +50,6 @@ unset-bytes ps c w z =
     let v : place (c .vector) ≡ (λ t. 0) = fun-ext (z .vector) in
     let e : 4 + vector-bytes ps ≡ suc (suc (suc (suc (vector-bytes ps)))) = omega arith in
     rw (w, z .status, e) (ap (λ (r : List ℕ). 0 ∷ 0 ∷ 0 ∷ 0 ∷ r) (ap (words ps) v ∙ zero-words ps))
-
-no-open-bytes : (ps : ℕ) → openRaw ps noOpen ≡ replicate (open-bytes ps) 0
-unfolding openRaw
-no-open-bytes ps =
-    let e : open-bytes ps ≡ suc (suc (suc (suc (vector-bytes ps + ps)))) = omega arith in
-    rw (place-zeros places, zero-words ps, zero-marks ps, replicate-append-replicate (vector-bytes ps), e)
 
 -- what the blocks of a table are made of, once its open writes are in order and its blocks are counted: a desk's cells take c, the open writes
 -- begin at place e, and there are `total` in all
@@ -74,7 +67,7 @@ pub record Planned (ps : ℕ) (t : Table) (order : List ℕ) (count c e total : 
   pub counted-right : count ≡ openCount (modelOf t)
   pub cells-fit : CellsFit ps (t .cells)
   pub order-fits : OrderFits (t .opens) order count
-  pub piece : (p : ℕ) → openRaw ps (openOr (t .opens) order count p) ≡ getD (map (named ps (modelOf t)) (names (modelOf t))) p (replicate (open-bytes ps) 0)
+  pub piece : (p : ℕ) → openOr ps (t .opens) order count p ≡ getD (map (named ps (modelOf t)) (names (modelOf t))) p (replicate (open-bytes ps) 0)
 
 module _ (ps : ℕ) (wd : Wide ps) {t : Table} (ok : SoundTable t) (fits : t .core .n ≤ ps) where
   abbrev st : State
@@ -160,17 +153,17 @@ module _ (ps : ℕ) (wd : Wide ps) {t : Table} (ok : SoundTable t) (fits : t .co
               ));
         }
 
-    piece-at : (p : ℕ) → openRaw ps (openOr os order count p) ≡ getD (map (named ps st) (names st)) p (replicate (open-bytes ps) 0)
+    piece-at : (p : ℕ) → openOr ps os order count p ≡ getD (map (named ps st) (names st)) p (replicate (open-bytes ps) 0)
     unfolding openOr openBytes openRaw
     piece-at p = go (decLt p count)
       where
-        go : Dec (p < count) → openRaw ps (openOr os order count p) ≡ getD (map (named ps st) (names st)) p (replicate (open-bytes ps) 0)
+        go : Dec (p < count) → openOr ps os order count p ≡ getD (map (named ps st) (names st)) p (replicate (open-bytes ps) 0)
         go (yes h) =
             rw (lt-ltb p count h, getD-map-in (named ps st) (names st) p no-name (replicate (open-bytes ps) 0) (omega (arith, ord-names .size)), is-there p h, writer-is p h)
         go (no h) =
             let l : length (map (named ps st) (names st)) ≤ p = rw (length-map (names st) (named ps st)) (omega (arith, ord-names .size)) in
             let g : count ≤ p = omega arith in
-            rw (le-ltb p count g, List·getD-eq-default (map (named ps st) (names st)) (replicate (open-bytes ps) 0) l) (no-open-bytes ps)
+            rw (le-ltb p count g, List·getD-eq-default (map (named ps st) (names st)) (replicate (open-bytes ps) 0) l)
 
     pub planned : {c e d : ℕ} → c ≡ perDesk ps (t .core .m) → e ≡ 1 + n + c * n → d ≡ blocks-for (opens-in ps) count → Planned ps t order count c e (e + d)
     unfolding perDesk openBlocks

@@ -12,7 +12,7 @@ ghost use Rattle.image.specs.Check.{checkOf};
 ghost use Rattle.image.specs.Encode.{word, long, words, markBytes, deskBytes, block, perDesk, encode};
 ghost use Rattle.image.specs.Sound.{rightCheck, sound};
 ghost use Rattle.image.specs.Block.{head, openRaw, SmallOpen};
-ghost use Rattle.image.specs.Parts.{CellsFit, CellFor, cellPiece, OrderFits, OpenFor, openPiece};
+ghost use Rattle.image.specs.Parts.{CellsFit, cellPiece, OrderFits, openPiece};
 ghost use Rattle.machine.specs.Table.{most-writes};
 ghost use Rattle.machine.specs.Rules.{In};
 ghost use Rattle.table.specs.Value.{desk-cells, entries};
@@ -93,7 +93,7 @@ fn check(b: &[u8]) -> u32
 }
 
 // The check stored, which ends a block.
-fn seal(b: &mut [u8; BLOCK])
+pub fn seal(b: &mut [u8; BLOCK])
     ensures { λ _. ⌜ now (b .exit) ≡ sets (now (b .entry)) check-at (long (checkOf (now (b .entry)))) ⌝ }
 {
     let c = check(b);
@@ -241,20 +241,10 @@ fn size_block(n: u16, m: u16, count: u16) -> [u8; BLOCK]
     b
 }
 
-// Cell x of desk i, both from 0: an unset one past the last.
-fn cell_or(cells: &[u16; PLACES * CELLS * CELL], i: usize, x: usize) -> Cell
-    requires { ⌜ (i < places) × CellsFit places (now cells) ⌝ }
-    ensures { λ r. ⌜ CellFor places (now (cells .entry)) i x r ⌝ }
+fn least(a: usize, b: usize) -> usize
+    ensures { λ r. ⌜ r ≡ min a b ⌝ }
 {
-    if x < CELLS {
-        return table::cell_at(cells, i * CELLS + x);
-    }
-    let zero = [0u16; PLACES];
-    Cell {
-        writer: 0,
-        status: 0,
-        vector: zero,
-    }
+    if a < b { a } else { b }
 }
 
 // Block q of the cells of desk i, from 0.
@@ -264,34 +254,17 @@ fn cell_block(at: u16, cells: &[u16; PLACES * CELLS * CELL], i: usize, q: usize)
 {
     let mut b = [0u8; BLOCK];
     put_head(&mut b, 3, at);
+    let first = CELLS_IN * q;
+    let end = least(CELLS, first + CELLS_IN);
     let mut j = 0;
-    while j < CELLS_IN {
-        let c = cell_or(cells, i, CELLS_IN * q + j);
+    while first + j < end {
+        let c = table::cell_at(cells, i * CELLS + (first + j));
         let v = c.vector;
         put_record(&mut b, PAYLOAD_AT + CELL_BYTES * j, c.writer, c.status, 0, v);
         j += 1;
     }
     seal(&mut b);
     b
-}
-
-// The open write at place p of the order, and a free entry's zeros past the last.
-fn open_or(opens: &[u16; OPENS * OPEN], order: &[usize; OPENS], count: usize, p: usize) -> Open
-    requires { ⌜ OrderFits (now opens) (now order) count ⌝ }
-    ensures { λ r. ⌜ OpenFor (now (opens .entry)) (now (order .entry)) count p r ⌝ }
-{
-    if p < count {
-        let e = order[p];
-        return table::open_at(opens, e);
-    }
-    let zero = [0u16; PLACES];
-    Open {
-        writer: 0,
-        status: 0,
-        cell: 0,
-        vector: zero,
-        marks: zero,
-    }
 }
 
 // Block q of the open writes.
@@ -307,9 +280,12 @@ fn open_block(
 {
     let mut b = [0u8; BLOCK];
     put_head(&mut b, 4, at);
+    let first = OPENS_IN * q;
+    let end = least(count, first + OPENS_IN);
     let mut j = 0;
-    while j < OPENS_IN {
-        let o = open_or(opens, order, count, OPENS_IN * q + j);
+    while first + j < end {
+        let e = order[first + j];
+        let o = table::open_at(opens, e);
         put_open(&mut b, PAYLOAD_AT + OPEN_BYTES * j, o);
         j += 1;
     }
