@@ -91,11 +91,6 @@ module _ (ps : ℕ) where
     pub few : countIn b ≤ entries
     pub size : length b ≡ block-bytes * (1 + nIn b + perDesk ps (mIn b) * nIn b + blocks-for (opens-in ps) (countIn b))
 
-  pub fits-is : (b : List ℕ) (n m count : ℕ) → n ≡ nIn b → m ≡ mIn b → count ≡ countIn b → (n ≡ 0 → ⊥) → n ≤ ps → (m ≡ 0 → ⊥) → m ≤ desk-cells → count ≤ entries
-      → length b ≡ block-bytes * (1 + n + perDesk ps m * n + blocks-for (opens-in ps) count) → Fits b
-  fits-is b n m count en em ec a n8 d m64 few e =
-      record { desks = (omega arith, omega arith); cells = (omega arith, omega arith); few = omega arith; size = rw (en, em, ec) at e }
-
   -- the rows that were read
   abbrev pub CellsRead : List ℕ → ℕ → ℕ → List ℕ → Type 0
   CellsRead b n m cs = (s : ℕ) → s < all-cells → cellAt cs s ≡ cellFor b n m s
@@ -154,27 +149,6 @@ module _ (ps : ℕ) where
 
     pub desks-within : block-bytes + block-bytes * nIn b ≤ length b
     desks-within = omega (arith, h .size)
-
-  -- as the code picks them
-  pub cell-there : (b : List ℕ) (n m s i x at : ℕ) (c : Cell) → i ≡ s / desk-cells → x ≡ s % desk-cells → i < n → x < m → at ≡ cellPlace ps n m i x → c ≡ cellFrom b at → c ≡ cellFor b n m s
-  unfolding cellFor
-  cell-there b n m s i x at c ei ex hi hx ea e = e ∙ rw (← ei, ← ex, lt-ltb i n hi, lt-ltb x m hx, ea)
-
-  pub cell-past : (b : List ℕ) (n m s x : ℕ) (c : Cell) → x ≡ s % desk-cells → m ≤ x → c ≡ noCell → c ≡ cellFor b n m s
-  unfolding cellFor
-  cell-past b n m s x c ex h e = rw (← ex, le-ltb x m h) (cases (ltb (s / desk-cells) n) (λ t. rw t e) (λ t. rw t e))
-
-  pub cell-off : (b : List ℕ) (n m s i : ℕ) (c : Cell) → i ≡ s / desk-cells → n ≤ i → c ≡ noCell → c ≡ cellFor b n m s
-  unfolding cellFor
-  cell-off b n m s i c ei h e = rw (← ei, le-ltb i n h) e
-
-  pub desk-there : (b : List ℕ) (n i : ℕ) (d : Desk) → i < n → d ≡ deskFrom b i → d ≡ deskFor b n i
-  unfolding deskFor
-  desk-there b n i d h e = rw (lt-ltb i n h) e
-
-  pub desk-past : (b : List ℕ) (n i : ℕ) (d : Desk) → n ≤ i → d ≡ noDesk → d ≡ deskFor b n i
-  unfolding deskFor
-  desk-past b n i d h e = rw (le-ltb i n h) e
 
   -- one row more
   pub cells-more : (b : List ℕ) (n m s : ℕ) (l r : List ℕ) (c : Cell) → ((t : ℕ) → t < s → cellAt l t ≡ cellFor b n m t) → s < all-cells → c ≡ cellFor b n m s → CellPut l s c r
