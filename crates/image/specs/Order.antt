@@ -104,7 +104,6 @@ listed-more os u lo k p b a r e h l room f =
 
 -- what the search needs: the counts tell what is open, and it is there
 pub record Known (n : ℕ) (ds : List Desk) (os : List ℕ) : Type 0 where
-  pub desks : n ≤ places
   pub few : length (counted n (appliedM ds)) ≤ entries
   pub found : (u k : ℕ) → u < n → low n (appliedM ds) (suc u) < k → k ≤ appliedM ds (suc u) (suc u) → opensM os (suc u) k ≡ none → ⊥
 

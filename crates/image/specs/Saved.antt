@@ -110,7 +110,6 @@ module _ (ps : ℕ) (wd : Wide ps) {t : Table} (ok : SoundTable t) (fits : t .co
   pub known : Known n (t .core .desks) os
   known =
       record {
-        desks = few-desks;
         few = omega (arith, counted-is, r .frame .ranges .few);
         found = λ u k h a b e.
             (let t = open-low st r (suc u) k (omega arith, h) (omega arith, b) ∙ lt-ltb (low n (st .applied) (suc u)) k a in

@@ -451,7 +451,7 @@ fn order_all(
     n: usize,
     order: &mut [usize],
 ) -> usize
-    requires { ⌜ (length (now order) ≡ entries) × Known n desks (now opens) ⌝ }
+    requires { ⌜ (n ≤ places) × ((length (now order) ≡ entries) × Known n desks (now opens)) ⌝ }
     ensures { λ r. ⌜ Ordered (now (opens .entry)) (counted n (appliedM desks)) (now (order .exit)) r ⌝ }
 {
     let mut count = 0;

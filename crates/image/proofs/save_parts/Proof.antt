@@ -12,7 +12,7 @@ use Rattle.image.proofs.save_parts.Statement.{statement}
 use Rattle.image.proofs.save_parts.Tie as tie
 
 order-all-requires : tie.Need-order-all-requires
-order-all-requires c κs = let ok = c .before .before .before .pre .0 in (search needs, known places wide ok (ok .rules .frame .ranges .desks .1))
+order-all-requires c κs = let ok = c .before .before .before .pre .0 in let n = ok .rules .frame .ranges .desks .1 in (n, (search needs, known places wide ok n))
 
 per-desk-requires : tie.Need-per-desk-requires
 per-desk-requires c κs = omega (arith, c .before .before .before .before .before .pre .0 .rules .frame .ranges .cells .1)
