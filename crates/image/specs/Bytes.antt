@@ -44,11 +44,9 @@ module _ (ps : ℕ) (wd : Wide ps) (s : State) (ok : Rules s) (n-most : s .setup
   m-most = ok .frame .ranges .cells .1
 
   few-cells : perDesk ps (s .setup .cells) * s .setup .desks ≤ rows-most ps
-  unfolding perDesk
   few-cells = mul-le-mul (blocks-mono (cells-in ps) (s .setup .cells) most-cells (some-cells ps wd) m-most) n-most
 
   few-opens : openBlocks ps s ≤ opens-most ps
-  unfolding openBlocks
   few-opens = blocks-mono (opens-in ps) (openCount s) most-open (some-opens ps wd) (ok .frame .ranges .few)
 
   -- "The largest image is 37 blocks."

@@ -165,7 +165,6 @@ module _ (ps : ℕ) (wd : Wide ps) {t : Table} (ok : SoundTable t) (fits : t .co
             rw (le-ltb p count g, List·getD-eq-default (map (named ps st) (names st)) (replicate (open-bytes ps) 0) l)
 
     pub planned : {c e d : ℕ} → c ≡ perDesk ps (t .core .m) → e ≡ 1 + n + c * n → d ≡ blocks-for (opens-in ps) count → Planned ps t order count c e (e + d)
-    unfolding perDesk openBlocks
     planned {c} {e} {d} ec ee ed =
         let m = t .core .m in
         let few : d ≤ opens-most ps = rw ed (blocks-mono (opens-in ps) count entries (some-opens ps wd) (all-order-fits .few)) in
@@ -189,7 +188,6 @@ module _ (ps : ℕ) (wd : Wide ps) {t : Table} (ok : SoundTable t) (fits : t .co
 
   -- the length, by the counts alone
   pub length-is : block-bytes * (1 + n + perDesk ps (t .core .m) * n + blocks-for (opens-in ps) (length (counted n (appliedM (t .core .desks))))) ≡ length (encodeAt ps st)
-  unfolding openBlocks
   length-is = rw counted-is (sym (length-encode ps wd st))
 
 -- the block of the code at place k, by its kind

@@ -6,7 +6,8 @@ use mathlib.Core.List.{List}
 use mathlib.Core.Option.{Option, none, some}
 use native.Mathlib.Omega.{arith}
 use native.Mathlib.Decide.{decLt}
-use borrow.Author.Tests.{lt-ltb, le-ltb, ne-eqb}
+use borrow.Author.Tests.{ltb-true, lt-ltb, le-ltb, ne-eqb}
+use lib.Dec.{ltb}
 use lib.ListN.{getD, replicate, length-replicate}
 use lib.Seq.{take-all}
 use Rattle.laws.specs.Loop.{cases}
@@ -19,14 +20,14 @@ use Rattle.clock.specs.Vectors.{places}
 use Rattle.machine.specs.Table as machine
 use Rattle.machine.specs.Table.{State, Vec, zeros, Name, name}
 use Rattle.machine.specs.Steps.{isNone, isOpen, openCount}
-use Rattle.machine.specs.Rules.{Rules}
+use Rattle.machine.specs.Rules.{In, Rules}
 use Rattle.table.specs.declared.Cell.{Cell}
 use Rattle.table.specs.declared.Desk.{Desk}
 use Rattle.table.specs.declared.Open.{Open}
 use Rattle.table.specs.declared.Table.{Table}
 use Rattle.table.specs.Value.{desk0, desk-cells, all-cells, cellAt, entries, openAt, isFree}
 use Rattle.table.specs.Names.{number, namedAt, free-named, own-named, named-is}
-use Rattle.table.specs.Model.{cellM, openM, appliedVec, clockVec, appliedM, clockM, cellsM, opensM, cell-in, cell-out, modelOf, state-path}
+use Rattle.table.specs.Model.{cellM, openM, appliedVec, clockVec, appliedM, clockM, cellsM, opensM, cell-in, modelOf, state-path}
 use Rattle.table.specs.Opens.{Unique, opens-at, opens-none}
 use Rattle.table.specs.Sound.{SoundTable, AllZero}
 use Rattle.table.specs.Begin.{zeros-at, place-zeros}
@@ -38,7 +39,7 @@ use Rattle.image.specs.Places.{length-encode, part-3}
 use Rattle.image.specs.Fields.{zero-words, vec-words, vecOf, cellOf, openOf, writerIn, numberIn}
 use Rattle.image.specs.Decode.{nIn, mIn, countIn, deskPlace, cellPlace, openPlace, deskIn, cellIn, n-back, m-back, count-back, applied-back, clock-back, cell-back, shows-at, open-name}
 use Rattle.load.specs.Spread.{Spread, OpensRead}
-use Rattle.load.specs.Read.{cellFrom, openFrom, deskFrom, noDesk, noCell, deskFor, cellFor, Fits, CellsRead, getD-part, part-part, place-words, cell-read, open-read}
+use Rattle.load.specs.Read.{cellFrom, openFrom, deskFrom, noDesk, deskFor, cellFor, Fits, CellsRead, for-cases, getD-part, part-part, place-words, cell-read, open-read}
 use Rattle.image.specs.Limits.{Wide, some-cells, block-of, wide, vector-at, vector-bytes, after-vector, cell-bytes, open-bytes, cells-in}
 use Rattle.image.specs.Fill.{drop-replicate}
 
@@ -101,42 +102,24 @@ module _ (ps : ℕ) where
         let r = row-of i x (omega arith) in
         sym (at-row i x (omega arith) (omega arith) ∙ rw (r .0, r .1, lt-ltb i n hi, lt-ltb x m hx) (cell-read ps b (cellPlace ps n m i x)))
 
-    cell-off : (i x : ℕ) → ((i < n) × (x < m) → ⊥) → cellsM cs (suc i) (suc x) ≡ machine.blank
-    unfolding cellFor
-    cell-off i x o = go (decLt i places) (decLt x desk-cells)
-      where
-        off : (s : ℕ) → ((s / desk-cells < n) × (s % desk-cells < m) → ⊥) → cellM (cellFor ps b n m s) ≡ machine.blank
-        off s q = go2 (decLt (s / desk-cells) n) (decLt (s % desk-cells) m)
-          where
-            go2 : Dec (s / desk-cells < n) → Dec (s % desk-cells < m) → cellM (cellFor ps b n m s) ≡ machine.blank
-            go2 (yes a) (yes c) = absurd (q (a, c))
-            go2 (yes a) (no c) = let l : m ≤ s % desk-cells = omega arith in rw (lt-ltb (s / desk-cells) n a, le-ltb (s % desk-cells) m l)
-            go2 (no a) c = let l : n ≤ s / desk-cells = omega arith in rw (le-ltb (s / desk-cells) n l)
-
-        go : Dec (i < places) → Dec (x < desk-cells) → cellsM cs (suc i) (suc x) ≡ machine.blank
-        go (yes a) (yes c) =
-            let r = row-of i x c in
-            at-row i x a c ∙ off (i * desk-cells + x) (λ q. o (rw (r .0) at (q .0), rw (r .1) at (q .1)))
-        go (yes a) (no c) = cell-out cs (suc i) (suc x) (λ p q. c (q .1))
-        go (no a) c = cell-out cs (suc i) (suc x) (λ p q. a (p .1))
+    cell-off : (i x : ℕ) → (In n i → In m x → ⊥) → cellsM cs i x ≡ machine.blank
+    unfolding cellsM
+    cell-off zero x o = refl
+    cell-off (suc i) zero o = refl
+    cell-off (suc i) (suc x) o =
+        cases (ltb i places)
+        (λ a. rw a (cases (ltb x desk-cells)
+        (λ c. let l = ltb-true i places a in let k = ltb-true x desk-cells c in
+        rw (c, read (i * desk-cells + x) (omega arith))
+        (for-cases ps b n m (i * desk-cells + x) (λ (z : Cell). cellM z ≡ machine.blank) (λ p q. absurd (o (omega arith, omega arith) (omega arith, omega arith))) refl))
+        (λ c. rw c)))
+        (λ a. rw a)
 
     pub cells-read : cellsM cs ≡ cellIn ps n m b
     cells-read =
         sym (from1-is (λ x. machine.blank) n (λ i. from1 machine.blank m (λ x. cellOf ps (part (cellPlace ps n m i x) (cell-bytes ps) b))) (cellsM cs)
-        (λ i hi. from1-is machine.blank m (λ x. cellOf ps (part (cellPlace ps n m i x) (cell-bytes ps) b)) (cellsM cs (suc i)) (λ x hx. cell-on i x hi hx) (row-off i))
-        desk-off)
-      where
-        row-off : (i x : ℕ) → (1 ≤ x → x ≤ m → ⊥) → cellsM cs (suc i) x ≡ machine.blank
-        row-off i zero o = cell-out cs (suc i) zero (λ p q. omega (arith, q .0))
-        row-off i (suc x) o = cell-off i x (λ q. o (omega arith) (q .1))
-
-        desk-off : (i : ℕ) → (1 ≤ i → i ≤ n → ⊥) → cellsM cs i ≡ (λ x. machine.blank)
-        desk-off zero o = fun-ext (λ x. cell-out cs zero x (λ p q. omega (arith, p .0)))
-        desk-off (suc i) o = fun-ext (λ x. each x)
-          where
-            each : (x : ℕ) → cellsM cs (suc i) x ≡ machine.blank
-            each zero = cell-out cs (suc i) zero (λ p q. omega (arith, q .0))
-            each (suc x) = cell-off i x (λ q. o (omega arith) (q .0))
+        (λ i hi. from1-is machine.blank m (λ x. cellOf ps (part (cellPlace ps n m i x) (cell-bytes ps) b)) (cellsM cs (suc i)) (λ x hx. cell-on i x hi hx) (λ x o. cell-off (suc i) x (λ p q. o (q .0) (q .1))))
+        (λ i o. fun-ext (λ x. cell-off i x (λ p q. o (p .0) (p .1)))))
 
   -- open writes: what stands at a place of the image, as the code reads it
   module _ (b : List ℕ) (n m p : ℕ) where
@@ -244,31 +227,19 @@ module _ (ps : ℕ) where
         absurd (omega (arith, ok .frame .cell i x v u y q .writer-in .0))
 
     pub blanks-read : (cs : List ℕ) → CellsRead ps (encodeAt ps s) (s .setup .desks) (s .setup .cells) cs → (t : ℕ) → t < all-cells → cellAt cs t .writer ≡ 0 → AllZero (cellAt cs t)
-    unfolding cellFor cellPart perDesk
-    blanks-read cs read t h w = go (decLt (t / desk-cells) (s .setup .desks)) (decLt (t % desk-cells) (s .setup .cells))
-      where
-        i : ℕ
-        i = t / desk-cells
-
-        x : ℕ
-        x = t % desk-cells
-
-        none-there : cellFor ps (encodeAt ps s) (s .setup .desks) (s .setup .cells) t ≡ noCell → AllZero (cellAt cs t)
-        none-there e = rw (read t h ∙ e) (record { status = refl; vector = λ k. ap (λ (v : Vec). v k) (place-zeros places) })
-
-        go : Dec (t / desk-cells < s .setup .desks) → Dec (t % desk-cells < s .setup .cells) → AllZero (cellAt cs t)
-        go (yes a) (yes c) =
-            let p : ℕ = cellPlace ps (s .setup .desks) (s .setup .cells) (t / desk-cells) (t % desk-cells) in
-            let f : cellAt cs t ≡ cellFrom ps (encodeAt ps s) p = read t h ∙ rw (lt-ltb (t / desk-cells) (s .setup .desks) a, lt-ltb (t % desk-cells) (s .setup .cells) c) in
-            let e : part p (cell-bytes ps) (encodeAt ps s) ≡ cellBytes ps (s .cell (suc (t / desk-cells)) (suc (t % desk-cells))) =
-            rw (div-add-mod (t % desk-cells) (cells-in ps)) at (part-3 ps wd s (t / desk-cells) (t % desk-cells / cells-in ps) (t % desk-cells % cells-in ps) a (block-of (cells-in ps) (s .setup .cells) (t % desk-cells) (some-cells ps wd) c) (mod-lt (t % desk-cells) (some-cells ps wd))) in
-            rw f (blank-cell (suc (t / desk-cells)) (suc (t % desk-cells)) p (s .cell (suc (t / desk-cells)) (suc (t % desk-cells))) refl e (rw f at w))
-        go (yes a) (no c) = let l : s .setup .cells ≤ t % desk-cells = omega arith in none-there (rw (lt-ltb (t / desk-cells) (s .setup .desks) a, le-ltb (t % desk-cells) (s .setup .cells) l))
-        go (no a) c = let l : s .setup .desks ≤ t / desk-cells = omega arith in none-there (rw (le-ltb (t / desk-cells) (s .setup .desks) l))
+    unfolding cellPart
+    blanks-read cs read t h =
+        rw (read t h)
+        (for-cases ps (encodeAt ps s) (s .setup .desks) (s .setup .cells) t (λ (c : Cell). c .writer ≡ 0 → AllZero c)
+        (λ a c.
+        let i : ℕ = t / desk-cells in
+        let x : ℕ = t % desk-cells in
+        blank-cell (suc i) (suc x) (cellPlace ps (s .setup .desks) (s .setup .cells) i x) (s .cell (suc i) (suc x)) refl
+        (rw (div-add-mod x (cells-in ps)) at (part-3 ps wd s i (x / cells-in ps) (x % cells-in ps) a (block-of (cells-in ps) (s .setup .cells) x (some-cells ps wd) c) (mod-lt x (some-cells ps wd)))))
+        (λ w. record { status = refl; vector = λ k. ap (λ (v : Vec). v k) (place-zeros places) }))
 
     -- its sizes fit
     pub fits-image : Fits ps (encodeAt ps s)
-    unfolding openBlocks
     fits-image =
         record {
           desks = rw (n-back ps s) (ok .frame .ranges .desks .0, few);

@@ -5,7 +5,7 @@ use mathlib.Core.Bool.{true, false}
 use mathlib.Core.List.{List, [], _∷_}
 use native.Mathlib.Omega.{arith}
 use native.Mathlib.Decide.{decLt}
-use borrow.Author.Tests.{lt-ltb, le-ltb}
+use borrow.Author.Tests.{ltb-true}
 use lib.Dec.{ltb}
 use native.Mathlib.Nat.{mul-le-mul, mul-le-mul-left, mod-lt}
 use lib.ListN.{length, getD, take, drop, replicate}
@@ -84,6 +84,13 @@ module _ (ps : ℕ) where
   unfoldable pub cellFor : List ℕ → ℕ → ℕ → ℕ → Cell
   cellFor b n m s = pick (ltb (s / desk-cells) n) (pick (ltb (s % desk-cells) m) (cellFrom b (cellPlace ps n m (s / desk-cells) (s % desk-cells))) noCell) noCell
 
+  pub for-cases : (b : List ℕ) (n m s : ℕ) (P : Cell → Type 0) → (s / desk-cells < n → s % desk-cells < m → P (cellFrom b (cellPlace ps n m (s / desk-cells) (s % desk-cells)))) → P noCell → P (cellFor b n m s)
+  unfolding cellFor
+  for-cases b n m s P f z =
+      cases (ltb (s / desk-cells) n)
+      (λ a. rw a (cases (ltb (s % desk-cells) m) (λ c. rw c (f (ltb-true (s / desk-cells) n a) (ltb-true (s % desk-cells) m c))) (λ c. rw c z)))
+      (λ a. rw a z)
+
   -- the sizes that an image tells of itself are in range, and its length is theirs
   pub record Fits (b : List ℕ) : Type 0 where
     pub desks : (1 ≤ nIn b) × (nIn b ≤ ps)
@@ -106,11 +113,9 @@ module _ (ps : ℕ) where
 
   module _ (wd : Wide ps) (b : List ℕ) (h : Fits b) where
     few-blocks : perDesk ps (mIn b) ≤ row-most ps
-    unfolding perDesk
     few-blocks = blocks-mono (cells-in ps) (mIn b) desk-cells (some-cells ps wd) (h .cells .1)
 
     row-block : (x : ℕ) → x < mIn b → x / cells-in ps < perDesk ps (mIn b)
-    unfolding perDesk
     row-block x hx = block-of (cells-in ps) (mIn b) x (some-cells ps wd) hx
 
     -- a piece of w bytes, the j-th of its block
