@@ -260,7 +260,14 @@ fn cell_block(at: u16, cells: &[u16; PLACES * CELLS * CELL], i: usize, q: usize)
     while first + j < end {
         let c = table::cell_at(cells, i * CELLS + (first + j));
         let v = c.vector;
-        put_record(&mut b, PAYLOAD_AT + CELL_BYTES * j, c.writer, c.status, 0, v);
+        put_record(
+            &mut b,
+            PAYLOAD_AT + CELL_BYTES * j,
+            c.writer,
+            c.status,
+            0,
+            v,
+        );
         j += 1;
     }
     seal(&mut b);
