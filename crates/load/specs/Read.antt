@@ -132,25 +132,20 @@ module _ (ps : ℕ) where
           let a = fit w in
           record { desks = n8; before = mul-le-mul z3 i8; block = hq; payload = omega arith; is = omega arith; ends = omega arith }
 
-    cell-within : (i x c : ℕ) → c ≡ perDesk ps (mIn b) → i < nIn b → x < mIn b → Within b (nIn b) (c * i) (x / cells-in ps) (cell-bytes ps * (x % cells-in ps)) (cell-bytes ps) (cellPlace ps (nIn b) (mIn b) i x)
-    cell-within i x c e hi hx =
-        let a = row-block x hx in
-        let z = few-blocks in
-        piece-within (nIn b) c i (x % cells-in ps) (x / cells-in ps) (cell-bytes ps) e refl (omega arith) (omega arith) (mod-lt x (some-cells ps wd)) (omega arith)
-        (let g = mul-le-mul-left (perDesk ps (mIn b)) hi in omega arith)
-
-    open-within : (p c : ℕ) → c ≡ perDesk ps (mIn b) → p < countIn b → Within b (nIn b) (c * nIn b) (p / opens-in ps) (open-bytes ps * (p % opens-in ps)) (open-bytes ps) (openPlace ps (nIn b) (mIn b) p)
-    open-within p c e hp =
-        let a = block-of (opens-in ps) (countIn b) p (some-opens ps wd) hp in
-        let z : blocks-for (opens-in ps) (countIn b) ≤ opens-most ps = blocks-mono (opens-in ps) (countIn b) entries (some-opens ps wd) (h .few) in
-        piece-within (nIn b) c (nIn b) (p % opens-in ps) (p / opens-in ps) (open-bytes ps) e refl (omega arith) (omega arith) (mod-lt p (some-opens ps wd)) (omega arith) (omega arith)
-
-    -- at the code's own numbers
+    -- a cell and an open write, at the code's own numbers
     pub cell-where : (n m i x c : ℕ) → n ≡ nIn b → m ≡ mIn b → c ≡ perDesk ps m → i < n → x < m → Within b n (c * i) (x / cells-in ps) (cell-bytes ps * (x % cells-in ps)) (cell-bytes ps) (cellPlace ps n m i x)
-    cell-where n m i x c en em ec hi hx = rw (en, em) (cell-within i x c (ec ∙ ap (perDesk ps) em) (omega arith) (omega arith))
+    cell-where n m i x c en em ec hi hx =
+        let a = row-block x (omega arith) in
+        let z = few-blocks in
+        let k : i < nIn b = omega arith in
+        rw (en, em) (piece-within (nIn b) c i (x % cells-in ps) (x / cells-in ps) (cell-bytes ps) (ec ∙ ap (perDesk ps) em) refl (omega arith) (omega arith) (mod-lt x (some-cells ps wd)) (omega arith)
+        (let g = mul-le-mul-left (perDesk ps (mIn b)) k in omega arith))
 
     pub open-where : (n m p c count : ℕ) → n ≡ nIn b → m ≡ mIn b → c ≡ perDesk ps m → count ≡ countIn b → p < count → Within b n (c * n) (p / opens-in ps) (open-bytes ps * (p % opens-in ps)) (open-bytes ps) (openPlace ps n m p)
-    open-where n m p c count en em ec eq hp = rw (en, em) (open-within p c (ec ∙ ap (perDesk ps) em) (omega arith))
+    open-where n m p c count en em ec eq hp =
+        let a = block-of (opens-in ps) (countIn b) p (some-opens ps wd) (omega arith) in
+        let z : blocks-for (opens-in ps) (countIn b) ≤ opens-most ps = blocks-mono (opens-in ps) (countIn b) entries (some-opens ps wd) (h .few) in
+        rw (en, em) (piece-within (nIn b) c (nIn b) (p % opens-in ps) (p / opens-in ps) (open-bytes ps) (ec ∙ ap (perDesk ps) em) refl (omega arith) (omega arith) (mod-lt p (some-opens ps wd)) (omega arith) (omega arith))
 
     pub desks-within : block-bytes + block-bytes * nIn b ≤ length b
     desks-within = omega (arith, h .size)
