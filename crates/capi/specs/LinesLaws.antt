@@ -8,8 +8,7 @@ use lib.ListN.{length, take, length-append}
 use lib.Seq.{sets, length-sets}
 use Rattle.laws.specs.Loop.{pick}
 use Rattle.laws.specs.Stores.{sets-append}
-use Rattle.table.specs.declared.Desk.{Desk}
-use Rattle.table.specs.Model.{tableOf}
+use Rattle.table.specs.declared.Table.{Table}
 use Rattle.session.specs.Session.{Session}
 use Rattle.session.specs.Transcript.{transcriptFrom, sessionFrom, most-text}
 use Rattle.session.specs.Laws.{from-end, left-end}
@@ -32,10 +31,10 @@ put-long true out a base e = ap length e ∙ length-sets out base a
 put-long false out a base e = ap length e
 
 -- the lines under way
-pub record Lining (z : Session) (text : List ℕ) (from : ℕ) (put : Bool) (out : List ℕ) (base n m : ℕ) (ds : List Desk) (cs os : List ℕ) (at len : ℕ) (out′ : List ℕ) : Type 0 where
+pub record Lining (z : Session) (text : List ℕ) (from : ℕ) (put : Bool) (out : List ℕ) (base : ℕ) (t : Table) (at len : ℕ) (out′ : List ℕ) : Type 0 where
   pub session : Session
   pub lines : List ℕ
-  pub holds : Holds (tableOf n m ds cs os) session
+  pub holds : Holds t session
   pub len-is : len ≡ length lines
   pub stored : out′ ≡ pick put (sets out base lines) out
   pub rest : transcriptFrom z text from ≡ lines ++ transcriptFrom session text at
@@ -44,8 +43,8 @@ pub record Lining (z : Session) (text : List ℕ) (from : ℕ) (put : Bool) (out
   pub within : at ≤ max from (length text)
   pub few : len ≤ most-part * (at - from)
 
-pub lining-start : {z : Session} {text : List ℕ} {from : ℕ} {put : Bool} {out : List ℕ} {base n m : ℕ} {ds : List Desk} {cs os : List ℕ} → Holds (tableOf n m ds cs os) z
-    → Lining z text from put out base n m ds cs os from 0 out
+pub lining-start : {z : Session} {text : List ℕ} {from : ℕ} {put : Bool} {out : List ℕ} {base : ℕ} {t : Table} → Holds t z
+    → Lining z text from put out base t from 0 out
 lining-start {z} {put} {out} {base} h = record {
   session = z;
   lines = [];
@@ -59,12 +58,12 @@ lining-start {z} {put} {out} {base} h = record {
   few = omega arith;
 }
 
-module _ {z : Session} {text : List ℕ} {from : ℕ} {put : Bool} {out : List ℕ} {base n m : ℕ} {ds : List Desk} {cs os : List ℕ} {at len : ℕ} {out′ : List ℕ}
-    (g : Lining z text from put out base n m ds cs os at len out′) where
+module _ {z : Session} {text : List ℕ} {from : ℕ} {put : Bool} {out : List ℕ} {base : ℕ} {t : Table} {at len : ℕ} {out′ : List ℕ}
+    (g : Lining z text from put out base t at len out′) where
   pub lining-long : length out′ ≡ length out
   lining-long = put-long put out (g .lines) base (g .stored)
 
-  module _ {part : List ℕ} {n′ m′ : ℕ} {ds′ : List Desk} {cs′ os′ : List ℕ} {at′ more : ℕ} {part′ : List ℕ} (r : Ran (g .session) text at part (tableOf n′ m′ ds′ cs′ os′) at′ more part′) where
+  module _ {part : List ℕ} {t′ : Table} {at′ more : ℕ} {part′ : List ℕ} (r : Ran (g .session) text at part t′ at′ more part′) where
     all-is : transcriptFrom z text from ≡ (g .lines ++ r .lines) ++ transcriptFrom (r .session) text at′
     all-is = g .rest ∙ ap (λ (x : List ℕ). g .lines ++ x) (ran-rest r) ∙ sym (append-assoc (g .lines) (r .lines) (transcriptFrom (r .session) text at′))
 
@@ -87,7 +86,7 @@ module _ {z : Session} {text : List ℕ} {from : ℕ} {put : Bool} {out : List �
 
     -- one run more
     pub lining-on : {out″ : List ℕ} → length part ≡ most-part → at < length text → out″ ≡ pick put (sets out′ (base + len) (take more part′)) out′
-        → Lining z text from put out base n′ m′ ds′ cs′ os′ at′ (len + more) out″
+        → Lining z text from put out base t′ at′ (len + more) out″
     lining-on {out″} p h e = record {
       session = r .session;
       lines = g .lines ++ r .lines;
@@ -102,7 +101,7 @@ module _ {z : Session} {text : List ℕ} {from : ℕ} {put : Bool} {out : List �
     }
 
   -- the end of the text
-  pub lining-end : length text ≤ most-text → length text ≤ at → LinedFrom z text from put out base n m ds cs os len out′
+  pub lining-end : length text ≤ most-text → length text ≤ at → LinedFrom z text from put out base t len out′
   lining-end l h =
       let e : transcriptFrom z text from ≡ g .lines = g .rest ∙ ap (λ (x : List ℕ). g .lines ++ x) (from-end (g .session) text at h) ∙ append-nil (g .lines) in
       let f : sessionFrom z text from ≡ g .session = g .leaves ∙ left-end (g .session) text at h in

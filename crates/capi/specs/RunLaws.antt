@@ -10,8 +10,7 @@ use lib.Seq.{sets, length-take-le}
 use Rattle.laws.specs.Loop.{cases}
 use Rattle.laws.specs.Says.{Says, says-leb, says-both}
 use Rattle.laws.specs.Stores.{sets-append}
-use Rattle.table.specs.declared.Desk.{Desk}
-use Rattle.table.specs.Model.{tableOf}
+use Rattle.table.specs.declared.Table.{Table}
 use Rattle.session.specs.Session.{Session}
 use Rattle.session.specs.Transcript.{transcriptFrom, sessionFrom, most-text}
 use Rattle.session.specs.Holds.{Holds}
@@ -54,18 +53,18 @@ module _ (z : Session) (text answers image lengths : List ℕ) where
   run-accepted r ea ei el es = rw (says-fits .from r, ea, ei, el, es)
 
 -- what was counted has room where the code's test says so
-pub lined-room : {z : Session} {text : List ℕ} {at : ℕ} {put : Bool} {out : List ℕ} {from n m : ℕ} {ds : List Desk} {cs os : List ℕ} {more : ℕ} {out′ : List ℕ} {room : ℕ} (len : ℕ)
-    → LinedFrom z text at put out from n m ds cs os more out′ → len + more ≤ room → len + length (transcriptFrom z text at) ≤ room
+pub lined-room : {z : Session} {text : List ℕ} {at : ℕ} {put : Bool} {out : List ℕ} {from : ℕ} {t : Table} {more : ℕ} {out′ : List ℕ} {room : ℕ} (len : ℕ)
+    → LinedFrom z text at put out from t more out′ → len + more ≤ room → len + length (transcriptFrom z text at) ≤ room
 lined-room len l h = omega (arith, l .len-is)
 
-pub lined-sum : {z : Session} {text : List ℕ} {at : ℕ} {put : Bool} {out : List ℕ} {from n m : ℕ} {ds : List Desk} {cs os : List ℕ} {more : ℕ} {out′ : List ℕ} {len long : ℕ}
-    → LinedFrom z text at put out from n m ds cs os more out′ → len ≤ long → long * 1 < 2 ^ 63 → len + more < 2 ^ 64
+pub lined-sum : {z : Session} {text : List ℕ} {at : ℕ} {put : Bool} {out : List ℕ} {from : ℕ} {t : Table} {more : ℕ} {out′ : List ℕ} {len long : ℕ}
+    → LinedFrom z text at put out from t more out′ → len ≤ long → long * 1 < 2 ^ 63 → len + more < 2 ^ 64
 lined-sum l h f = omega (arith, l .few)
 
 -- the first answers, and those of the lines behind them
 module _ {z w : Session} {text : List ℕ} {at : ℕ} {first : List ℕ} (b : Behind z w text at first) where
-  module _ {put : Bool} {out : List ℕ} {from n m : ℕ} {ds : List Desk} {cs os : List ℕ} {more : ℕ} {out′ : List ℕ} (l : LinedFrom w text at put out from n m ds cs os more out′) where
-    pub all-left : Holds (tableOf n m ds cs os) (sessionFrom z text 0)
+  module _ {put : Bool} {out : List ℕ} {from : ℕ} {t : Table} {more : ℕ} {out′ : List ℕ} (l : LinedFrom w text at put out from t more out′) where
+    pub all-left : Holds t (sessionFrom z text 0)
     all-left = rw (b .leaves) (l .holds)
 
     module _ {len : ℕ} (e : length first ≡ len) where
@@ -92,6 +91,6 @@ both-put first len more out h e f =
     f ∙ rw e (ap (λ (x : ℕ). sets (sets out 0 (take len first)) x more) q ∙ sym (sets-append (take len first) more out 0))
 
 -- the first run
-pub ran-behind : {z : Session} {text kept : List ℕ} {n m : ℕ} {ds : List Desk} {cs os : List ℕ} {at len : ℕ} {kept′ : List ℕ} (r : Ran z text 0 kept (tableOf n m ds cs os) at len kept′)
+pub ran-behind : {z : Session} {text kept : List ℕ} {t : Table} {at len : ℕ} {kept′ : List ℕ} (r : Ran z text 0 kept t at len kept′)
     → Behind z (r .session) text at (take len kept′)
 ran-behind r = record { rest = rw (ran-part r) (ran-rest r); leaves = ran-leaves r }

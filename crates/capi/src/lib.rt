@@ -3,7 +3,6 @@ ghost use mathlib.Core.Path.{_≡_};
 ghost use mathlib.Core.Bool.{true};
 ghost use Prim.Native.Nat.{ℕ, _+_, _≤_};
 ghost use lib.ListN.{length, take};
-ghost use lib.Seq.{sets};
 ghost use Rattle.session.specs.Holds.{SomeSession};
 ghost use Rattle.session.specs.Transcript.{most-text};
 ghost use Rattle.capi.specs.Access.{left, accessRun};
@@ -46,18 +45,6 @@ fn part_room() -> [u8; PART]
     [0u8; PART]
 }
 
-// The first len bytes of a part, put into the buffer from place at on.
-fn copy(part: &[u8], len: usize, out: &mut [u8], at: usize)
-    requires { ⌜ (len ≤ length (now part)) × (at + len ≤ length (now out)) ⌝ }
-    ensures { λ _. ⌜ now (out .exit) ≡ sets (now (out .entry)) at (take len (now (part .entry))) ⌝ }
-{
-    let mut j = 0;
-    while j < len {
-        out[at + j] = part[j];
-        j += 1;
-    }
-}
-
 // The lines from a place on: their answers are counted, and put into the buffer if that is asked for.
 fn lines(
     core: Core,
@@ -70,8 +57,8 @@ fn lines(
     from: usize,
 ) -> Ended
     requires { ⌜ SomeSession (tableWith core (now cells) (now opens)) ⌝ }
-    requires { ⌜ (length (now text) ≤ most-text) × RoomFor (core .n) (core .m) (core .desks) (now cells) (now opens) (now text) at put (now out) from ⌝ }
-    ensures { λ r. ⌜ Lined (core .n) (core .m) (core .desks) (now (cells .entry)) (now (opens .entry)) (now (text .entry)) at put (now (out .entry)) from (r .core .n) (r .core .m) (r .core .desks) (now (cells .exit)) (now (opens .exit)) (r .len) (now (out .exit)) ⌝ }
+    requires { ⌜ (length (now text) ≤ most-text) × RoomFor (tableWith core (now cells) (now opens)) (now text) at put (now out) from ⌝ }
+    ensures { λ r. ⌜ Lined (tableWith core (now (cells .entry)) (now (opens .entry))) (now (text .entry)) at put (now (out .entry)) from (tableWith (r .core) (now (cells .exit)) (now (opens .exit))) (r .len) (now (out .exit)) ⌝ }
 {
     let mut last = core;
     let mut part = part_room();
@@ -81,7 +68,7 @@ fn lines(
         let p = session::run(last, cells, opens, text, place, &mut part);
         let more = p.len;
         if put {
-            copy(&part, more, out, from + len);
+            image::copy(&part, more, out, from + len);
         }
         last = p.core;
         place = p.at;
@@ -95,8 +82,8 @@ fn lines(
 
 // How long the image is; 0 while there is no table.
 fn image_size(core: Core) -> usize
-    requires { ⌜ SomeCore (core .n) (core .m) (core .desks) ⌝ }
-    ensures { λ r. ⌜ ImageSize (core .n) (core .m) (core .desks) r ⌝ }
+    requires { ⌜ SomeCore core ⌝ }
+    ensures { λ r. ⌜ ImageSize core r ⌝ }
 {
     let n = core.n;
     if n == 0 {
@@ -113,8 +100,8 @@ fn save_image(
     out: &mut [u8],
 ) -> usize
     requires { ⌜ SomeSession (tableWith core (now cells) (now opens)) ⌝ }
-    requires { ⌜ ImageRoom (core .n) (core .m) (core .desks) (now cells) (now opens) (now out) ⌝ }
-    ensures { λ r. ⌜ ImageSaved (core .n) (core .m) (core .desks) (now (cells .entry)) (now (opens .entry)) (now (out .entry)) (now (out .exit)) r ⌝ }
+    requires { ⌜ ImageRoom (tableWith core (now cells) (now opens)) (now out) ⌝ }
+    ensures { λ r. ⌜ ImageSaved (tableWith core (now (cells .entry)) (now (opens .entry))) (now (out .entry)) (now (out .exit)) r ⌝ }
 {
     let n = core.n;
     if n == 0 {
@@ -135,12 +122,12 @@ fn put_answers(
     answers: &mut [u8],
 )
     requires { ⌜ SomeSession (tableWith core «first_cells» «first_opens») ⌝ }
-    requires { ⌜ (length (now text) ≤ most-text) × ((len ≤ length (now first)) × RoomFor (core .n) (core .m) (core .desks) «first_cells» «first_opens» (now text) at true (now answers) len) ⌝ }
-    ensures { λ _. ⌜ BothPut (core .n) (core .m) (core .desks) «first_cells» «first_opens» (now (text .entry)) at (take len (now (first .entry))) (now (answers .entry)) (now (answers .exit)) ⌝ }
+    requires { ⌜ (length (now text) ≤ most-text) × ((len ≤ length (now first)) × RoomFor (tableWith core «first_cells» «first_opens») (now text) at true (now answers) len) ⌝ }
+    ensures { λ _. ⌜ BothPut (tableWith core «first_cells» «first_opens») (now (text .entry)) at (take len (now (first .entry))) (now (answers .entry)) (now (answers .exit)) ⌝ }
 {
     let mut cells = first_cells;
     let mut opens = first_opens;
-    copy(first, len, answers, 0);
+    image::copy(first, len, answers, 0);
     lines(core, &mut cells, &mut opens, text, at, true, answers, len);
 }
 
@@ -159,7 +146,7 @@ fn finish(
 ) -> u64
     requires { ⌜ SomeSession (tableWith core cells opens) ⌝ }
     requires { ⌜ (length (now text) ≤ most-text) × ((len ≤ length (now first)) × (2 ≤ length (now lengths))) ⌝ }
-    ensures { λ r. ⌜ Finishes (core .n) (core .m) (core .desks) cells opens (now (text .entry)) at (take len (now (first .entry))) (now (answers .entry)) (now («image_out» .entry)) (now (lengths .entry)) (left r (now (answers .exit)) (now («image_out» .exit)) (now (lengths .exit))) ⌝ }
+    ensures { λ r. ⌜ Finishes (tableWith core cells opens) (now (text .entry)) at (take len (now (first .entry))) (now (answers .entry)) (now («image_out» .entry)) (now (lengths .entry)) (left r (now (answers .exit)) (now («image_out» .exit)) (now (lengths .exit))) ⌝ }
 {
     let mut last_cells = cells;
     let mut last_opens = opens;
@@ -199,7 +186,7 @@ fn run_from(
     lengths: &mut [u64],
 ) -> u64
     requires { ⌜ SomeSession (tableWith core «first_cells» «first_opens») ⌝ }
-    ensures { λ r. ⌜ RunsFrom (core .n) (core .m) (core .desks) «first_cells» «first_opens» (now (text .entry)) (now (answers .entry)) (now («image_out» .entry)) (now (lengths .entry)) (left r (now (answers .exit)) (now («image_out» .exit)) (now (lengths .exit))) ⌝ }
+    ensures { λ r. ⌜ RunsFrom (tableWith core «first_cells» «first_opens») (now (text .entry)) (now (answers .entry)) (now («image_out» .entry)) (now (lengths .entry)) (left r (now (answers .exit)) (now («image_out» .exit)) (now (lengths .exit))) ⌝ }
 {
     if LONGEST_TEXT < text.len() {
         return 14;

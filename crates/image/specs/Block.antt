@@ -1,20 +1,22 @@
 -- A block as the code fills it: zeros, then its head and its payload, then its check.
-use Prim.Native.Nat.{ℕ, suc, _+_, _-_, _<_, _≤_}
+use Prim.Native.Nat.{ℕ, zero, suc, _+_, _-_, _*_, _<_, _≤_}
 use mathlib.Core.Path.{_≡_, refl, sym, ap, _∙_}
 use mathlib.Core.List.{List, [], _∷_, _++_, append-assoc, append-nil}
 use native.Mathlib.Omega.{arith}
-use lib.ListN.{length, getD, set, drop, replicate, length-append, replicate-append-replicate}
+use lib.ListN.{length, getD, set, drop, replicate, length-append, length-replicate, replicate-append-replicate}
 use lib.Seq.{sets, sets-eq, take-at, drop-append-add}
-use Rattle.laws.specs.Stores.{sets-append}
+use native.Mathlib.Nat.{add-zero}
+use Rattle.laws.specs.Cat.{cat, length-cat}
 use Rattle.clock.specs.Vectors.{place}
 use Rattle.table.specs.declared.Cell.{Cell}
 use Rattle.table.specs.declared.Open.{Open}
 use Rattle.image.specs.Check.{checkOf, check-first}
-use Rattle.image.specs.Encode.{word, long, words, markBytes, deskBytes, body, sealed, block}
-use Rattle.image.specs.Fields.{length-words, length-marks, length-desk}
+use Rattle.image.specs.Encode.{word, long, words, markBytes, body, sealed, block}
+use Rattle.image.specs.Fields.{length-words, length-marks}
+use Rattle.machine.specs.Table.{Vec}
 use Rattle.image.specs.Places.{length-body}
-use Rattle.image.specs.Fill.{pad, pad-sets, pad-gap}
-use Rattle.image.specs.Limits.{Wide, block-bytes, payload-at, check-at, payload-bytes, vector-at, vector-bytes, after-vector, cell-bytes, open-bytes}
+use Rattle.image.specs.Fill.{then-put, zeros-put}
+use Rattle.image.specs.Limits.{block-bytes, payload-at, check-at, payload-bytes, vector-at, after-vector, open-bytes}
 
 -- their numbers that take one byte
 pub record SmallCell (c : Cell) : Type 0 where
@@ -39,32 +41,42 @@ sealed-sets b e =
     let d : drop (check-at + 4) (b ++ z) ≡ [] = rw e at (drop-append-add b z 4) in
     rw c (sets-eq (long (checkOf b)) (b ++ z) check-at (omega arith) ∙ rw (take-at b z check-at e, d, append-nil))
 
-pad-body : (kind at : ℕ) (l : List ℕ) → length l ≤ payload-bytes → pad block-bytes (head kind at ++ l) ≡ body kind at l ++ replicate 4 0
-unfolding pad
-pad-body kind at l h =
+body-put : (kind at : ℕ) (l : List ℕ) → length l ≤ payload-bytes → sets (replicate block-bytes 0) 0 (head kind at ++ l) ≡ body kind at l ++ replicate 4 0
+body-put kind at l h =
     let e : block-bytes - suc (suc (suc (suc (length l)))) ≡ (payload-bytes - length l) + 4 = omega arith in
-    let q : l ++ replicate (block-bytes - suc (suc (suc (suc (length l))))) 0 ≡ (l ++ replicate (payload-bytes - length l) 0) ++ replicate 4 0 =
-    rw (e, append-assoc l, replicate-append-replicate (payload-bytes - length l)) in
-    ap (λ (r : List ℕ). kind ∷ 1 ∷ (word at ++ r)) q
+    zeros-put block-bytes (head kind at ++ l) (omega arith) ∙ rw (e, append-assoc l, replicate-append-replicate (payload-bytes - length l))
 
--- a block of zeros with its head and payload, and then its check
-pub seal-pad : (kind at : ℕ) (l : List ℕ) → length l ≤ payload-bytes
-    → sets (pad block-bytes (head kind at ++ l)) check-at (long (checkOf (pad block-bytes (head kind at ++ l)))) ≡ block kind at l
+-- a block of the code: its head put into zeros, its payload behind that, and then its check
+pub made : (kind at : ℕ) (l : List ℕ) {b0 b1 b : List ℕ} → length l ≤ payload-bytes → b0 ≡ sets (replicate block-bytes 0) 0 (head kind at) → b1 ≡ sets b0 payload-at l
+    → b ≡ sets b1 check-at (long (checkOf b1)) → b ≡ block kind at l
 unfolding block
-seal-pad kind at l h = rw (pad-body kind at l h) (sealed-sets (body kind at l) (length-body kind at l h))
+made kind at l h e0 e1 e =
+    let z = e1 ∙ rw e0 (then-put (replicate block-bytes 0) (head kind at) l 0 payload-at refl) ∙ body-put kind at l h in
+    e ∙ rw z (sealed-sets (body kind at l) (length-body kind at l h))
 
--- a payload put behind the head
-pub payload-put : (kind at : ℕ) (l : List ℕ) → length l ≤ payload-bytes → sets (pad block-bytes (head kind at)) payload-at l ≡ pad block-bytes (head kind at ++ l)
-payload-put kind at l h = pad-sets block-bytes payload-at (head kind at) l refl (omega arith)
+-- pieces of zeros at its end need not be put: the rest of a block is zeros
+cat-zeros : (f : ℕ → List ℕ) (w n d : ℕ) → ((j : ℕ) → n ≤ j → j < n + d → f j ≡ replicate w 0) → cat f (n + d) ≡ cat f n ++ replicate (w * d) 0
+unfolding cat
+cat-zeros f w n zero h = let e : w * 0 ≡ 0 = omega arith in rw (add-zero n, e) (sym (append-nil (cat f n)))
+cat-zeros f w n (suc d) h =
+    let a : n + suc d ≡ suc (n + d) = omega arith in
+    let e : w * suc d ≡ w * d + w = omega arith in
+    rw (a, cat-zeros f w n d (λ j g l. h j g (omega arith)), h (n + d) (omega arith) (omega arith), e)
+    (append-assoc (cat f n) (replicate (w * d) 0) (replicate w 0) ∙ rw (replicate-append-replicate {A = ℕ} (w * d) w 0))
 
--- a block of the code: what was put is the payload, and then its check
-pub block-is : (kind at : ℕ) (l b : List ℕ) → length l ≤ payload-bytes → b ≡ sets (pad block-bytes (head kind at)) payload-at l → sets b check-at (long (checkOf b)) ≡ block kind at l
-block-is kind at l b h e = rw (e ∙ payload-put kind at l h) (seal-pad kind at l h)
-
--- the head put into zeros
-pub head-put : (kind at : ℕ) → sets (replicate block-bytes 0) 0 (head kind at) ≡ pad block-bytes (head kind at)
-unfolding pad
-head-put kind at = pad-sets block-bytes 0 [] (head kind at) refl (omega arith)
+pub zeros-behind : (kind at w n all : ℕ) (f : ℕ → List ℕ) → n ≤ all → ((j : ℕ) → length (f j) ≡ w) → w * all ≤ payload-bytes
+    → ((j : ℕ) → n ≤ j → j < all → f j ≡ replicate w 0) → block kind at (cat f n) ≡ block kind at (cat f all)
+unfolding block
+zeros-behind kind at w n all f h l fits z =
+    let d : ℕ = all - n in
+    let e : all ≡ n + d = omega arith in
+    let m = ap (λ (x : ℕ). w * x) e in
+    let c : cat f all ≡ cat f n ++ replicate (w * d) 0 = ap (cat f) e ∙ cat-zeros f w n d (λ j g k. z j g (omega arith)) in
+    let k = length-cat f w l n in
+    let r : payload-bytes - length (cat f n) ≡ w * d + (payload-bytes - length (cat f n ++ replicate (w * d) 0)) = rw (length-append, length-replicate) (omega arith) in
+    let q : cat f n ++ replicate (payload-bytes - length (cat f n)) 0 ≡ cat f all ++ replicate (payload-bytes - length (cat f all)) 0 =
+    rw (c, append-assoc (cat f n), replicate-append-replicate {A = ℕ} (w * d), r) in
+    ap (λ (b : List ℕ). sealed (kind ∷ 1 ∷ (word at ++ b))) q
 
 -- where a vector takes ps places
 module _ (ps : ℕ) where
@@ -75,58 +87,20 @@ module _ (ps : ℕ) where
   unfoldable pub openRaw : Open → List ℕ
   openRaw o = o .writer ∷ o .status ∷ o .cell ∷ 0 ∷ (words ps (place (o .vector)) ++ markBytes ps (place (o .marks)))
 
-  pub length-cellRaw : (c : Cell) → length (cellRaw c) ≡ cell-bytes ps
-  unfolding cellRaw
-  length-cellRaw c = rw (length-words ps (place (c .vector))) (omega arith)
-
   pub length-openRaw : (o : Open) → length (openRaw o) ≡ open-bytes ps
   unfolding openRaw
   length-openRaw o =
       rw (length-append (words ps (place (o .vector))) (markBytes ps (place (o .marks))), length-words ps (place (o .vector)), length-marks ps (place (o .marks))) (omega arith)
 
-  -- a cell and an open write, as they are put
-  module _ (b : List ℕ) (at : ℕ) where
-    four : (a c d e : ℕ) (r : List ℕ) → sets (set (set (set (set b at a) (at + 1) c) (at + 2) d) (at + 3) e) (at + vector-at) r ≡ sets b at (a ∷ c ∷ d ∷ e ∷ r)
-    four a c d e r =
-        let p1 : at + 1 ≡ suc at = omega arith in
-        let p2 : at + 2 ≡ suc (suc at) = omega arith in
-        let p3 : at + 3 ≡ suc (suc (suc at)) = omega arith in
-        let p4 : at + 4 ≡ suc (suc (suc (suc at))) = omega arith in
-        rw (p1, p2, p3, p4)
+  -- what begins with 4 bytes and a vector, as it is put
+  pub begun : (b : List ℕ) (at x y z : ℕ) (r : List ℕ) → sets (set (set (set (set b at x) (at + 1) y) (at + 2) z) (at + 3) 0) (at + vector-at) r ≡ sets b at (x ∷ y ∷ z ∷ 0 ∷ r)
+  begun b at x y z r =
+      let p1 : at + 1 ≡ suc at = omega arith in
+      let p2 : at + 2 ≡ suc (suc at) = omega arith in
+      let p3 : at + 3 ≡ suc (suc (suc at)) = omega arith in
+      let p4 : at + 4 ≡ suc (suc (suc (suc at))) = omega arith in
+      rw (p1, p2, p3, p4)
 
-    pub cell-steps : (c : Cell) → sets (set (set (set (set b at (c .writer)) (at + 1) (c .status)) (at + 2) 0) (at + 3) 0) (at + vector-at) (words ps (place (c .vector))) ≡ sets b at (cellRaw c)
-    unfolding cellRaw
-    cell-steps c = four (c .writer) (c .status) 0 0 (words ps (place (c .vector)))
-
-    pub open-steps : (o : Open)
-        → sets (sets (set (set (set (set b at (o .writer)) (at + 1) (o .status)) (at + 2) (o .cell)) (at + 3) 0) (at + vector-at) (words ps (place (o .vector)))) (at + after-vector ps) (markBytes ps (place (o .marks))) ≡ sets b at (openRaw o)
-    unfolding openRaw
-    open-steps o =
-        let v : List ℕ = words ps (place (o .vector)) in
-        let d : List ℕ = set (set (set (set b at (o .writer)) (at + 1) (o .status)) (at + 2) (o .cell)) (at + 3) 0 in
-        let e : at + after-vector ps ≡ at + vector-at + length v = omega (arith, length-words ps (place (o .vector))) in
-        rw e (sym (sets-append v (markBytes ps (place (o .marks))) d (at + vector-at)) ∙ four (o .writer) (o .status) (o .cell) 0 (v ++ markBytes ps (place (o .marks))))
-
-module _ (ps : ℕ) (wd : Wide ps) where
-  -- the desk's block, as it is filled
-  pub fill-desk : (at i : ℕ) (a c : List ℕ)
-      → sets (sets (set (pad block-bytes (head 2 at)) payload-at i) (payload-at + vector-at) (words ps (place a))) (payload-at + after-vector ps) (words ps (place c)) ≡ sets (pad block-bytes (head 2 at)) payload-at (deskBytes ps i (place a) (place c))
-  unfolding deskBytes
-  fill-desk at i a c =
-      let h : List ℕ = head 2 at in
-      let p : List ℕ = i ∷ [] in
-      let g : List ℕ = i ∷ 0 ∷ 0 ∷ 0 ∷ [] in
-      let la = length-words ps (place a) in
-      let lc = length-words ps (place c) in
-      let e1 : set (pad block-bytes h) payload-at i ≡ pad block-bytes (h ++ g) = pad-sets block-bytes payload-at h p refl (omega arith) ∙ sym (pad-gap block-bytes 3 (h ++ p) (omega arith)) in
-      let e2 = pad-sets block-bytes (payload-at + vector-at) (h ++ g) (words ps (place a)) refl (omega (arith, la, wd .desk)) in
-      let e3 = pad-sets block-bytes (payload-at + after-vector ps) ((h ++ g) ++ words ps (place a)) (words ps (place c)) (rw (length-append (h ++ g) (words ps (place a)), la) (omega arith)) (omega (arith, la, lc, wd .desk)) in
-      let l : length (words ps (place a) ++ words ps (place c)) ≡ vector-bytes ps + vector-bytes ps = rw (length-append (words ps (place a)) (words ps (place c)), la, lc) in
-      rw (e1, e2, e3) (sym (payload-put 2 at (i ∷ 0 ∷ 0 ∷ 0 ∷ (words ps (place a) ++ words ps (place c))) (omega (arith, l, wd .desk))))
-
-  -- the desk's block, step by step
-  pub desk-steps : (at i x : ℕ) (a c b1 b2 b3 b : List ℕ) → x ≡ i → b1 ≡ sets (replicate block-bytes 0) 0 (head 2 at) → b2 ≡ sets (set b1 payload-at x) (payload-at + vector-at) (words ps (place a))
-      → b3 ≡ sets b2 (payload-at + after-vector ps) (words ps (place c)) → b ≡ sets b3 check-at (long (checkOf b3)) → b ≡ block 2 at (deskBytes ps i (place a) (place c))
-  desk-steps at i x a c b1 b2 b3 b ex e1 e2 e3 e4 =
-      let e : b3 ≡ sets (pad block-bytes (head 2 at)) payload-at (deskBytes ps i (place a) (place c)) = e3 ∙ rw (e2, e1 ∙ head-put 2 at, ex) (fill-desk at i a c) in
-      e4 ∙ block-is 2 at (deskBytes ps i (place a) (place c)) b3 (omega (arith, length-desk ps i (place a) (place c), wd .desk)) e
+  -- and what stands behind the vector
+  pub behind : (b : List ℕ) (at x y z : ℕ) (v : Vec) (r : List ℕ) → sets (sets b at (x ∷ y ∷ z ∷ 0 ∷ words ps v)) (at + after-vector ps) r ≡ sets b at (x ∷ y ∷ z ∷ 0 ∷ (words ps v ++ r))
+  behind b at x y z v r = then-put b (x ∷ y ∷ z ∷ 0 ∷ words ps v) r at (after-vector ps) (rw (length-words ps v) (omega arith))

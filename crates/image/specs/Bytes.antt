@@ -7,13 +7,16 @@ use native.Mathlib.Omega.{arith}
 use native.Mathlib.Nat.{mul-le-mul-left, mul-le-mul, add-le-add, le-refl}
 use lib.ListN.{length, replicate}
 use Rattle.laws.specs.Each.{no, and, each-at, each-append, each-replicate, each-cat, each-tab, each-map}
-use Rattle.laws.specs.Cat.{cat}
+use Rattle.laws.specs.Loop.{cases}
+use lib.Dec.{eqb, leb, ltb}
+use borrow.Author.Tests.{leb-true}
 use Rattle.machine.specs.Table.{most-cells, most-open, most-writes, Vec, Cell, blank, set, Open, State, written}
 use Rattle.machine.specs.Steps.{openCount}
 use Rattle.machine.specs.Rules.{Issued, Rules}
 use Rattle.image.specs.Names.{names, OpenName, names-open}
 use Rattle.image.specs.Check.{Byte, Bytes, checkOf, check-most}
-use Rattle.image.specs.Encode.{word, words, markBytes, deskBytes, cellBytes, openBytes, long, body, block, named, blocks, cellPart, openPart, perDesk, openBlocks, block1, block2, block3, block4, kind2, kind3, kind4, encodeAt}
+use Rattle.image.specs.Encode.{word, words, markBytes, deskBytes, cellBytes, openBytes, long, body, block, named, blocks, cellPart, openPart, perDesk, openBlocks, encodeAt}
+use Rattle.image.specs.Places.{pick-has, blockAt, encode-is}
 use Rattle.image.specs.Limits.{Wide, some-cells, some-opens, blocks-mono, payload-bytes, cell-bytes, open-bytes, cells-in, opens-in, rows-most, opens-most, blocks-most}
 
 head : (a b c d : ℕ) (l : List ℕ) → a < 256 → b < 256 → c < 256 → d < 256 → Bytes l → Bytes (a ∷ b ∷ c ∷ d ∷ l)
@@ -41,19 +44,14 @@ module _ (ps : ℕ) (wd : Wide ps) (s : State) (ok : Rules s) (n-most : s .setup
   m-most = ok .frame .ranges .cells .1
 
   few-cells : perDesk ps (s .setup .cells) * s .setup .desks ≤ rows-most ps
-  unfolding perDesk
   few-cells = mul-le-mul (blocks-mono (cells-in ps) (s .setup .cells) most-cells (some-cells ps wd) m-most) n-most
 
   few-opens : openBlocks ps s ≤ opens-most ps
-  unfolding openBlocks
   few-opens = blocks-mono (opens-in ps) (openCount s) most-open (some-opens ps wd) (ok .frame .ranges .few)
 
   -- "The largest image is 37 blocks."
   pub most-blocks : blocks ps s ≤ blocks-most ps
   most-blocks = add-le-add (add-le-add (add-le-add (le-refl 1) n-most) few-cells) few-opens
-
-  place-3 : (i q : ℕ) → i < s .setup .desks → q < perDesk ps (s .setup .cells) → 1 + s .setup .desks + perDesk ps (s .setup .cells) * i + q ≤ most-writes
-  place-3 i q h g = let l = mul-le-mul-left (perDesk ps (s .setup .cells)) h in let m = most-blocks in let f = wd .few in omega arith
 
   bytes-vector : (v : Vec) → Issued s v → Bytes (words ps v)
   bytes-vector v h = bytes-words ps v (λ t. omega (arith, h t, ok .frame .ranges .written t))
@@ -82,35 +80,27 @@ module _ (ps : ℕ) (wd : Wide ps) (s : State) (ok : Rules s) (n-most : s .setup
       (each-map Bytes (named ps s) (OpenName s) (λ w h. bytes-open (w .writer) (w .number) (s .opens (w .writer) (w .number)) (h .writer-in .1) refl) (names s) (names-open s))
       (opens-in ps * q + j)
 
-  bytes-2 : (i : ℕ) → i < s .setup .desks → Bytes (block2 ps s i)
+  bytes-sizes : Bytes (s .setup .desks ∷ s .setup .cells ∷ openCount s ∷ [])
+  bytes-sizes = and n-byte (and {x = s .setup .cells} (omega (arith, m-most)) (and {x = openCount s} (omega (arith, ok .frame .ranges .few)) no))
+
+  bytes-desk : (i : ℕ) → i ≤ s .setup .desks → Bytes (deskBytes ps i (s .applied i) (s .clock i))
   unfolding deskBytes
-  bytes-2 i h =
-      let a = s .applied (suc i) in
-      let c = s .clock (suc i) in
-      let most = ok .frame .counts .most (suc i) in
-      bytes-block 2 (1 + i) (deskBytes ps (suc i) a c) (omega arith) (omega (arith, n-byte))
-      (head (suc i) 0 0 0 (words ps a ++ words ps c) (omega (arith, n-byte)) (omega arith) (omega arith) (omega arith)
-      (each-append Byte (words ps a) (words ps c) (bytes-vector a most) (bytes-vector c (λ t. omega (arith, most t, ok .frame .clocks .below (suc i) t)))))
+  bytes-desk i h =
+      let most = ok .frame .counts .most i in
+      head i 0 0 0 (words ps (s .applied i) ++ words ps (s .clock i)) (omega (arith, n-byte)) (omega arith) (omega arith) (omega arith)
+      (each-append Byte (words ps (s .applied i)) (words ps (s .clock i)) (bytes-vector (s .applied i) most) (bytes-vector (s .clock i) (λ t. omega (arith, most t, ok .frame .clocks .below i t))))
 
-  bytes-3 : (i q : ℕ) → i < s .setup .desks → q < perDesk ps (s .setup .cells) → Bytes (block3 ps s i q)
-  unfolding cellPart
-  bytes-3 i q h g =
-      bytes-block 3 (1 + s .setup .desks + perDesk ps (s .setup .cells) * i + q) (cat (cellPart ps s i q) (cells-in ps)) (omega arith) (place-3 i q h g)
-      (each-cat Byte (cellPart ps s i q) (cells-in ps) (λ j _. bytes-cell (suc i) (suc (cells-in ps * q + j)) (s .cell (suc i) (suc (cells-in ps * q + j))) refl))
-
-  bytes-4 : (q : ℕ) → q < openBlocks ps s → Bytes (block4 ps s q)
-  bytes-4 q h =
-      bytes-block 4 (1 + s .setup .desks + perDesk ps (s .setup .cells) * s .setup .desks + q) (cat (openPart ps s q) (opens-in ps)) (omega arith) (let m = most-blocks in let f = wd .few in omega arith)
-      (each-cat Byte (openPart ps s q) (opens-in ps) (λ j _. bytes-opens q j))
+  bytes-at : (k : ℕ) → k < blocks ps s → Bytes (blockAt ps s k)
+  unfolding blockAt cellPart
+  bytes-at k h =
+      let few : k ≤ most-writes = omega (arith, most-blocks, wd .few) in
+      pick-has Bytes (eqb k 0) (bytes-block 1 k _ (omega arith) few bytes-sizes)
+      (cases (leb k (s .setup .desks))
+      (λ e. rw e (bytes-block 2 k _ (omega arith) few (bytes-desk k (leb-true k (s .setup .desks) e))))
+      (λ e. rw e (pick-has Bytes (ltb k _)
+      (bytes-block 3 k _ (omega arith) few (each-cat Byte _ (cells-in ps) (λ j _. bytes-cell _ _ _ refl)))
+      (bytes-block 4 k _ (omega arith) few (each-cat Byte _ (opens-in ps) (λ j _. bytes-opens _ j))))))
 
   -- every byte is below 256
   pub bytes-encode : Bytes (encodeAt ps s)
-  unfolding encodeAt
-  bytes-encode =
-      each-append Byte (block1 s) (kind2 ps s ++ (kind3 ps s ++ kind4 ps s))
-      (bytes-block 1 0 (s .setup .desks ∷ s .setup .cells ∷ openCount s ∷ []) (omega arith) (omega arith)
-      (and n-byte (and (omega (arith, m-most)) (and (omega (arith, ok .frame .ranges .few)) no))))
-      (each-append Byte (kind2 ps s) (kind3 ps s ++ kind4 ps s) (each-cat Byte (block2 ps s) (s .setup .desks) bytes-2)
-      (each-append Byte (kind3 ps s) (kind4 ps s)
-      (each-cat Byte (λ i. cat (block3 ps s i) (perDesk ps (s .setup .cells))) (s .setup .desks) (λ i h. each-cat Byte (block3 ps s i) (perDesk ps (s .setup .cells)) (λ q g. bytes-3 i q h g)))
-      (each-cat Byte (block4 ps s) (openBlocks ps s) bytes-4)))
+  bytes-encode = rw (encode-is ps s) (each-cat Byte (blockAt ps s) (blocks ps s) bytes-at)

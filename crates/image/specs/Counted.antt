@@ -1,6 +1,6 @@
 -- By the rules the counts alone tell which writes are open, so in what order they are saved.
 use Prim.Native.Nat.{ℕ, zero, suc, _+_, _-_, _<_, _≤_, min}
-use mathlib.Core.Path.{_≡_, sym, ap, _∙_}
+use mathlib.Core.Path.{_≡_, ap, _∙_}
 use mathlib.Core.Bool.{Bool}
 use mathlib.Core.List.{List, append-nil}
 use native.Mathlib.Omega.{arith}
@@ -88,7 +88,3 @@ module _ (s : State) (ok : Rules s) where
       cat-same (λ k. nameIf (isOpen s (suc u) (suc k)) (suc u) (suc k)) (λ k. nameIf (ltb l (suc k)) (suc u) (suc k)) (written s (suc u))
       (λ k g. ap (λ (b : Bool). nameIf b (suc u) (suc k)) (open-low (suc u) (suc k) (omega arith, h) (omega arith, g)))
       ∙ above (suc u) l (written s (suc u)))
-
--- n and the counts determine them
-pub names-same : (s t : State) → Rules s → Rules t → s .setup .desks ≡ t .setup .desks → s .applied ≡ t .applied → names s ≡ names t
-names-same s t hs ht e f = names-counted s hs ∙ rw (e, f) (sym (names-counted t ht))

@@ -139,7 +139,7 @@ module _ (ps : ℕ) where
     no-cell i x o (set v u w) e = let h = ok .frame .cell i x v u w e in absurd (o (h .desk, h .cell))
 
     pub cell-back : cellIn (s .setup .desks) (s .setup .cells) (encodeAt ps s) ≡ s .cell
-    unfolding perDesk cellPart
+    unfolding cellPart
     cell-back =
         from1-is (λ x. blank) (s .setup .desks) _ (s .cell)
         (λ i hi. from1-is blank (s .setup .cells) _ (s .cell (suc i))
@@ -149,7 +149,7 @@ module _ (ps : ℕ) where
         (λ i o. fun-ext (λ x. no-cell i x (λ h. o (h .0 .0) (h .0 .1)) (s .cell i x) refl))
 
     pub entry-back : (p : ℕ) → p < openCount s → entryIn (s .setup .desks) (s .setup .cells) (encodeAt ps s) p ≡ named ps s (getD (names s) p no-name)
-    unfolding openBlocks openPart
+    unfolding openPart
     entry-back p h =
         rw (part-4 ps wd s (p / opens-in ps) (p % opens-in ps) (block-of (opens-in ps) (openCount s) p (some-opens ps wd) h) (mod-lt p (some-opens ps wd)), div-add-mod p (opens-in ps))
         (getD-map-in (named ps s) (names s) p no-name (replicate (open-bytes ps) 0) (omega (arith, length-names s)))

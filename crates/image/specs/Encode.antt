@@ -61,7 +61,7 @@ module _ (p : ℕ) where
   unfoldable pub cellPart : State → ℕ → ℕ → ℕ → List ℕ
   cellPart s i q j = cellBytes (s .cell (suc i) (suc (cells-in p * q + j)))
 
-  unfoldable pub perDesk : ℕ → ℕ
+  abbrev pub perDesk : ℕ → ℕ
   perDesk m = blocks-for (cells-in p) m
 
   abbrev pub block3 : State → ℕ → ℕ → List ℕ
@@ -80,7 +80,7 @@ module _ (p : ℕ) where
   openPart s q j = getD (map (named s) (names s)) (opens-in p * q + j) (replicate (open-bytes p) 0)
 
   -- "No kind 4 block when nothing is open."
-  unfoldable pub openBlocks : State → ℕ
+  abbrev pub openBlocks : State → ℕ
   openBlocks s = blocks-for (opens-in p) (openCount s)
 
   abbrev pub block4 : State → ℕ → List ℕ

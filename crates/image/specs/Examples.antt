@@ -24,11 +24,11 @@ use Rattle.image.specs.Limits.{block-bytes, check-at}
 
 -- "A fresh table of n = 1, m = 1 is 3 blocks, and its first check is 15."
 pub fresh-blocks : length (encode (fresh 1 1)) ≡ 3 * block-bytes
-unfolding encodeAt block cat words deskBytes cellBytes cellPart openCount sum perDesk openBlocks checkOf
+unfolding encodeAt block cat words deskBytes cellBytes cellPart openCount sum checkOf
 fresh-blocks = refl
 
 pub first-check : part check-at 4 (encode (fresh 1 1)) ≡ 15 ∷ 0 ∷ 0 ∷ 0 ∷ []
-unfolding encodeAt block cat words deskBytes cellBytes cellPart openCount sum perDesk openBlocks checkOf part
+unfolding encodeAt block cat words deskBytes cellBytes cellPart openCount sum checkOf part
 first-check = refl
 
 -- "An all-zero block is damaged."
@@ -41,7 +41,7 @@ abbrev pub one-write : State
 one-write = write (fresh 2 1) 1 1 2
 
 pub open-entry : part (5 * block-bytes) 40 (encode one-write) ≡ 4 ∷ 1 ∷ 5 ∷ 0 ∷ 1 ∷ 2 ∷ 1 ∷ 0 ∷ 1 ∷ 0 ∷ 0 ∷ 0 ∷ 0 ∷ 0 ∷ 0 ∷ 0 ∷ 0 ∷ 0 ∷ 0 ∷ 0 ∷ 0 ∷ 0 ∷ 0 ∷ 0 ∷ 2 ∷ 0 ∷ 0 ∷ 0 ∷ 0 ∷ 0 ∷ 0 ∷ 0 ∷ 0 ∷ 0 ∷ 0 ∷ 0 ∷ 0 ∷ 0 ∷ 0 ∷ 0 ∷ []
-unfolding encodeAt block cat words markBytes deskBytes cellBytes cellPart openBytes openPart names namesOf openCount sum perDesk openBlocks checkOf part upd upd2 everywhere all scan turns tab tabFrom
+unfolding encodeAt block cat words markBytes deskBytes cellBytes cellPart openBytes openPart names namesOf openCount sum checkOf part upd upd2 everywhere all scan turns tab tabFrom
 open-entry = refl
 
 -- the rules hold of it; of the same with the clocks or the open write lost they do not

@@ -36,12 +36,6 @@ zero-words (suc ps) =
     let z : cat (λ (t : ℕ). word 0) ps ≡ replicate (vector-bytes ps) 0 = zero-words ps in
     rw (e, z) (replicate-append-replicate {A = ℕ} (vector-bytes ps) 2 0)
 
-pub zero-marks : (ps : ℕ) → markBytes ps (λ t. 0) ≡ replicate ps 0
-unfolding markBytes
-zero-marks ps =
-    let l = length-tab {A = ℕ} (λ t. 0) ps in
-    ext-getD 0 (tab ps (λ (t : ℕ). 0)) (replicate ps 0) (l ∙ sym (length-replicate {A = ℕ} ps 0)) (λ i h. rw (zeros-at ps i) (getD-tab {A = ℕ} (λ t. 0) ps i 0 (omega (arith, l))))
-
 -- where a vector has ps places
 module _ (ps : ℕ) where
   -- ps numbers of 16 bits; ps of a byte

@@ -1,51 +1,53 @@
 -- Stores one after the other: what a loop that puts a piece each turn has put so far; and a block of zeros that is filled from its start on.
-use Prim.Native.Nat.{ℕ, zero, suc, _+_, _-_, _<_, _≤_}
-use mathlib.Core.Path.{_≡_, sym, _∙_}
-use mathlib.Core.List.{List, [], _∷_, _++_, append-assoc}
+use Prim.Native.Nat.{ℕ, zero, suc, _+_, _-_, _*_, _<_, _≤_}
+use mathlib.Core.Path.{_≡_, sym, ap, _∙_}
+use mathlib.Core.List.{List, [], _∷_, _++_, append-assoc, append-nil}
+use native.Mathlib.Nat.{add-zero, zero-add}
 use native.Mathlib.Omega.{arith}
 use native.Mathlib.Numerals.{add-one}
-use lib.ListN.{length, getD, set, take, drop, replicate, length-append, length-replicate, replicate-append-replicate}
-use lib.Seq.{sets, sets-eq, take-suc, take-at, drop-append-add, length-take-le}
+use lib.ListN.{length, getD, set, take, drop, replicate, length-replicate}
+use lib.Seq.{sets, sets-eq, take-suc, length-take-le}
 use Rattle.laws.specs.Cat.{cat}
 use Rattle.laws.specs.Tab.{tab, tab-more, length-tab}
 use Rattle.laws.specs.Stores.{sets-append}
 
 module _ {A : Type 0} where
+  -- pieces by two counts, and row by row
+  pub cat-plus : (f : ℕ → List A) (a b : ℕ) → cat f (a + b) ≡ cat f a ++ cat (λ j. f (a + j)) b
+  unfolding cat
+  cat-plus f a zero = rw (add-zero a) (sym (append-nil (cat f a)))
+  cat-plus f a (suc b) = let e : a + suc b ≡ suc (a + b) = omega arith in rw (e, cat-plus f a b) (append-assoc (cat f a) (cat (λ j. f (a + j)) b) (f (a + b)))
+
+  pub cat-rows : (f : ℕ → List A) (c n : ℕ) → cat (λ i. cat (λ q. f (c * i + q)) c) n ≡ cat f (c * n)
+  unfolding cat
+  cat-rows f c zero = let e : c * 0 ≡ 0 = omega arith in rw e
+  cat-rows f c (suc n) = let e : c * suc n ≡ c * n + c = omega arith in rw (e, cat-plus f (c * n) c, cat-rows f c n)
+
+  -- one behind the other
+  pub then-put : (d xs ys : List A) (at k : ℕ) → length xs ≡ k → sets (sets d at xs) (at + k) ys ≡ sets d at (xs ++ ys)
+  then-put d xs ys at k e = rw (← e) (sym (sets-append xs ys d at))
+
   -- a loop that puts f i at its turn: one more
   pub sets-more : (f : ℕ → List A) (d : List A) (at i k : ℕ) → length (cat f i) ≡ k → sets (sets d at (cat f i)) (at + k) (f i) ≡ sets d at (cat f (i + 1))
   unfolding cat
-  sets-more f d at i k e = rw (add-one i, ← e) (sym (sets-append (cat f i) (f i) d at))
+  sets-more f d at i k e = rw (add-one i) (then-put d (cat f i) (f i) at k e)
 
   -- a loop that puts one element of b at its turn
   pub set-more : (b d : List A) (z : A) (at j : ℕ) → j < length b → set (sets d at (take j b)) (at + j) (getD b j z) ≡ sets d at (take (j + 1) b)
-  set-more b d z at j h =
-      rw (add-one j, take-suc b j z h)
-      (sym (rw (length-take-le j b (omega arith)) at (sets-append (take j b) (getD b j z ∷ []) d at)))
+  set-more b d z at j h = rw (add-one j, take-suc b j z h) (then-put d (take j b) (getD b j z ∷ []) at j (length-take-le j b (omega arith)))
 
   -- a loop that puts the element f j at its turn
   pub tab-put : (f : ℕ → A) (d : List A) (at j : ℕ) → set (sets d at (tab j f)) (at + j) (f j) ≡ sets d at (tab (j + 1) f)
-  tab-put f d at j =
-      rw (tab-more f j) (sym (rw (length-tab f j) at (sets-append (tab j f) (f j ∷ []) d at)))
+  tab-put f d at j = rw (tab-more f j) (then-put d (tab j f) (f j ∷ []) at j (length-tab f j))
 
 pub drop-replicate : {A : Type 0} (a b : ℕ) (x : A) → drop a (replicate (a + b) x) ≡ replicate b x
 drop-replicate zero b x = let e : 0 + b ≡ b = omega arith in rw e
 drop-replicate (suc a) b x = let e : suc a + b ≡ suc (a + b) = omega arith in rw e (drop-replicate a b x)
 
--- l, and zeros up to w elements
-unfoldable pub pad : ℕ → List ℕ → List ℕ
-pad w l = l ++ replicate (w - length l) 0
-
-pub pad-sets : (w k : ℕ) (l vs : List ℕ) → length l ≡ k → k + length vs ≤ w → sets (pad w l) k vs ≡ pad w (l ++ vs)
-unfolding pad
-pad-sets w k l vs e h =
-    let z : List ℕ = replicate (w - length l) 0 in
-    let s : length (l ++ z) ≡ w = simp (length-append, length-replicate) (omega arith) in
-    let d : w - length l ≡ length vs + (w - length (l ++ vs)) = simp length-append (omega arith) in
-    sets-eq vs (l ++ z) k (omega arith)
-    ∙ rw (take-at l z k e, ← e, drop-append-add l z (length vs), d, drop-replicate {A = ℕ} (length vs) (w - length (l ++ vs)) 0)
-
-pub pad-gap : (w k : ℕ) (l : List ℕ) → length l + k ≤ w → pad w (l ++ replicate k 0) ≡ pad w l
-unfolding pad
-pad-gap w k l h =
-    let e : k + (w - length (l ++ replicate k 0)) ≡ w - length l = simp (length-append, length-replicate) (omega arith) in
-    rw (append-assoc, replicate-append-replicate, e)
+-- put into zeros from their start on
+pub zeros-put : (w : ℕ) (l : List ℕ) → length l ≤ w → sets (replicate w 0) 0 l ≡ l ++ replicate (w - length l) 0
+zeros-put w l h =
+    let e : w ≡ length l + (w - length l) = omega arith in
+    let z : drop (0 + length l) (replicate {A = ℕ} w 0) ≡ replicate (w - length l) 0 =
+    rw zero-add (ap (λ (k : ℕ). drop (length l) (replicate {A = ℕ} k 0)) e ∙ drop-replicate {A = ℕ} (length l) (w - length l) 0) in
+    sets-eq l (replicate w 0) 0 (rw (zero-add, length-replicate) h) ∙ ap (λ (r : List ℕ). l ++ r) z

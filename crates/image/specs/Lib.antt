@@ -3,8 +3,8 @@ pub mod Names
 pub mod Check
 pub mod Encode
 pub mod Fields
-pub mod Places
 pub mod Fill
+pub mod Places
 pub mod Block
 pub mod Parts
 pub mod Decode

@@ -2,15 +2,14 @@
 use Prim.Native.Nat.{ℕ, zero, suc, _+_, _-_, _*_, _<_, _≤_, min}
 use mathlib.Core.Path.{_≡_, refl, sym, ap, _∙_}
 use mathlib.Core.Bool.{Bool, true, false}
-use mathlib.Core.List.{List, [], _∷_, _++_}
+use mathlib.Core.List.{List, [], _∷_, _++_, append-assoc, append-nil}
 use mathlib.Core.Option.{none}
 use native.Mathlib.Omega.{arith}
 use native.Mathlib.Numerals.{add-one}
 use native.Mathlib.Decide.{decLt}
 use lib.ListN.{length, getD, set, length-append, length-set, List·getD-append}
 use lib.Seq.{getD-set-same, getD-set-other, getD-append-add}
-use Rattle.laws.specs.Update.{same-or}
-use Rattle.laws.specs.Tab.{tab, getD-tab, length-tab}
+use Rattle.laws.specs.Tab.{tab, tabFrom, tab-more, length-tab}
 use Rattle.laws.specs.Cat.{cat, cat-le}
 use Rattle.clock.specs.Vectors.{places, place}
 use Rattle.machine.specs.Table.{Vec, Name, name}
@@ -58,35 +57,6 @@ ahead-more n ds u r s o l er eo el e =
 abbrev pub Holds : List ℕ → Name → ℕ → Type 0
 Holds os w e = (e < entries) × (namedAt os (w .writer) (w .number) e ≡ true)
 
--- the entries of u's writes lo + 1 to k, put from place p on; r is the place behind them
-pub record Listed (os : List ℕ) (u lo k p : ℕ) (before after : List ℕ) (r : ℕ) : Type 0 where
-  pub behind : r ≡ p + (k - lo)
-  pub kept : (j : ℕ) → j < p → getD after j 0 ≡ getD before j 0
-  pub each : (j : ℕ) → j < k - lo → Holds os (name u (suc (lo + j))) (getD after (p + j) 0)
-  pub long : length after ≡ length before
-
-pub listed-none : (os : List ℕ) (u lo p : ℕ) (d : List ℕ) → Listed os u lo lo p d d p
-listed-none os u lo p d = record { behind = omega arith; kept = λ j h. refl; each = λ j h. absurd (omega arith); long = refl }
-
-pub listed-more : (os : List ℕ) (u lo k p : ℕ) (b a : List ℕ) (r e : ℕ) → Listed os u lo k p b a r → lo ≤ k → r < length a → Holds os (name u (k + 1)) e
-    → Listed os u lo (k + 1) p b (set a r e) (r + 1)
-listed-more os u lo k p b a r e h l room f =
-    let q = h .behind in
-    record {
-      behind = omega arith;
-      kept = λ j g. getD-set-other a r j e 0 (λ z. (omega arith)) ∙ h .kept j g;
-      each = λ j g. same-or j (k - lo)
-          (λ z. let y : p + j ≡ r = omega arith in let x : suc (lo + j) ≡ k + 1 = omega arith in rw (y, x, getD-set-same a r e 0 room) f)
-          (λ z. rw (getD-set-other a r (p + j) e 0 (λ y. z (omega arith))) (h .each j (less j g z)));
-      long = length-set-is ∙ h .long;
-    }
-  where
-    less : (j : ℕ) → j < k + 1 - lo → (j ≡ k - lo → ⊥) → j < k - lo
-    less j g z = omega arith
-
-    length-set-is : length (set a r e) ≡ length a
-    length-set-is = simp length-set
-
 -- the entries of the writes l, in their order
 pub record Ordered (os : List ℕ) (l : List Name) (order : List ℕ) (count : ℕ) : Type 0 where
   pub size : count ≡ length l
@@ -95,29 +65,45 @@ pub record Ordered (os : List ℕ) (l : List Name) (order : List ℕ) (count : �
 pub ordered-none : (os order : List ℕ) → Ordered os [] order 0
 ordered-none os order = record { size = refl; each = λ p h. absurd (omega arith) }
 
-pub ordered-more : (os : List ℕ) (l : List Name) (b a : List ℕ) (u lo k p r : ℕ) → Ordered os l b p → Listed os u lo k p b a r
-    → Ordered os (l ++ tab (k - lo) (λ j. name u (suc (lo + j)))) a r
-ordered-more os l b a u lo k p r h g =
-    record {
-      size = rw (length-append l, length-tab (λ j. name u (suc (lo + j))) (k - lo)) (omega (arith, h .size, g .behind));
-      each = λ q z. at q (rw (length-append l, length-tab (λ j. name u (suc (lo + j))) (k - lo)) at z) (decLt q (length l));
-    }
+ordered-one : (os : List ℕ) (l : List Name) (order : List ℕ) (count e : ℕ) (w : Name) → Ordered os l order count → count < length order → Holds os w e
+    → Ordered os (l ++ (w ∷ [])) (set order count e) (count + 1)
+ordered-one os l order count e w h room f =
+    record { size = rw (length-append l) (omega (arith, h .size)); each = λ p z. at p (rw (length-append l) at z) (decLt p (length l)) }
   where
-    f : ℕ → Name
-    f j = name u (suc (lo + j))
+    at : (p : ℕ) → p < length l + 1 → Dec (p < length l) → Holds os (getD (l ++ (w ∷ [])) p no-name) (getD (set order count e) p 0)
+    at p z (yes y) = rw (List·getD-append l (w ∷ []) no-name p y, getD-set-other order count p e 0 (λ q. omega (arith, h .size))) (h .each p y)
+    at p z (no y) =
+        let q : p ≡ length l + 0 = omega arith in
+        let k : length l + 0 ≡ count = omega (arith, h .size) in
+        rw (q, getD-append-add l (w ∷ []) 0 no-name, k, getD-set-same order count e 0 room) f
 
-    at : (q : ℕ) → q < length l + (k - lo) → Dec (q < length l) → Holds os (getD (l ++ tab (k - lo) f) q no-name) (getD a q 0)
-    at q z (yes y) = rw (List·getD-append l (tab (k - lo) f) no-name q y, g .kept q (omega (arith, h .size))) (h .each q y)
-    at q z (no y) =
-        let j : ℕ = q - length l in
-        let e : q ≡ length l + j = omega arith in
-        let v : j < k - lo = omega arith in
-        let w : length l + j ≡ p + j = omega (arith, h .size) in
-        rw (e, getD-append-add l (tab (k - lo) f) j no-name, getD-tab f (k - lo) j no-name v, w) (g .each j v)
+-- the writes lo + 1 to k of u
+abbrev pub writesOf : ℕ → ℕ → ℕ → List Name
+writesOf u lo k = tab (k - lo) (λ j. name u (suc (lo + j)))
+
+-- their entries put behind the p that are in order; r is the place behind them
+pub record Listed (os : List ℕ) (u lo k p : ℕ) (before after : List ℕ) (r : ℕ) : Type 0 where
+  pub behind : r ≡ p + (k - lo)
+  pub on : (l : List Name) → Ordered os l before p → Ordered os (l ++ writesOf u lo k) after r
+  pub long : length after ≡ length before
+
+pub listed-none : (os : List ℕ) (u lo p : ℕ) (d : List ℕ) → Listed os u lo lo p d d p
+unfolding tab tabFrom
+listed-none os u lo p d = let e : lo - lo ≡ 0 = omega arith in record { behind = omega arith; on = λ l h. rw (e, append-nil) h; long = refl }
+
+pub listed-more : (os : List ℕ) (u lo k p : ℕ) (b a : List ℕ) (r e : ℕ) → Listed os u lo k p b a r → lo ≤ k → r < length a → Holds os (name u (k + 1)) e
+    → Listed os u lo (k + 1) p b (set a r e) (r + 1)
+listed-more os u lo k p b a r e h l room f =
+    let x : k + 1 - lo ≡ k - lo + 1 = omega arith in
+    let y : suc (lo + (k - lo)) ≡ k + 1 = omega arith in
+    record {
+      behind = omega (arith, h .behind);
+      on = λ m g. rw (x, tab-more (λ j. name u (suc (lo + j))) (k - lo), y, ← append-assoc m (writesOf u lo k)) (ordered-one os (m ++ writesOf u lo k) a r e (name u (k + 1)) (h .on m g) room f);
+      long = rw length-set (h .long);
+    }
 
 -- what the search needs: the counts tell what is open, and it is there
 pub record Known (n : ℕ) (ds : List Desk) (os : List ℕ) : Type 0 where
-  pub desks : n ≤ places
   pub few : length (counted n (appliedM ds)) ≤ entries
   pub found : (u k : ℕ) → u < n → low n (appliedM ds) (suc u) < k → k ≤ appliedM ds (suc u) (suc u) → opensM os (suc u) k ≡ none → ⊥
 
@@ -131,4 +117,4 @@ known-room n ds os u h g = omega (arith, h .few, cat-le (λ u. openAbove n (appl
 pub ordered-next : (os : List ℕ) (n : ℕ) (ds : List Desk) (b a : List ℕ) (u lo own p r : ℕ) → Ordered os (ahead n ds u) b p → lo ≡ low n (appliedM ds) (suc u)
     → own ≡ appliedM ds (suc u) (suc u) → Listed os (u + 1) lo own p b a r → Ordered os (ahead n ds (u + 1)) a r
 unfolding cat
-ordered-next os n ds b a u lo own p r h el eo g = rw (add-one u, ← el, ← eo) (rw (add-one u) at (ordered-more os (ahead n ds u) b a (u + 1) lo own p r h g))
+ordered-next os n ds b a u lo own p r h el eo g = rw (add-one u, ← el, ← eo) (rw (add-one u) at (g .on (ahead n ds u) h))

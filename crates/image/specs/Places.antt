@@ -1,19 +1,28 @@
 -- Where each field stands in the image.
-use Prim.Native.Nat.{ℕ, suc, _+_, _-_, _*_, _/_, _<_, _≤_}
-use mathlib.Core.Path.{_≡_, refl, _∙_}
-use mathlib.Core.List.{List, [], _∷_, _++_, map}
+use Prim.Native.Nat.{ℕ, suc, _+_, _-_, _*_, _/_, _%_, _<_, _≤_}
+use mathlib.Core.Path.{_≡_, refl, sym, _∙_}
+use mathlib.Core.Bool.{Bool, true, false}
+use mathlib.Core.List.{List, [], _∷_, _++_, append-assoc, map}
 use native.Mathlib.Omega.{arith}
+use lib.Dec.{eqb, leb, ltb}
+use borrow.Author.Tests.{ne-eqb, le-leb, lt-leb, le-ltb, lt-ltb}
 use lib.ListN.{length, replicate, length-append, length-replicate}
-use Rattle.laws.specs.Cat.{cat, part, part-right, part-left, part-cat, part-in, piece-cat, cat-le, length-cat}
+use Rattle.laws.specs.Loop.{pick}
+use Rattle.laws.specs.Cat.{cat, cat-same, part, part-right, part-left, part-cat, piece-cat, length-cat}
 use Rattle.laws.specs.Each.{each-at, each-map}
 use Rattle.machine.specs.Table.{State}
 use Rattle.machine.specs.Steps.{openCount}
 use Rattle.image.specs.Names.{names, OpenName, names-open}
 use Rattle.image.specs.Check.{checkOf}
-use Rattle.image.specs.Encode.{word, long, body, block, named, blocks, deskBytes, cellPart, openPart, perDesk, openBlocks, block1, block2, block3, block4, kind2, kind3, kind4, encodeAt}
+use Rattle.image.specs.Encode.{word, long, body, block, named, blocks, deskBytes, cellPart, openPart, perDesk, openBlocks, block2, block3, block4, encodeAt}
 use Rattle.image.specs.Fields.{length-desk, length-cell, length-open}
-use native.Mathlib.Nat.{mul-le-mul-left}
+use native.Mathlib.Nat.{mul-le-mul-left, mul-add-div, mul-add-mod-self-left, div-eq-of-lt, mod-eq-of-lt, add-zero}
+use Rattle.image.specs.Fill.{cat-plus, cat-rows}
 use Rattle.image.specs.Limits.{Wide, fit, block-bytes, payload-at, check-at, payload-bytes, desk-bytes, cell-bytes, open-bytes, cells-in, opens-in}
+
+pub pick-has : {A : Type 0} (P : A → Type 0) (b : Bool) {x y : A} → P x → P y → P (pick b x y)
+pick-has P true h g = h
+pick-has P false h g = g
 
 -- blocks --
 
@@ -39,9 +48,6 @@ module _ (w : ℕ) (f : ℕ → List ℕ) (l : (j : ℕ) → length (f j) ≡ w)
   pub few-bytes : length (cat f (payload-bytes / w)) ≤ payload-bytes
   few-bytes = omega (arith, length-cat f w l (payload-bytes / w), fit w)
 
-  pub length-full : (kind place : ℕ) → length (block kind place (cat f (payload-bytes / w))) ≡ block-bytes
-  length-full kind place = length-block kind place (cat f (payload-bytes / w)) few-bytes
-
   piece-block : (kind place j : ℕ) → j < payload-bytes / w → part (payload-at + w * j) w (block kind place (cat f (payload-bytes / w))) ≡ f j
   piece-block kind place j h =
       part-block kind place (cat f (payload-bytes / w)) (w * j) w (omega (arith, length-cat f w l (payload-bytes / w), mul-le-mul-left w h))
@@ -51,93 +57,125 @@ module _ (w : ℕ) (f : ℕ → List ℕ) (l : (j : ℕ) → length (f j) ≡ w)
 piece-room : (w j : ℕ) → j < payload-bytes / w → payload-at + w * j + w ≤ block-bytes
 piece-room w j h = omega (arith, mul-le-mul-left w h, fit w)
 
-within : (q at w all : ℕ) {a b : ℕ} → b ≡ block-bytes → a ≡ q → a + b ≤ all → at + w ≤ block-bytes → q + at + w ≤ all
-within q at w all eb ea h g = omega arith
+module _ (ps : ℕ) (s : State) where
+  abbrev row : ℕ
+  row = perDesk ps (s .setup .cells)
+
+  abbrev opens-from : ℕ
+  opens-from = 1 + s .setup .desks + row * s .setup .desks
+
+  -- the block at place k, of whichever kind
+  unfoldable pub blockAt : ℕ → List ℕ
+  blockAt k =
+      pick (eqb k 0) (block 1 k (s .setup .desks ∷ s .setup .cells ∷ openCount s ∷ []))
+      (pick (leb k (s .setup .desks)) (block 2 k (deskBytes ps k (s .applied k) (s .clock k)))
+      (pick (ltb k opens-from)
+      (block 3 k (cat (cellPart ps s ((k - (1 + s .setup .desks)) / row) ((k - (1 + s .setup .desks)) % row)) (cells-in ps)))
+      (block 4 k (cat (openPart ps s (k - opens-from)) (opens-in ps)))))
+
+  at-2 : (i : ℕ) → i < s .setup .desks → blockAt (1 + i) ≡ block2 ps s i
+  unfolding blockAt
+  at-2 i h =
+      let e : 1 + i ≡ suc i = omega arith in
+      rw (e, ne-eqb (suc i) 0 (λ z. omega arith), le-leb (suc i) (s .setup .desks) (omega arith))
+
+  at-3 : (i q : ℕ) → i < s .setup .desks → q < row → blockAt (1 + s .setup .desks + (row * i + q)) ≡ block3 ps s i q
+  unfolding blockAt
+  at-3 i q h g =
+      let k : ℕ = 1 + s .setup .desks + (row * i + q) in
+      let a : k - (1 + s .setup .desks) ≡ row * i + q = omega arith in
+      let l = mul-le-mul-left row h in
+      let b : 1 + s .setup .desks + row * i + q ≡ k = omega arith in
+      let z : 0 < row = omega arith in
+      rw (
+        ne-eqb k 0 (λ e. omega arith),
+        lt-leb k (s .setup .desks) (omega arith),
+        lt-ltb k opens-from (omega arith),
+        a,
+        mul-add-div z i q,
+        div-eq-of-lt g,
+        mul-add-mod-self-left row i q,
+        mod-eq-of-lt g,
+        b,
+        add-zero i,
+      )
+
+  at-4 : (q : ℕ) → blockAt (opens-from + q) ≡ block4 ps s q
+  unfolding blockAt
+  at-4 q =
+      let k : ℕ = opens-from + q in
+      let a : k - opens-from ≡ q = omega arith in
+      rw (ne-eqb k 0 (λ e. omega arith), lt-leb k (s .setup .desks) (omega arith), le-ltb k opens-from (omega arith), a)
+
+  -- the image is its blocks, one after the other
+  pub encode-is : encodeAt ps s ≡ cat blockAt (blocks ps s)
+  unfolding encodeAt cat blockAt
+  encode-is =
+      let n = s .setup .desks in
+      let e2 = cat-same (λ j. blockAt (1 + j)) (block2 ps s) n at-2 in
+      let e3 = sym (cat-rows (λ j. blockAt (1 + n + j)) row n)
+      ∙ cat-same (λ i. cat (λ q. blockAt (1 + n + (row * i + q))) row) (λ i. cat (block3 ps s i) row) n (λ i h. cat-same _ _ row (λ q g. at-3 i q h g)) in
+      let e4 = cat-same (λ j. blockAt (opens-from + j)) (block4 ps s) (openBlocks ps s) (λ q _. at-4 q) in
+      sym (cat-plus blockAt opens-from (openBlocks ps s) ∙ rw (cat-plus blockAt (1 + n) (row * n), cat-plus blockAt 1 n, e2, e3, e4) (simp append-assoc))
 
 module _ (ps : ℕ) (wd : Wide ps) (s : State) where
-  pub length-1 : length (block1 s) ≡ block-bytes
-  length-1 = length-block 1 0 (s .setup .desks ∷ s .setup .cells ∷ openCount s ∷ []) (omega arith)
-
-  pub few-desk : (i : ℕ) → length (deskBytes ps (suc i) (s .applied (suc i)) (s .clock (suc i))) ≤ payload-bytes
-  few-desk i = omega (arith, length-desk ps (suc i) (s .applied (suc i)) (s .clock (suc i)), wd .desk)
-
-  pub length-2 : (i : ℕ) → length (block2 ps s i) ≡ block-bytes
-  length-2 i = length-block 2 (1 + i) (deskBytes ps (suc i) (s .applied (suc i)) (s .clock (suc i))) (few-desk i)
-
-  pub length-in : (i q j : ℕ) → length (cellPart ps s i q j) ≡ cell-bytes ps
+  length-in : (i q j : ℕ) → length (cellPart ps s i q j) ≡ cell-bytes ps
   unfolding cellPart
   length-in i q j = length-cell ps (s .cell (suc i) (suc (cells-in ps * q + j)))
 
-  length-3 : (i q : ℕ) → length (block3 ps s i q) ≡ block-bytes
-  length-3 i q = length-full (cell-bytes ps) (cellPart ps s i q) (length-in i q) 3 (1 + s .setup .desks + perDesk ps (s .setup .cells) * i + q)
-
-  pub length-3s : (i : ℕ) → length (cat (block3 ps s i) (perDesk ps (s .setup .cells))) ≡ block-bytes * perDesk ps (s .setup .cells)
-  length-3s i = length-cat (block3 ps s i) block-bytes (length-3 i) (perDesk ps (s .setup .cells))
-
-  pub length-entry : (q j : ℕ) → length (openPart ps s q j) ≡ open-bytes ps
+  length-entry : (q j : ℕ) → length (openPart ps s q j) ≡ open-bytes ps
   unfolding openPart
   length-entry q j =
       each-at (λ (l : List ℕ). length l ≡ open-bytes ps) (map (named ps s) (names s)) (replicate (open-bytes ps) 0) (length-replicate {A = ℕ} (open-bytes ps) 0)
       (each-map (λ (l : List ℕ). length l ≡ open-bytes ps) (named ps s) (OpenName s) (λ w _. length-open ps (w .writer) (s .opens (w .writer) (w .number))) (names s) (names-open s))
       (opens-in ps * q + j)
 
-  pub length-4 : (q : ℕ) → length (block4 ps s q) ≡ block-bytes
-  length-4 q = length-full (open-bytes ps) (openPart ps s q) (length-entry q) 4 (1 + s .setup .desks + perDesk ps (s .setup .cells) * s .setup .desks + q)
+  -- what every block has whose payload fits
+  pub every-block : (P : List ℕ → Type 0) → ((kind k : ℕ) (l : List ℕ) → length l ≤ payload-bytes → P (block kind k l)) → (k : ℕ) → P (blockAt ps s k)
+  unfolding blockAt
+  every-block P h k =
+      pick-has P (eqb k 0) (h 1 k _ (omega arith))
+      (pick-has P (leb k (s .setup .desks)) (h 2 k _ (omega (arith, length-desk ps k (s .applied k) (s .clock k), wd .desk)))
+      (pick-has P (ltb k (opens-from ps s))
+      (h 3 k _ (few-bytes (cell-bytes ps) _ (length-in ((k - (1 + s .setup .desks)) / row ps s) ((k - (1 + s .setup .desks)) % row ps s))))
+      (h 4 k _ (few-bytes (open-bytes ps) _ (length-entry (k - opens-from ps s))))))
+
+  pub length-at : (k : ℕ) → length (blockAt ps s k) ≡ block-bytes
+  length-at = every-block (λ l. length l ≡ block-bytes) length-block
 
   -- the length of the image
   pub length-encode : length (encodeAt ps s) ≡ block-bytes * blocks ps s
-  unfolding encodeAt
-  length-encode =
-      rw (
-        length-append (block1 s),
-        length-append (kind2 ps s),
-        length-append (kind3 ps s),
-        length-1,
-        length-cat (block2 ps s) block-bytes length-2 (s .setup .desks),
-        length-cat (λ i. cat (block3 ps s i) (perDesk ps (s .setup .cells))) (block-bytes * perDesk ps (s .setup .cells)) length-3s (s .setup .desks),
-        length-cat (block4 ps s) block-bytes length-4 (openBlocks ps s),
-      )
-      (omega arith)
+  length-encode = rw (encode-is ps s) (length-cat (blockAt ps s) block-bytes length-at (blocks ps s))
+
+  -- w bytes of the block at place k, from p on
+  pub part-at : (k p w : ℕ) → k < blocks ps s → p + w ≤ block-bytes → part (block-bytes * k + p) w (encodeAt ps s) ≡ part p w (blockAt ps s k)
+  part-at k p w h g = rw (encode-is ps s) (part-cat (blockAt ps s) (blocks ps s) k (block-bytes * k) p w h (length-cat (blockAt ps s) block-bytes length-at k) (omega (arith, length-at k)))
+
+  pub block-at : (k : ℕ) → k < blocks ps s → part (block-bytes * k) block-bytes (encodeAt ps s) ≡ blockAt ps s k
+  block-at k h = rw (encode-is ps s) (piece-cat (blockAt ps s) (blocks ps s) k (block-bytes * k) block-bytes h (length-cat (blockAt ps s) block-bytes length-at k) (length-at k))
 
   -- w bytes of a desk's part, from p on
   pub part-2 : (i p w : ℕ) → i < s .setup .desks → p + w ≤ desk-bytes ps → part (block-bytes + (block-bytes * i + (payload-at + p))) w (encodeAt ps s) ≡ part p w (deskBytes ps (suc i) (s .applied (suc i)) (s .clock (suc i)))
-  unfolding encodeAt
   part-2 i p w h g =
-      part-right (block1 s) (kind2 ps s ++ (kind3 ps s ++ kind4 ps s)) block-bytes (block-bytes * i + (payload-at + p)) w length-1
-      ∙ part-in (block2 ps s) (kind3 ps s ++ kind4 ps s) (s .setup .desks) i (block-bytes * i) (payload-at + p) w h (length-cat (block2 ps s) block-bytes length-2 i) (omega (arith, length-2 i, wd .desk))
-      ∙ part-block 2 (1 + i) (deskBytes ps (suc i) (s .applied (suc i)) (s .clock (suc i))) p w (omega (arith, length-desk ps (suc i) (s .applied (suc i)) (s .clock (suc i))))
+      let e : block-bytes + (block-bytes * i + (payload-at + p)) ≡ block-bytes * (1 + i) + (payload-at + p) = omega arith in
+      rw (e, part-at (1 + i) (payload-at + p) w (omega arith) (omega (arith, wd .desk)), at-2 ps s i h)
+      (part-block 2 (1 + i) (deskBytes ps (suc i) (s .applied (suc i)) (s .clock (suc i))) p w (omega (arith, length-desk ps (suc i) (s .applied (suc i)) (s .clock (suc i)))))
 
   -- a cell
-  pub part-3 : (i q j : ℕ) → i < s .setup .desks → q < perDesk ps (s .setup .cells) → j < cells-in ps
-      → part (block-bytes + (block-bytes * s .setup .desks + (block-bytes * perDesk ps (s .setup .cells) * i + (block-bytes * q + (payload-at + cell-bytes ps * j))))) (cell-bytes ps) (encodeAt ps s) ≡ cellPart ps s i q j
-  unfolding encodeAt
+  pub part-3 : (i q j : ℕ) → i < s .setup .desks → q < row ps s → j < cells-in ps
+      → part (block-bytes + (block-bytes * s .setup .desks + (block-bytes * row ps s * i + (block-bytes * q + (payload-at + cell-bytes ps * j))))) (cell-bytes ps) (encodeAt ps s) ≡ cellPart ps s i q j
   part-3 i q j hi hq hj =
-      let n = s .setup .desks in
-      let c = perDesk ps (s .setup .cells) in
       let w = cell-bytes ps in
-      let at : ℕ = payload-at + w * j in
-      let f : ℕ → List ℕ = λ i. cat (block3 ps s i) c in
-      let before = length-cat (block3 ps s i) block-bytes (length-3 i) q in
-      let room : at + w ≤ block-bytes = piece-room w j hj in
-      part-right (block1 s) (kind2 ps s ++ (kind3 ps s ++ kind4 ps s)) block-bytes (block-bytes * n + (block-bytes * c * i + (block-bytes * q + at))) w length-1
-      ∙ part-right (kind2 ps s) (kind3 ps s ++ kind4 ps s) (block-bytes * n) (block-bytes * c * i + (block-bytes * q + at)) w (length-cat (block2 ps s) block-bytes length-2 n)
-      ∙ part-in f (kind4 ps s) n i (block-bytes * c * i) (block-bytes * q + at) w hi (length-cat f (block-bytes * c) length-3s i)
-      (within (block-bytes * q) at w (length (cat (block3 ps s i) c)) (length-3 i q) before (cat-le (block3 ps s i) c q hq) room)
-      ∙ part-cat (block3 ps s i) c q (block-bytes * q) at w hq before (rw (length-3 i q) room)
-      ∙ piece-block w (cellPart ps s i q) (length-in i q) 3 (1 + n + c * i + q) j hj
+      let k : ℕ = 1 + s .setup .desks + (row ps s * i + q) in
+      let e : block-bytes + (block-bytes * s .setup .desks + (block-bytes * row ps s * i + (block-bytes * q + (payload-at + w * j)))) ≡ block-bytes * k + (payload-at + w * j) = omega arith in
+      rw (e, part-at k (payload-at + w * j) w (let l = mul-le-mul-left (row ps s) hi in omega arith) (piece-room w j hj), at-3 ps s i q hi hq)
+      (piece-block w (cellPart ps s i q) (length-in i q) 3 (1 + s .setup .desks + row ps s * i + q) j hj)
 
   -- an open write
   pub part-4 : (q j : ℕ) → q < openBlocks ps s → j < opens-in ps
-      → part (block-bytes + (block-bytes * s .setup .desks + (block-bytes * perDesk ps (s .setup .cells) * s .setup .desks + (block-bytes * q + (payload-at + open-bytes ps * j))))) (open-bytes ps) (encodeAt ps s) ≡ openPart ps s q j
-  unfolding encodeAt
+      → part (block-bytes + (block-bytes * s .setup .desks + (block-bytes * row ps s * s .setup .desks + (block-bytes * q + (payload-at + open-bytes ps * j))))) (open-bytes ps) (encodeAt ps s) ≡ openPart ps s q j
   part-4 q j hq hj =
-      let n = s .setup .desks in
-      let c = perDesk ps (s .setup .cells) in
       let w = open-bytes ps in
-      let at : ℕ = payload-at + w * j in
-      let f : ℕ → List ℕ = λ i. cat (block3 ps s i) c in
-      part-right (block1 s) (kind2 ps s ++ (kind3 ps s ++ kind4 ps s)) block-bytes (block-bytes * n + (block-bytes * c * n + (block-bytes * q + at))) w length-1
-      ∙ part-right (kind2 ps s) (kind3 ps s ++ kind4 ps s) (block-bytes * n) (block-bytes * c * n + (block-bytes * q + at)) w (length-cat (block2 ps s) block-bytes length-2 n)
-      ∙ part-right (kind3 ps s) (kind4 ps s) (block-bytes * c * n) (block-bytes * q + at) w (length-cat f (block-bytes * c) length-3s n)
-      ∙ part-cat (block4 ps s) (openBlocks ps s) q (block-bytes * q) at w hq (length-cat (block4 ps s) block-bytes length-4 q) (rw (length-4 q) (piece-room w j hj))
-      ∙ piece-block w (openPart ps s q) (length-entry q) 4 (1 + n + c * n + q) j hj
+      let e : block-bytes + (block-bytes * s .setup .desks + (block-bytes * row ps s * s .setup .desks + (block-bytes * q + (payload-at + w * j)))) ≡ block-bytes * (opens-from ps s + q) + (payload-at + w * j) = omega arith in
+      rw (e, part-at (opens-from ps s + q) (payload-at + w * j) w (omega arith) (piece-room w j hj), at-4 ps s q)
+      (piece-block w (openPart ps s q) (length-entry q) 4 (opens-from ps s + q) j hj)

@@ -12,12 +12,11 @@ use Rattle.laws.specs.Loop.{cases}
 use Rattle.laws.specs.All.{all}
 use Rattle.laws.specs.Says.{Says, says-leb, says-eqb, says-all, says-as, says-both}
 use Rattle.laws.specs.Cat.{cat, part}
-use Rattle.laws.specs.Chunk.{Chunked, chunk-one, chunk-append, chunk-cat}
 use Rattle.machine.specs.Table.{State}
 use Rattle.machine.specs.Steps.{openCount}
 use Rattle.image.specs.Check.{checkOf, check-first}
 use Rattle.image.specs.Encode.{long, body, block, deskBytes, cellPart, openPart, perDesk, openBlocks, block1, block2, block3, block4, kind2, kind3, kind4, encodeAt}
-use Rattle.image.specs.Places.{length-encode, length-body, length-block, few-bytes, few-desk, length-in, length-entry}
+use Rattle.image.specs.Places.{length-encode, length-body, block-at, every-block}
 use Rattle.image.specs.Limits.{Wide, block-bytes, check-at, payload-bytes, cell-bytes, open-bytes, cells-in, opens-in}
 
 -- bytes 508-511 of a block
@@ -66,33 +65,15 @@ right-block kind place l h =
     let tail = getD-append-add b (long c) in
     rw (check-first b (long c) e, rw e at (tail 0 0), rw e at (tail 1 0), rw e at (tail 2 0), rw e at (tail 3 0)) (omega arith)
 
-one-block : (kind place : ℕ) (l : List ℕ) → length l ≤ payload-bytes → Chunked Right block-bytes (block kind place l)
-one-block kind place l h = chunk-one Right block-bytes (block kind place l) (length-block kind place l h) (right-block kind place l h)
-
-module _ (ps : ℕ) (wd : Wide ps) (s : State) where
-  chunked : Chunked Right block-bytes (encodeAt ps s)
-  unfolding encodeAt
-  chunked =
-      chunk-append Right block-bytes (block1 s) (kind2 ps s ++ (kind3 ps s ++ kind4 ps s)) (one-block 1 0 (s .setup .desks ∷ s .setup .cells ∷ openCount s ∷ []) (omega arith))
-      (chunk-append Right block-bytes (kind2 ps s) (kind3 ps s ++ kind4 ps s)
-      (chunk-cat Right block-bytes (block2 ps s) (s .setup .desks)
-      (λ i _. one-block 2 (1 + i) (deskBytes ps (suc i) (s .applied (suc i)) (s .clock (suc i))) (few-desk ps wd s i)))
-      (chunk-append Right block-bytes (kind3 ps s) (kind4 ps s)
-      (chunk-cat Right block-bytes (λ i. cat (block3 ps s i) (perDesk ps (s .setup .cells))) (s .setup .desks)
-      (λ i _. chunk-cat Right block-bytes (block3 ps s i) (perDesk ps (s .setup .cells))
-      (λ q _. one-block 3 (1 + s .setup .desks + perDesk ps (s .setup .cells) * i + q) (cat (cellPart ps s i q) (cells-in ps)) (few-bytes (cell-bytes ps) (cellPart ps s i q) (length-in ps wd s i q)))))
-      (chunk-cat Right block-bytes (block4 ps s) (openBlocks ps s)
-      (λ q _. one-block 4 (1 + s .setup .desks + perDesk ps (s .setup .cells) * s .setup .desks + q) (cat (openPart ps s q) (opens-in ps)) (few-bytes (open-bytes ps) (openPart ps s q) (length-entry ps wd s q))))))
-
-  -- a saved image has a length that is a nonzero multiple of 512, and every block's check is right
-  pub sound-encode : Sound (encodeAt ps s)
-  sound-encode =
-      let e = length-encode ps wd s in
-      record {
-        nonzero = omega arith;
-        multiple = rw e (omega arith);
-        checks = λ k h. chunked .at k (omega (arith, chunked .size));
-      }
+-- a saved image has a length that is a nonzero multiple of 512, and every block's check is right
+pub sound-encode : (ps : ℕ) → Wide ps → (s : State) → Sound (encodeAt ps s)
+sound-encode ps wd s =
+    let e = length-encode ps wd s in
+    record {
+      nonzero = omega arith;
+      multiple = rw e (omega arith);
+      checks = λ k h. rw (block-at ps wd s k (omega arith)) (every-block ps wd s Right right-block k);
+    }
 
 -- the test as the code makes it: no byte; no multiple; a block after the other
 pub sound-none : (b : List ℕ) → length b ≡ 0 → sound b ≡ false

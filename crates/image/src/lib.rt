@@ -3,24 +3,25 @@ ghost use mathlib.Core.Path.{_≡_};
 ghost use mathlib.Core.List.{[], _∷_};
 ghost use mathlib.Core.Option.{none};
 ghost use Prim.Native.Nat.{ℕ, suc, _+_, _-_, _*_, _/_, _<_, _≤_, min};
-ghost use lib.ListN.{getD, length};
+ghost use lib.ListN.{getD, length, take};
 ghost use lib.Seq.{sets};
 ghost use Rattle.laws.specs.Cat.{cat};
 ghost use Rattle.clock.specs.Vectors.{places, place};
-ghost use Rattle.image.specs.Limits.{block-bytes, check-at, vector-bytes, cell-bytes, open-bytes, cells-in, opens-in, blocks-for, row-most, rows-most, opens-most, blocks-most};
+ghost use Rattle.image.specs.Limits.{block-bytes, check-at, vector-bytes, after-vector, open-bytes, cells-in, opens-in, blocks-for, row-most, rows-most, opens-most};
 ghost use Rattle.image.specs.Check.{checkOf};
 ghost use Rattle.image.specs.Encode.{word, long, words, markBytes, deskBytes, block, perDesk, encode};
 ghost use Rattle.image.specs.Sound.{rightCheck, sound};
-ghost use Rattle.image.specs.Block.{head, cellRaw, openRaw, SmallCell, SmallOpen};
-ghost use Rattle.image.specs.Parts.{CellsFit, CellFor, cellPiece, cellBlock, cellRow, deskBlock, OrderFits, OpenFor, openPiece, openBlock};
+ghost use Rattle.image.specs.Block.{head, openRaw, SmallOpen};
+ghost use Rattle.image.specs.Parts.{CellsFit, cellPiece, OrderFits, openPiece};
 ghost use Rattle.machine.specs.Table.{most-writes};
 ghost use Rattle.machine.specs.Rules.{In};
 ghost use Rattle.table.specs.Value.{desk-cells, entries};
-ghost use Rattle.table.specs.Model.{appliedM, opensM, model};
+ghost use Rattle.table.specs.Model.{appliedM, opensM, model, modelOf, tableWith};
 ghost use Rattle.table.specs.Sound.{Sound};
 ghost use Rattle.image.specs.Counted.{low, counted};
 ghost use Rattle.image.specs.Order.{Listed, Ordered, Known};
-ghost use Rattle.image.specs.Saved.{Saved};
+ghost use Rattle.image.specs.Places.{blockAt};
+ghost use Rattle.image.specs.Saved.{Planned, Saved};
 ghost use Rattle.image.specs.Saving.{Saves, savingOf};
 use clock::PLACES;
 use table::CELL;
@@ -92,7 +93,7 @@ fn check(b: &[u8]) -> u32
 }
 
 // The check stored, which ends a block.
-fn seal(b: &mut [u8; BLOCK])
+pub fn seal(b: &mut [u8; BLOCK])
     ensures { λ _. ⌜ now (b .exit) ≡ sets (now (b .entry)) check-at (long (checkOf (now (b .entry)))) ⌝ }
 {
     let c = check(b);
@@ -179,15 +180,15 @@ fn put_marks(b: &mut [u8; BLOCK], at: usize, v: [u16; PLACES])
     }
 }
 
-fn put_cell(b: &mut [u8; BLOCK], at: usize, c: Cell)
-    requires { ⌜ (at + cell-bytes places ≤ block-bytes) × SmallCell c ⌝ }
-    ensures { λ _. ⌜ now (b .exit) ≡ sets (now (b .entry)) at (cellRaw places c) ⌝ }
+// What begins with 4 bytes and a vector: a desk, a cell, an open write.
+fn put_record(b: &mut [u8; BLOCK], at: usize, x: u16, y: u16, z: u16, v: [u16; PLACES])
+    requires { ⌜ (at + after-vector places ≤ block-bytes) × ((x < 256) × ((y < 256) × (z < 256))) ⌝ }
+    ensures { λ _. ⌜ now (b .exit) ≡ sets (now (b .entry)) at (x ∷ y ∷ z ∷ 0 ∷ words places (place v)) ⌝ }
 {
-    b[at] = byte(c.writer);
-    b[at + 1] = byte(c.status);
-    b[at + 2] = 0;
+    b[at] = byte(x);
+    b[at + 1] = byte(y);
+    b[at + 2] = byte(z);
     b[at + 3] = 0;
-    let v = c.vector;
     put_words(b, at + VECTOR_AT, v);
 }
 
@@ -195,12 +196,8 @@ fn put_open(b: &mut [u8; BLOCK], at: usize, o: Open)
     requires { ⌜ (at + open-bytes places ≤ block-bytes) × SmallOpen o ⌝ }
     ensures { λ _. ⌜ now (b .exit) ≡ sets (now (b .entry)) at (openRaw places o) ⌝ }
 {
-    b[at] = byte(o.writer);
-    b[at + 1] = byte(o.status);
-    b[at + 2] = byte(o.cell);
-    b[at + 3] = 0;
     let v = o.vector;
-    put_words(b, at + VECTOR_AT, v);
+    put_record(b, at, o.writer, o.status, o.cell, v);
     let k = o.marks;
     put_marks(b, at + AFTER_VECTOR, k);
 }
@@ -214,16 +211,15 @@ fn put_head(b: &mut [u8; BLOCK], kind: u8, at: u16)
     put_word(b, 2, at);
 }
 
-// The block of desk i, from 1.
-fn desk_block(at: u16, i: u16, d: Desk) -> [u8; BLOCK]
-    requires { ⌜ i < 256 ⌝ }
-    ensures { λ r. ⌜ r ≡ block 2 at (deskBytes places i (place (d .applied)) (place (d .clock .at))) ⌝ }
+// The block of desk k, from 1: it stands at place k.
+fn desk_block(k: u16, d: Desk) -> [u8; BLOCK]
+    requires { ⌜ k < 256 ⌝ }
+    ensures { λ r. ⌜ r ≡ block 2 k (deskBytes places k (place (d .applied)) (place (d .clock .at))) ⌝ }
 {
     let mut b = [0u8; BLOCK];
-    put_head(&mut b, 2, at);
-    b[PAYLOAD_AT] = byte(i);
+    put_head(&mut b, 2, k);
     let applied = d.applied;
-    put_words(&mut b, APPLIED_AT, applied);
+    put_record(&mut b, PAYLOAD_AT, k, 0, 0, applied);
     let clock = d.clock;
     let v = clock.at;
     put_words(&mut b, CLOCK_AT, v);
@@ -245,20 +241,10 @@ fn size_block(n: u16, m: u16, count: u16) -> [u8; BLOCK]
     b
 }
 
-// Cell x of desk i, both from 0: an unset one past the last.
-fn cell_or(cells: &[u16; PLACES * CELLS * CELL], i: usize, x: usize) -> Cell
-    requires { ⌜ (i < places) × CellsFit places (now cells) ⌝ }
-    ensures { λ r. ⌜ CellFor places (now (cells .entry)) i x r ⌝ }
+fn least(a: usize, b: usize) -> usize
+    ensures { λ r. ⌜ r ≡ min a b ⌝ }
 {
-    if x < CELLS {
-        return table::cell_at(cells, i * CELLS + x);
-    }
-    let zero = [0u16; PLACES];
-    Cell {
-        writer: 0,
-        status: 0,
-        vector: zero,
-    }
+    if a < b { a } else { b }
 }
 
 // Block q of the cells of desk i, from 0.
@@ -268,33 +254,24 @@ fn cell_block(at: u16, cells: &[u16; PLACES * CELLS * CELL], i: usize, q: usize)
 {
     let mut b = [0u8; BLOCK];
     put_head(&mut b, 3, at);
+    let first = CELLS_IN * q;
+    let end = least(CELLS, first + CELLS_IN);
     let mut j = 0;
-    while j < CELLS_IN {
-        let c = cell_or(cells, i, CELLS_IN * q + j);
-        put_cell(&mut b, PAYLOAD_AT + CELL_BYTES * j, c);
+    while first + j < end {
+        let c = table::cell_at(cells, i * CELLS + (first + j));
+        let v = c.vector;
+        put_record(
+            &mut b,
+            PAYLOAD_AT + CELL_BYTES * j,
+            c.writer,
+            c.status,
+            0,
+            v,
+        );
         j += 1;
     }
     seal(&mut b);
     b
-}
-
-// The open write at place p of the order, and a free entry's zeros past the last.
-fn open_or(opens: &[u16; OPENS * OPEN], order: &[usize; OPENS], count: usize, p: usize) -> Open
-    requires { ⌜ OrderFits (now opens) (now order) count ⌝ }
-    ensures { λ r. ⌜ OpenFor (now (opens .entry)) (now (order .entry)) count p r ⌝ }
-{
-    if p < count {
-        let e = order[p];
-        return table::open_at(opens, e);
-    }
-    let zero = [0u16; PLACES];
-    Open {
-        writer: 0,
-        status: 0,
-        cell: 0,
-        vector: zero,
-        marks: zero,
-    }
 }
 
 // Block q of the open writes.
@@ -310,9 +287,12 @@ fn open_block(
 {
     let mut b = [0u8; BLOCK];
     put_head(&mut b, 4, at);
+    let first = OPENS_IN * q;
+    let end = least(count, first + OPENS_IN);
     let mut j = 0;
-    while j < OPENS_IN {
-        let o = open_or(opens, order, count, OPENS_IN * q + j);
+    while first + j < end {
+        let e = order[first + j];
+        let o = table::open_at(opens, e);
         put_open(&mut b, PAYLOAD_AT + OPEN_BYTES * j, o);
         j += 1;
     }
@@ -322,76 +302,69 @@ fn open_block(
 
 // Blocks, one after the other --
 
-// The block as block k of the image.
-fn store(out: &mut [u8], k: usize, b: [u8; BLOCK])
-    requires { ⌜ (k < blocks-most places) × (block-bytes * k + block-bytes ≤ length (now out)) ⌝ }
-    ensures { λ _. ⌜ now (out .exit) ≡ sets (now (out .entry)) (block-bytes * k) b ⌝ }
+// The first len bytes of a part, put into the buffer from place at on.
+pub fn copy(part: &[u8], len: usize, out: &mut [u8], at: usize)
+    requires { ⌜ (len ≤ length (now part)) × (at + len ≤ length (now out)) ⌝ }
+    ensures { λ _. ⌜ now (out .exit) ≡ sets (now (out .entry)) at (take len (now (part .entry))) ⌝ }
 {
-    let at = BLOCK * k;
     let mut j = 0;
-    while j < BLOCK {
-        out[at + j] = b[j];
+    while j < len {
+        out[at + j] = part[j];
         j += 1;
     }
 }
 
-// Kind 2.
-fn save_desks(out: &mut [u8], desks: [Desk; PLACES], n: usize)
-    requires { ⌜ (n ≤ places) × (block-bytes + block-bytes * n ≤ length (now out)) ⌝ }
-    ensures { λ _. ⌜ now (out .exit) ≡ sets (now (out .entry)) block-bytes (cat (deskBlock places desks) n) ⌝ }
-{
-    let mut i = 0;
-    while i < n {
-        let d = desks[i];
-        let k = (1 + i) as u16;
-        let b = desk_block(k, k, d);
-        store(out, 1 + i, b);
-        i += 1;
-    }
-}
-
-// Kind 3, of desk i: the c blocks from block k on.
-fn save_row(out: &mut [u8], k: usize, cells: &[u16; PLACES * CELLS * CELL], i: usize, c: usize)
-    requires { ⌜ ((i < places) × CellsFit places (now cells)) × ((c ≤ row-most places) × ((k + c ≤ blocks-most places) × (block-bytes * k + block-bytes * c ≤ length (now out)))) ⌝ }
-    ensures { λ _. ⌜ now (out .exit) ≡ sets (now (out .entry)) (block-bytes * k) (cat (cellBlock places (now (cells .entry)) k i) c) ⌝ }
-{
-    let mut q = 0;
-    while q < c {
-        let b = cell_block((k + q) as u16, cells, i, q);
-        store(out, k + q, b);
-        q += 1;
-    }
-}
-
-// Kind 3.
-fn save_cells(out: &mut [u8], cells: &[u16; PLACES * CELLS * CELL], n: usize, c: usize)
-    requires { ⌜ CellsFit places (now cells) × ((n ≤ places) × ((c ≤ row-most places) × (block-bytes * (1 + n) + block-bytes * c * n ≤ length (now out)))) ⌝ }
-    ensures { λ _. ⌜ now (out .exit) ≡ sets (now (out .entry)) (block-bytes * (1 + n)) (cat (cellRow places (now (cells .entry)) n c) n) ⌝ }
-{
-    let mut i = 0;
-    while i < n {
-        save_row(out, 1 + n + c * i, cells, i, c);
-        i += 1;
-    }
-}
-
-// Kind 4: the c blocks from block k on.
-fn save_opens(
-    out: &mut [u8],
-    k: usize,
+// The block at place k: the sizes, the desks, then their cells, c blocks to a desk, and from place e on the open writes.
+fn block_at(
+    core: Core,
+    cells: &[u16; PLACES * CELLS * CELL],
     opens: &[u16; OPENS * OPEN],
     order: &[usize; OPENS],
     count: usize,
     c: usize,
-)
-    requires { ⌜ OrderFits (now opens) (now order) count × ((c ≤ opens-most places) × ((k + c ≤ blocks-most places) × (block-bytes * k + block-bytes * c ≤ length (now out)))) ⌝ }
-    ensures { λ _. ⌜ now (out .exit) ≡ sets (now (out .entry)) (block-bytes * k) (cat (openBlock places (now (opens .entry)) (now (order .entry)) count k) c) ⌝ }
+    e: usize,
+    total: usize,
+    k: usize,
+) -> [u8; BLOCK]
+    requires { ⌜ Planned places (tableWith core (now cells) (now opens)) (now order) count c e total × (k < total) ⌝ }
+    ensures { λ r. ⌜ r ≡ blockAt places (modelOf (tableWith core (now (cells .entry)) (now (opens .entry)))) k ⌝ }
 {
-    let mut q = 0;
-    while q < c {
-        let b = open_block((k + q) as u16, opens, order, count, q);
-        store(out, k + q, b);
-        q += 1;
+    let n = core.n;
+    let m = core.m;
+    if k == 0 {
+        return size_block(n as u16, m as u16, count as u16);
+    }
+    if k <= n {
+        let desks = core.desks;
+        let d = desks[k - 1];
+        return desk_block(k as u16, d);
+    }
+    if k < e {
+        let q = k - (1 + n);
+        return cell_block(k as u16, cells, q / c, q % c);
+    }
+    open_block(k as u16, opens, order, count, k - e)
+}
+
+fn save_blocks(
+    core: Core,
+    cells: &[u16; PLACES * CELLS * CELL],
+    opens: &[u16; OPENS * OPEN],
+    order: &[usize; OPENS],
+    count: usize,
+    c: usize,
+    e: usize,
+    total: usize,
+    out: &mut [u8],
+)
+    requires { ⌜ Planned places (tableWith core (now cells) (now opens)) (now order) count c e total × (block-bytes * total ≤ length (now out)) ⌝ }
+    ensures { λ _. ⌜ now (out .exit) ≡ sets (now (out .entry)) 0 (encode (modelOf (tableWith core (now (cells .entry)) (now (opens .entry))))) ⌝ }
+{
+    let mut k = 0;
+    while k < total {
+        let b = block_at(core, cells, opens, order, count, c, e, total, k);
+        copy(&b, BLOCK, out, BLOCK * k);
+        k += 1;
     }
 }
 
@@ -485,7 +458,7 @@ fn order_all(
     n: usize,
     order: &mut [usize],
 ) -> usize
-    requires { ⌜ (length (now order) ≡ entries) × Known n desks (now opens) ⌝ }
+    requires { ⌜ (n ≤ places) × ((length (now order) ≡ entries) × Known n desks (now opens)) ⌝ }
     ensures { λ r. ⌜ Ordered (now (opens .entry)) (counted n (appliedM desks)) (now (order .exit)) r ⌝ }
 {
     let mut count = 0;
@@ -563,14 +536,10 @@ pub fn save_parts(
     let mut order = [0usize; OPENS];
     let count = order_all(opens, desks, n, &mut order);
     let c = per_desk(m);
-    let k = cells_end(n, c);
-    let d = open_blocks(count);
-    let b = size_block(n as u16, m as u16, count as u16);
-    store(out, 0, b);
-    save_desks(out, desks, n);
-    save_cells(out, cells, n, c);
-    save_opens(out, k, opens, &order, count, d);
-    BLOCK * (k + d)
+    let e = cells_end(n, c);
+    let total = e + open_blocks(count);
+    save_blocks(core, cells, opens, &order, count, c, e, total, out);
+    BLOCK * total
 }
 
 // What save answers: the image's length, or refusal 13 (Broken) or 14 (Short).

@@ -152,26 +152,40 @@ fn bend(b: &mut [u8]) {
     }
 }
 
-fn edges(out: &mut [u8], found: &[u8], again: &mut [u8], other: &mut [u8]) {
-    let t = one_write(5);
+fn short(out: &mut [u8], found: &[u8]) {
     say(b"a buffer one byte short: ");
-    save_into(t, out, 3071);
+    save_into(one_write(5), out, 3071);
     say(b"left as found: ");
     same_from(out, found, 0);
+}
+
+fn long(out: &mut [u8], found: &[u8]) {
     say(b"long enough: ");
-    save_into(t, out, 4000);
+    save_into(one_write(5), out, 4000);
     say(b"bytes past the image stay: ");
     same_from(out, found, 3072);
     say(b"reloaded: ");
     load_from(out, 3072);
+}
+
+fn saved_again(out: &[u8], again: &mut [u8]) {
     say(b"and saved again gives its bytes: ");
     reload(out, 3072, again);
     same_upto(out, again, 3072);
+}
+
+fn elsewhere(other: &mut [u8], again: &[u8]) {
     say(b"the write in another entry gives the same bytes: ");
     save_into(one_write(63), other, 3072);
     same_upto(other, again, 3072);
+}
+
+fn lost(other: &mut [u8]) {
     say(b"the open write lost: ");
     save_into(one_write(64), other, 3072);
+}
+
+fn changed(out: &[u8], again: &mut [u8]) {
     say(b"a byte more: ");
     load_from(out, 3073);
     say(b"a byte of a payload and the check changed: ");
@@ -189,5 +203,10 @@ fn main() {
     let mut out = [7u8; 4000];
     let mut again = [7u8; 3072];
     let mut other = [7u8; 3072];
-    edges(&mut out, &found, &mut again, &mut other);
+    short(&mut out, &found);
+    long(&mut out, &found);
+    saved_again(&out, &mut again);
+    elsewhere(&mut other, &again);
+    lost(&mut other);
+    changed(&out, &mut again);
 }

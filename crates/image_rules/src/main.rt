@@ -8,11 +8,9 @@
 // Every other line is a comment.
 ghost use Prim.Native.Nat.{_+_, _<_, _≤_};
 ghost use lib.ListN.{length};
-ghost use Rattle.clock.specs.Vectors.{places};
-ghost use Rattle.image.specs.Limits.{block-bytes, image-bytes};
+ghost use Rattle.image.specs.Limits.{block-bytes};
 use clock::PLACES;
 use image::BLOCK;
-use image::CHECK;
 use image::IMAGE;
 use image::Saving;
 use libc::STDIN_FILENO;
@@ -39,23 +37,15 @@ fn emit(all: &[u8], len: usize) {
     }
 }
 
-fn wide(x: u8) -> u32
-    ensures { λ r. ⌜ r < 256 ⌝ }
+// The check of the block from a place on, put right.
+fn seal_at(b: &mut [u8], at: usize)
+    requires { ⌜ at + block-bytes ≤ length (now b) ⌝ }
 {
-    x as u32
-}
-
-// The check of the block from a place on: 1 plus the sum, over j from 0 to 507, of (j + 1) times byte j.
-fn check(b: &[u8; IMAGE], at: usize) -> u32
-    requires { ⌜ at + block-bytes ≤ image-bytes places ⌝ }
-{
-    let mut c: u32 = 1;
-    let mut j = 0;
-    while j < CHECK {
-        c = c + (j as u32 + 1) * wide(b[at + j]);
-        j += 1;
-    }
-    c
+    let e = at + BLOCK;
+    let mut block = [0u8; BLOCK];
+    image::copy(&b[at..e], BLOCK, &mut block, 0);
+    image::seal(&mut block);
+    image::copy(&block, BLOCK, b, at);
 }
 
 // The checks of the first len bytes, each put right.
@@ -65,12 +55,7 @@ fn seal(b: &mut [u8; IMAGE], len: usize) {
         if IMAGE - BLOCK < at {
             return;
         }
-        let c = check(b, at);
-        let p = at + CHECK;
-        b[p] = (c % 256) as u8;
-        b[p + 1] = (c / 256 % 256) as u8;
-        b[p + 2] = (c / 65536 % 256) as u8;
-        b[p + 3] = (c / 16777216) as u8;
+        seal_at(b, at);
         at += BLOCK;
     }
 }

@@ -6,7 +6,8 @@ use mathlib.Core.List.{List}
 use mathlib.Core.Option.{Option, none, some}
 use native.Mathlib.Omega.{arith}
 use native.Mathlib.Decide.{decLt}
-use borrow.Author.Tests.{lt-ltb, le-ltb, ne-eqb}
+use borrow.Author.Tests.{ltb-true, lt-ltb, le-ltb, ne-eqb}
+use lib.Dec.{ltb}
 use lib.ListN.{getD, replicate, length-replicate}
 use lib.Seq.{take-all}
 use Rattle.laws.specs.Loop.{cases}
@@ -17,16 +18,16 @@ use Rattle.laws.specs.Each.{each-in}
 use Rattle.laws.specs.Cat.{part}
 use Rattle.clock.specs.Vectors.{places}
 use Rattle.machine.specs.Table as machine
-use Rattle.machine.specs.Table.{State, Vec, zeros, Name}
+use Rattle.machine.specs.Table.{State, Vec, zeros, Name, name}
 use Rattle.machine.specs.Steps.{isNone, isOpen, openCount}
-use Rattle.machine.specs.Rules.{Rules}
+use Rattle.machine.specs.Rules.{In, Rules}
 use Rattle.table.specs.declared.Cell.{Cell}
 use Rattle.table.specs.declared.Desk.{Desk}
 use Rattle.table.specs.declared.Open.{Open}
 use Rattle.table.specs.declared.Table.{Table}
 use Rattle.table.specs.Value.{desk0, desk-cells, all-cells, cellAt, entries, openAt, isFree}
 use Rattle.table.specs.Names.{number, namedAt, free-named, own-named, named-is}
-use Rattle.table.specs.Model.{cellM, openM, appliedVec, clockVec, appliedM, clockM, cellsM, opensM, cell-in, cell-out, modelOf, state-path}
+use Rattle.table.specs.Model.{cellM, openM, appliedVec, clockVec, appliedM, clockM, cellsM, opensM, cell-in, modelOf, state-path}
 use Rattle.table.specs.Opens.{Unique, opens-at, opens-none}
 use Rattle.table.specs.Sound.{SoundTable, AllZero}
 use Rattle.table.specs.Begin.{zeros-at, place-zeros}
@@ -36,9 +37,9 @@ use native.Mathlib.Nat.{div-add-mod, mod-lt, le-refl}
 use Rattle.image.specs.Encode.{cellPart, cellBytes, perDesk, openBlocks, encodeAt, encode}
 use Rattle.image.specs.Places.{length-encode, part-3}
 use Rattle.image.specs.Fields.{zero-words, vec-words, vecOf, cellOf, openOf, writerIn, numberIn}
-use Rattle.image.specs.Decode.{nIn, mIn, countIn, deskPlace, cellPlace, openPlace, deskIn, cellIn, Shows, n-back, m-back, count-back, applied-back, clock-back, cell-back, shows-at, open-name}
-use Rattle.load.specs.Spread.{Among, Spread, OpensRead}
-use Rattle.load.specs.Read.{cellFrom, openFrom, deskFrom, noDesk, noCell, deskFor, cellFor, Fits, CellsRead, getD-part, part-part, place-words, cell-read, open-read}
+use Rattle.image.specs.Decode.{nIn, mIn, countIn, deskPlace, cellPlace, openPlace, deskIn, cellIn, n-back, m-back, count-back, applied-back, clock-back, cell-back, shows-at, open-name}
+use Rattle.load.specs.Spread.{Spread, OpensRead}
+use Rattle.load.specs.Read.{cellFrom, openFrom, deskFrom, noDesk, deskFor, cellFor, Fits, CellsRead, for-cases, getD-part, part-part, place-words, cell-read, open-read}
 use Rattle.image.specs.Limits.{Wide, some-cells, block-of, wide, vector-at, vector-bytes, after-vector, cell-bytes, open-bytes, cells-in}
 use Rattle.image.specs.Fill.{drop-replicate}
 
@@ -101,42 +102,24 @@ module _ (ps : ℕ) where
         let r = row-of i x (omega arith) in
         sym (at-row i x (omega arith) (omega arith) ∙ rw (r .0, r .1, lt-ltb i n hi, lt-ltb x m hx) (cell-read ps b (cellPlace ps n m i x)))
 
-    cell-off : (i x : ℕ) → ((i < n) × (x < m) → ⊥) → cellsM cs (suc i) (suc x) ≡ machine.blank
-    unfolding cellFor
-    cell-off i x o = go (decLt i places) (decLt x desk-cells)
-      where
-        off : (s : ℕ) → ((s / desk-cells < n) × (s % desk-cells < m) → ⊥) → cellM (cellFor ps b n m s) ≡ machine.blank
-        off s q = go2 (decLt (s / desk-cells) n) (decLt (s % desk-cells) m)
-          where
-            go2 : Dec (s / desk-cells < n) → Dec (s % desk-cells < m) → cellM (cellFor ps b n m s) ≡ machine.blank
-            go2 (yes a) (yes c) = absurd (q (a, c))
-            go2 (yes a) (no c) = let l : m ≤ s % desk-cells = omega arith in rw (lt-ltb (s / desk-cells) n a, le-ltb (s % desk-cells) m l)
-            go2 (no a) c = let l : n ≤ s / desk-cells = omega arith in rw (le-ltb (s / desk-cells) n l)
-
-        go : Dec (i < places) → Dec (x < desk-cells) → cellsM cs (suc i) (suc x) ≡ machine.blank
-        go (yes a) (yes c) =
-            let r = row-of i x c in
-            at-row i x a c ∙ off (i * desk-cells + x) (λ q. o (rw (r .0) at (q .0), rw (r .1) at (q .1)))
-        go (yes a) (no c) = cell-out cs (suc i) (suc x) (λ p q. c (q .1))
-        go (no a) c = cell-out cs (suc i) (suc x) (λ p q. a (p .1))
+    cell-off : (i x : ℕ) → (In n i → In m x → ⊥) → cellsM cs i x ≡ machine.blank
+    unfolding cellsM
+    cell-off zero x o = refl
+    cell-off (suc i) zero o = refl
+    cell-off (suc i) (suc x) o =
+        cases (ltb i places)
+        (λ a. rw a (cases (ltb x desk-cells)
+        (λ c. let l = ltb-true i places a in let k = ltb-true x desk-cells c in
+        rw (c, read (i * desk-cells + x) (omega arith))
+        (for-cases ps b n m (i * desk-cells + x) (λ (z : Cell). cellM z ≡ machine.blank) (λ p q. absurd (o (omega arith, omega arith) (omega arith, omega arith))) refl))
+        (λ c. rw c)))
+        (λ a. rw a)
 
     pub cells-read : cellsM cs ≡ cellIn ps n m b
     cells-read =
         sym (from1-is (λ x. machine.blank) n (λ i. from1 machine.blank m (λ x. cellOf ps (part (cellPlace ps n m i x) (cell-bytes ps) b))) (cellsM cs)
-        (λ i hi. from1-is machine.blank m (λ x. cellOf ps (part (cellPlace ps n m i x) (cell-bytes ps) b)) (cellsM cs (suc i)) (λ x hx. cell-on i x hi hx) (row-off i))
-        desk-off)
-      where
-        row-off : (i x : ℕ) → (1 ≤ x → x ≤ m → ⊥) → cellsM cs (suc i) x ≡ machine.blank
-        row-off i zero o = cell-out cs (suc i) zero (λ p q. omega (arith, q .0))
-        row-off i (suc x) o = cell-off i x (λ q. o (omega arith) (q .1))
-
-        desk-off : (i : ℕ) → (1 ≤ i → i ≤ n → ⊥) → cellsM cs i ≡ (λ x. machine.blank)
-        desk-off zero o = fun-ext (λ x. cell-out cs zero x (λ p q. omega (arith, p .0)))
-        desk-off (suc i) o = fun-ext (λ x. each x)
-          where
-            each : (x : ℕ) → cellsM cs (suc i) x ≡ machine.blank
-            each zero = cell-out cs (suc i) zero (λ p q. omega (arith, q .0))
-            each (suc x) = cell-off i x (λ q. o (omega arith) (q .0))
+        (λ i hi. from1-is machine.blank m (λ x. cellOf ps (part (cellPlace ps n m i x) (cell-bytes ps) b)) (cellsM cs (suc i)) (λ x hx. cell-on i x hi hx) (λ x o. cell-off (suc i) x (λ p q. o (q .0) (q .1))))
+        (λ i o. fun-ext (λ x. cell-off i x (λ p q. o (p .0) (p .1)))))
 
   -- open writes: what stands at a place of the image, as the code reads it
   module _ (b : List ℕ) (n m p : ℕ) where
@@ -157,78 +140,60 @@ module _ (ps : ℕ) where
     is-open : (p : ℕ) → p < openCount s → OpenName s (at p)
     is-open p h = each-in (OpenName s) (names s) no-name (names-open s) p (omega (arith, length-names s))
 
-    shows : (p : ℕ) → p < openCount s → Shows ps s (at p .writer) (at p .number) (part (openPlace ps (s .setup .desks) (s .setup .cells) p) (open-bytes ps) (encodeAt ps s))
-    shows p h = shows-at ps wd s ok few p h
-
     abbrev from : ℕ → Open
     from p = openFrom ps (encodeAt ps s) (openPlace ps (s .setup .desks) (s .setup .cells) p)
 
-    writer-from : (p : ℕ) → p < openCount s → from p .writer ≡ at p .writer
-    writer-from p h = writer-read (encodeAt ps s) (s .setup .desks) (s .setup .cells) p ∙ shows p h .writer
-
-    number-from : (p : ℕ) → p < openCount s → number (from p) ≡ at p .number
-    number-from p h = number-read (encodeAt ps s) (s .setup .desks) (s .setup .cells) p ∙ shows p h .number
+    name-from : (p : ℕ) → p < openCount s → (from p .writer ≡ at p .writer) × (number (from p) ≡ at p .number)
+    name-from p h =
+        let w = shows-at ps wd s ok few p h in
+        (writer-read (encodeAt ps s) (s .setup .desks) (s .setup .cells) p ∙ w .writer, number-read (encodeAt ps s) (s .setup .desks) (s .setup .cells) p ∙ w .number)
 
     has-writer : (p : ℕ) → p < openCount s → from p .writer ≡ 0 → ⊥
-    has-writer p h e = let w = writer-from p h in let i = is-open p h .writer-in .0 in omega arith
+    has-writer p h e = let w = name-from p h .0 in let i = is-open p h .writer-in .0 in omega arith
 
     -- the entries, wherever they stand
     module _ (os : List ℕ) (read : OpensRead ps (encodeAt ps s) (s .setup .desks) (s .setup .cells) (openCount s) os) where
       spread : Spread ps (encodeAt ps s) (s .setup .desks) (s .setup .cells) (openCount s) os
       spread = read has-writer
 
-      writer-is : (p : ℕ) → p < openCount s → openAt os (spread .at p) .writer ≡ at p .writer
-      writer-is p h = ap (λ (o : Open). o .writer) (spread .there p h) ∙ writer-from p h
-
-      number-is : (p : ℕ) → p < openCount s → number (openAt os (spread .at p)) ≡ at p .number
-      number-is p h = ap number (spread .there p h) ∙ number-from p h
-
-      in-use : (p : ℕ) → p < openCount s → isFree (openAt os (spread .at p)) ≡ false
-      in-use p h = ne-eqb (openAt os (spread .at p) .writer) 0 (λ e. (let w = writer-is p h in let i = is-open p h .writer-in .0 in omega arith))
+      name-is : (p : ℕ) → p < openCount s → (openAt os (spread .at p) .writer ≡ at p .writer) × (number (openAt os (spread .at p)) ≡ at p .number)
+      name-is p h = rw (spread .there p h) (name-from p h)
 
       named-so : (p : ℕ) → p < openCount s → namedAt os (at p .writer) (at p .number) (spread .at p) ≡ true
-      named-so p h = rw (← writer-is p h, ← number-is p h) (own-named (openAt os (spread .at p)) (in-use p h))
+      named-so p h =
+          let w = name-is p h in
+          rw (← w .0, ← w .1) (own-named (openAt os (spread .at p)) (ne-eqb (openAt os (spread .at p) .writer) 0 (λ e. (let i = is-open p h .writer-in .0 in omega (arith, w .0)))))
 
-      -- an entry with a name is one of those that were counted
-      is-counted : (e u k : ℕ) → e < entries → namedAt os u k e ≡ true → Among (openCount s) (spread .at) e
-      is-counted e u k h t = spread .rest e h (cases (isFree (openAt os e)) (λ f. absurd (apart (namedAt os u k e) t (free-named (openAt os e) u k f))) (λ f. f))
-
-      -- and the name is its own
-      own-name : (p u k : ℕ) → p < openCount s → namedAt os u k (spread .at p) ≡ true → (at p .writer ≡ u) × (at p .number ≡ k)
-      own-name p u k h t = let q = named-is (openAt os (spread .at p)) u k t in (sym (writer-is p h) ∙ q .1, sym (number-is p h) ∙ q .2)
-
-      name-of : (e u k : ℕ) (a : Among (openCount s) (spread .at) e) → namedAt os u k e ≡ true → (at (a .p) .writer ≡ u) × (at (a .p) .number ≡ k)
-      name-of e u k a t = own-name (a .p) u k (a .small) (rw (a .is) at t)
+      -- an entry with a name is one of those that were counted, and the name is its own
+      counted-as : (e u k : ℕ) → e < entries → namedAt os u k e ≡ true → (p : ℕ) × (p < openCount s) × (e ≡ spread .at p) × (at p ≡ name u k)
+      counted-as e u k h t =
+          let a = spread .rest e h (cases (isFree (openAt os e)) (λ f. absurd (apart (namedAt os u k e) t (free-named (openAt os e) u k f))) (λ f. f)) in
+          let q = named-is (openAt os (spread .at (a .p))) u k (rw (a .is) at t) in
+          let w = name-is (a .p) (a .small) in
+          let x : at (a .p) .writer ≡ u = sym (w .0) ∙ q .1 in
+          let y : at (a .p) .number ≡ k = sym (w .1) ∙ q .2 in
+          (a .p, a .small, a .is, λ i. record { writer = x i; number = y i })
 
       pub unique-read : Unique os
       unique-read e j he hj ne u k t r =
-          let a = is-counted e u k he t in
-          let b = is-counted j u k hj r in
-          let x = name-of e u k a t in
-          let y = name-of j u k b r in
-          let w : at (a .p) .writer ≡ at (b .p) .writer = x .0 ∙ sym (y .0) in
-          let v : at (a .p) .number ≡ at (b .p) .number = x .1 ∙ sym (y .1) in
-          let z : at (a .p) ≡ at (b .p) = λ i. record { writer = w i; number = v i } in
-          let q : a .p ≡ b .p = names-distinct s ok (a .p) (b .p) (omega (arith, a .small, length-names s)) (omega (arith, b .small, length-names s)) z in
-          ne (a .is ∙ ap (spread .at) q ∙ sym (b .is))
+          let a = counted-as e u k he t in
+          let b = counted-as j u k hj r in
+          let q : a .0 ≡ b .0 = names-distinct s ok (a .0) (b .0) (omega (arith, a .1, length-names s)) (omega (arith, b .1, length-names s)) (a .3 ∙ sym (b .3)) in
+          ne (a .2 ∙ ap (spread .at) q ∙ sym (b .2))
 
       opens-is : (u k : ℕ) (o : Option machine.Open) → s .opens u k ≡ o → opensM os u k ≡ o
       opens-is u k none e =
           opens-none os u k (λ j h. cases (namedAt os u k j)
-          (λ t. let a = is-counted j u k h t in
-          let x = name-of j u k a t in
-          let i : isOpen s u k ≡ true = rw (x .0, x .1) at (is-open (a .p) (a .small) .is-open) in
+          (λ t. let a = counted-as j u k h t in
+          let i : isOpen s u k ≡ true = rw (a .3) at (is-open (a .0) (a .1) .is-open) in
           clash (sym (ap (λ (o : Option machine.Open). not (isNone o)) e) ∙ i))
           (λ t. t))
       opens-is u k (some w) e =
           let g = open-named s u k (open-name ps wd s ok few u k (ap (λ (o : Option machine.Open). not (isNone o)) e)) in
           let p : ℕ = g .at in
           let c : p < openCount s = omega (arith, g .small, length-names s) in
-          let w1 : at p .writer ≡ u = ap (λ (x : Name). x .writer) (g .is) in
-          let w2 : at p .number ≡ k = ap (λ (x : Name). x .number) (g .is) in
-          let t : namedAt os u k (spread .at p) ≡ true = rw (w1, w2) at (named-so p c) in
-          let sh : some (openOf ps (part (openPlace ps (s .setup .desks) (s .setup .cells) p) (open-bytes ps) (encodeAt ps s))) ≡ s .opens u k = rw (w1, w2) at (shows p c .whole) in
-          opens-at os (spread .at p) u k unique-read (spread .inside p c) t
+          let sh = rw (g .is) at (shows-at ps wd s ok few p c .whole) in
+          opens-at os (spread .at p) u k unique-read (spread .inside p c) (rw (g .is) at (named-so p c))
           ∙ ap some (ap openM (spread .there p c) ∙ open-read ps (encodeAt ps s) (openPlace ps (s .setup .desks) (s .setup .cells) p)) ∙ sh ∙ e
 
       pub opens-read : opensM os ≡ s .opens
@@ -262,31 +227,19 @@ module _ (ps : ℕ) where
         absurd (omega (arith, ok .frame .cell i x v u y q .writer-in .0))
 
     pub blanks-read : (cs : List ℕ) → CellsRead ps (encodeAt ps s) (s .setup .desks) (s .setup .cells) cs → (t : ℕ) → t < all-cells → cellAt cs t .writer ≡ 0 → AllZero (cellAt cs t)
-    unfolding cellFor cellPart perDesk
-    blanks-read cs read t h w = go (decLt (t / desk-cells) (s .setup .desks)) (decLt (t % desk-cells) (s .setup .cells))
-      where
-        i : ℕ
-        i = t / desk-cells
-
-        x : ℕ
-        x = t % desk-cells
-
-        none-there : cellFor ps (encodeAt ps s) (s .setup .desks) (s .setup .cells) t ≡ noCell → AllZero (cellAt cs t)
-        none-there e = rw (read t h ∙ e) (record { status = refl; vector = λ k. ap (λ (v : Vec). v k) (place-zeros places) })
-
-        go : Dec (t / desk-cells < s .setup .desks) → Dec (t % desk-cells < s .setup .cells) → AllZero (cellAt cs t)
-        go (yes a) (yes c) =
-            let p : ℕ = cellPlace ps (s .setup .desks) (s .setup .cells) (t / desk-cells) (t % desk-cells) in
-            let f : cellAt cs t ≡ cellFrom ps (encodeAt ps s) p = read t h ∙ rw (lt-ltb (t / desk-cells) (s .setup .desks) a, lt-ltb (t % desk-cells) (s .setup .cells) c) in
-            let e : part p (cell-bytes ps) (encodeAt ps s) ≡ cellBytes ps (s .cell (suc (t / desk-cells)) (suc (t % desk-cells))) =
-            rw (div-add-mod (t % desk-cells) (cells-in ps)) at (part-3 ps wd s (t / desk-cells) (t % desk-cells / cells-in ps) (t % desk-cells % cells-in ps) a (block-of (cells-in ps) (s .setup .cells) (t % desk-cells) (some-cells ps wd) c) (mod-lt (t % desk-cells) (some-cells ps wd))) in
-            rw f (blank-cell (suc (t / desk-cells)) (suc (t % desk-cells)) p (s .cell (suc (t / desk-cells)) (suc (t % desk-cells))) refl e (rw f at w))
-        go (yes a) (no c) = let l : s .setup .cells ≤ t % desk-cells = omega arith in none-there (rw (lt-ltb (t / desk-cells) (s .setup .desks) a, le-ltb (t % desk-cells) (s .setup .cells) l))
-        go (no a) c = let l : s .setup .desks ≤ t / desk-cells = omega arith in none-there (rw (le-ltb (t / desk-cells) (s .setup .desks) l))
+    unfolding cellPart
+    blanks-read cs read t h =
+        rw (read t h)
+        (for-cases ps (encodeAt ps s) (s .setup .desks) (s .setup .cells) t (λ (c : Cell). c .writer ≡ 0 → AllZero c)
+        (λ a c.
+        let i : ℕ = t / desk-cells in
+        let x : ℕ = t % desk-cells in
+        blank-cell (suc i) (suc x) (cellPlace ps (s .setup .desks) (s .setup .cells) i x) (s .cell (suc i) (suc x)) refl
+        (rw (div-add-mod x (cells-in ps)) at (part-3 ps wd s i (x / cells-in ps) (x % cells-in ps) a (block-of (cells-in ps) (s .setup .cells) x (some-cells ps wd) c) (mod-lt x (some-cells ps wd)))))
+        (λ w. record { status = refl; vector = λ k. ap (λ (v : Vec). v k) (place-zeros places) }))
 
     -- its sizes fit
     pub fits-image : Fits ps (encodeAt ps s)
-    unfolding openBlocks
     fits-image =
         record {
           desks = rw (n-back ps s) (ok .frame .ranges .desks .0, few);

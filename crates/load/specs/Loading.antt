@@ -59,12 +59,6 @@ pub saved-part : (out vs : List ℕ) → length vs ≤ length out → take (leng
 saved-part out vs h =
     ap (λ (l : List ℕ). take (length vs) l) (sets-eq vs out 0 (rw zero-add h)) ∙ take-append-seam vs (drop (0 + length vs) out)
 
-pub same-so : (b out vs : List ℕ) → length b ≡ length vs → length vs ≤ length out → b ≡ take (length b) (sets out 0 vs) → vs ≡ b
-same-so b out vs e h q = sym (q ∙ rw e (saved-part out vs h))
-
-pub same-not : (b out vs : List ℕ) → length vs ≤ length out → (b ≡ take (length b) (sets out 0 vs) → ⊥) → vs ≡ b → ⊥
-same-not b out vs h f e = f (rw (← e) (sym (saved-part out vs h)))
-
 -- two lists by their elements
 pub same-all : (a b : List ℕ) → length a ≤ length b → ((i : ℕ) → i < length a → getD a i 0 ≡ getD b i 0) → a ≡ take (length a) b
 same-all a b h f =
@@ -72,10 +66,6 @@ same-all a b h f =
 
 pub same-at : (a b : List ℕ) (i : ℕ) → i < length a → a ≡ take (length a) b → getD a i 0 ≡ getD b i 0
 same-at a b i h e = ap (λ (l : List ℕ). getD l i 0) e ∙ getD-take (length a) b i 0 h
-
-pub same-says : (r : Bool) (b out after vs : List ℕ) → after ≡ sets out 0 vs → length b ≡ length vs → length vs ≤ length out → Says r (b ≡ take (length b) after) → Says r (vs ≡ b)
-same-says r b out after vs ea e h s =
-    says-as r s (λ q. same-so b out vs e h (rw ea at q)) (λ q. rw (ea, e) (sym (saved-part out vs h ∙ q)))
 
 -- "The largest image is 37 blocks."
 pub image-most : (s : State) → Rules s → length (encode s) ≤ (image-bytes places)
@@ -93,4 +83,6 @@ pub buffer-long : (after vs : List ℕ) → after ≡ sets (replicate (image-byt
 buffer-long after vs e = ap length e ∙ length-sets (replicate (image-bytes places) 0) 0 vs ∙ length-replicate {A = ℕ} (image-bytes places) 0
 
 pub buffer-says : (r : Bool) (b after vs : List ℕ) → after ≡ sets (replicate (image-bytes places) 0) 0 vs → length b ≡ length vs → length vs ≤ (image-bytes places) → Says r (b ≡ take (length b) after) → Says r (vs ≡ b)
-buffer-says r b after vs ea e h s = same-says r b (replicate (image-bytes places) 0) after vs ea e (rw (length-replicate (image-bytes places)) h) s
+buffer-says r b after vs ea e h s =
+    let p : take (length b) after ≡ vs = rw (ea, e) (saved-part (replicate (image-bytes places) 0) vs (rw (length-replicate (image-bytes places)) h)) in
+    says-as r s (λ q. sym (q ∙ p)) (λ q. sym (p ∙ q))

@@ -5,7 +5,7 @@ use mathlib.Core.Bool.{true, false}
 use mathlib.Core.List.{List, [], _∷_}
 use native.Mathlib.Omega.{arith}
 use native.Mathlib.Decide.{decLt}
-use borrow.Author.Tests.{lt-ltb, le-ltb}
+use borrow.Author.Tests.{ltb-true}
 use lib.Dec.{ltb}
 use native.Mathlib.Nat.{mul-le-mul, mul-le-mul-left, mod-lt}
 use lib.ListN.{length, getD, take, drop, replicate}
@@ -84,17 +84,19 @@ module _ (ps : ℕ) where
   unfoldable pub cellFor : List ℕ → ℕ → ℕ → ℕ → Cell
   cellFor b n m s = pick (ltb (s / desk-cells) n) (pick (ltb (s % desk-cells) m) (cellFrom b (cellPlace ps n m (s / desk-cells) (s % desk-cells))) noCell) noCell
 
+  pub for-cases : (b : List ℕ) (n m s : ℕ) (P : Cell → Type 0) → (s / desk-cells < n → s % desk-cells < m → P (cellFrom b (cellPlace ps n m (s / desk-cells) (s % desk-cells)))) → P noCell → P (cellFor b n m s)
+  unfolding cellFor
+  for-cases b n m s P f z =
+      cases (ltb (s / desk-cells) n)
+      (λ a. rw a (cases (ltb (s % desk-cells) m) (λ c. rw c (f (ltb-true (s / desk-cells) n a) (ltb-true (s % desk-cells) m c))) (λ c. rw c z)))
+      (λ a. rw a z)
+
   -- the sizes that an image tells of itself are in range, and its length is theirs
   pub record Fits (b : List ℕ) : Type 0 where
     pub desks : (1 ≤ nIn b) × (nIn b ≤ ps)
     pub cells : (1 ≤ mIn b) × (mIn b ≤ desk-cells)
     pub few : countIn b ≤ entries
     pub size : length b ≡ block-bytes * (1 + nIn b + perDesk ps (mIn b) * nIn b + blocks-for (opens-in ps) (countIn b))
-
-  pub fits-is : (b : List ℕ) (n m count : ℕ) → n ≡ nIn b → m ≡ mIn b → count ≡ countIn b → (n ≡ 0 → ⊥) → n ≤ ps → (m ≡ 0 → ⊥) → m ≤ desk-cells → count ≤ entries
-      → length b ≡ block-bytes * (1 + n + perDesk ps m * n + blocks-for (opens-in ps) count) → Fits b
-  fits-is b n m count en em ec a n8 d m64 few e =
-      record { desks = (omega arith, omega arith); cells = (omega arith, omega arith); few = omega arith; size = rw (en, em, ec) at e }
 
   -- the rows that were read
   abbrev pub CellsRead : List ℕ → ℕ → ℕ → List ℕ → Type 0
@@ -111,11 +113,9 @@ module _ (ps : ℕ) where
 
   module _ (wd : Wide ps) (b : List ℕ) (h : Fits b) where
     few-blocks : perDesk ps (mIn b) ≤ row-most ps
-    unfolding perDesk
     few-blocks = blocks-mono (cells-in ps) (mIn b) desk-cells (some-cells ps wd) (h .cells .1)
 
     row-block : (x : ℕ) → x < mIn b → x / cells-in ps < perDesk ps (mIn b)
-    unfolding perDesk
     row-block x hx = block-of (cells-in ps) (mIn b) x (some-cells ps wd) hx
 
     -- a piece of w bytes, the j-th of its block
@@ -132,49 +132,23 @@ module _ (ps : ℕ) where
           let a = fit w in
           record { desks = n8; before = mul-le-mul z3 i8; block = hq; payload = omega arith; is = omega arith; ends = omega arith }
 
-    cell-within : (i x c : ℕ) → c ≡ perDesk ps (mIn b) → i < nIn b → x < mIn b → Within b (nIn b) (c * i) (x / cells-in ps) (cell-bytes ps * (x % cells-in ps)) (cell-bytes ps) (cellPlace ps (nIn b) (mIn b) i x)
-    cell-within i x c e hi hx =
-        let a = row-block x hx in
-        let z = few-blocks in
-        piece-within (nIn b) c i (x % cells-in ps) (x / cells-in ps) (cell-bytes ps) e refl (omega arith) (omega arith) (mod-lt x (some-cells ps wd)) (omega arith)
-        (let g = mul-le-mul-left (perDesk ps (mIn b)) hi in omega arith)
-
-    open-within : (p c : ℕ) → c ≡ perDesk ps (mIn b) → p < countIn b → Within b (nIn b) (c * nIn b) (p / opens-in ps) (open-bytes ps * (p % opens-in ps)) (open-bytes ps) (openPlace ps (nIn b) (mIn b) p)
-    open-within p c e hp =
-        let a = block-of (opens-in ps) (countIn b) p (some-opens ps wd) hp in
-        let z : blocks-for (opens-in ps) (countIn b) ≤ opens-most ps = blocks-mono (opens-in ps) (countIn b) entries (some-opens ps wd) (h .few) in
-        piece-within (nIn b) c (nIn b) (p % opens-in ps) (p / opens-in ps) (open-bytes ps) e refl (omega arith) (omega arith) (mod-lt p (some-opens ps wd)) (omega arith) (omega arith)
-
-    -- at the code's own numbers
+    -- a cell and an open write, at the code's own numbers
     pub cell-where : (n m i x c : ℕ) → n ≡ nIn b → m ≡ mIn b → c ≡ perDesk ps m → i < n → x < m → Within b n (c * i) (x / cells-in ps) (cell-bytes ps * (x % cells-in ps)) (cell-bytes ps) (cellPlace ps n m i x)
-    cell-where n m i x c en em ec hi hx = rw (en, em) (cell-within i x c (ec ∙ ap (perDesk ps) em) (omega arith) (omega arith))
+    cell-where n m i x c en em ec hi hx =
+        let a = row-block x (omega arith) in
+        let z = few-blocks in
+        let k : i < nIn b = omega arith in
+        rw (en, em) (piece-within (nIn b) c i (x % cells-in ps) (x / cells-in ps) (cell-bytes ps) (ec ∙ ap (perDesk ps) em) refl (omega arith) (omega arith) (mod-lt x (some-cells ps wd)) (omega arith)
+        (let g = mul-le-mul-left (perDesk ps (mIn b)) k in omega arith))
 
     pub open-where : (n m p c count : ℕ) → n ≡ nIn b → m ≡ mIn b → c ≡ perDesk ps m → count ≡ countIn b → p < count → Within b n (c * n) (p / opens-in ps) (open-bytes ps * (p % opens-in ps)) (open-bytes ps) (openPlace ps n m p)
-    open-where n m p c count en em ec eq hp = rw (en, em) (open-within p c (ec ∙ ap (perDesk ps) em) (omega arith))
+    open-where n m p c count en em ec eq hp =
+        let a = block-of (opens-in ps) (countIn b) p (some-opens ps wd) (omega arith) in
+        let z : blocks-for (opens-in ps) (countIn b) ≤ opens-most ps = blocks-mono (opens-in ps) (countIn b) entries (some-opens ps wd) (h .few) in
+        rw (en, em) (piece-within (nIn b) c (nIn b) (p % opens-in ps) (p / opens-in ps) (open-bytes ps) (ec ∙ ap (perDesk ps) em) refl (omega arith) (omega arith) (mod-lt p (some-opens ps wd)) (omega arith) (omega arith))
 
     pub desks-within : block-bytes + block-bytes * nIn b ≤ length b
     desks-within = omega (arith, h .size)
-
-  -- as the code picks them
-  pub cell-there : (b : List ℕ) (n m s i x at : ℕ) (c : Cell) → i ≡ s / desk-cells → x ≡ s % desk-cells → i < n → x < m → at ≡ cellPlace ps n m i x → c ≡ cellFrom b at → c ≡ cellFor b n m s
-  unfolding cellFor
-  cell-there b n m s i x at c ei ex hi hx ea e = e ∙ rw (← ei, ← ex, lt-ltb i n hi, lt-ltb x m hx, ea)
-
-  pub cell-past : (b : List ℕ) (n m s x : ℕ) (c : Cell) → x ≡ s % desk-cells → m ≤ x → c ≡ noCell → c ≡ cellFor b n m s
-  unfolding cellFor
-  cell-past b n m s x c ex h e = rw (← ex, le-ltb x m h) (cases (ltb (s / desk-cells) n) (λ t. rw t e) (λ t. rw t e))
-
-  pub cell-off : (b : List ℕ) (n m s i : ℕ) (c : Cell) → i ≡ s / desk-cells → n ≤ i → c ≡ noCell → c ≡ cellFor b n m s
-  unfolding cellFor
-  cell-off b n m s i c ei h e = rw (← ei, le-ltb i n h) e
-
-  pub desk-there : (b : List ℕ) (n i : ℕ) (d : Desk) → i < n → d ≡ deskFrom b i → d ≡ deskFor b n i
-  unfolding deskFor
-  desk-there b n i d h e = rw (lt-ltb i n h) e
-
-  pub desk-past : (b : List ℕ) (n i : ℕ) (d : Desk) → n ≤ i → d ≡ noDesk → d ≡ deskFor b n i
-  unfolding deskFor
-  desk-past b n i d h e = rw (le-ltb i n h) e
 
   -- one row more
   pub cells-more : (b : List ℕ) (n m s : ℕ) (l r : List ℕ) (c : Cell) → ((t : ℕ) → t < s → cellAt l t ≡ cellFor b n m t) → s < all-cells → c ≡ cellFor b n m s → CellPut l s c r

@@ -107,14 +107,13 @@ fn read_open(b: &[u8], at: usize) -> Open
     requires { ⌜ at + open-bytes places ≤ length (now b) ⌝ }
     ensures { λ r. ⌜ r ≡ openFrom places (now (b .entry)) at ⌝ }
 {
-    let writer = wide(b[at]);
-    let status = wide(b[at + 1]);
+    let c = read_cell(b, at);
+    let vector = c.vector;
     let cell = wide(b[at + 2]);
-    let vector = words_at(b, at + VECTOR_AT);
     let marks = bytes_at(b, at + AFTER_VECTOR);
     Open {
-        writer: writer,
-        status: status,
+        writer: c.writer,
+        status: c.status,
         cell: cell,
         vector: vector,
         marks: marks,
@@ -148,25 +147,13 @@ fn sizes_fit(b: &[u8]) -> bool
     let n = size(b[PAYLOAD_AT]);
     let m = size(b[5]);
     let count = size(b[6]);
-    if n == 0 {
-        return false;
-    }
-    if PLACES < n {
-        return false;
-    }
-    if m == 0 {
-        return false;
-    }
-    if CELLS < m {
+    if !table::begins(n, m) {
         return false;
     }
     if OPENS < count {
         return false;
     }
-    if b.len() != image::length_of(n, m, count) {
-        return false;
-    }
-    true
+    b.len() == image::length_of(n, m, count)
 }
 
 fn desk_or(b: &[u8], n: usize, i: usize) -> Desk

@@ -15,7 +15,7 @@ use Rattle.table.specs.Model.{tableWith}
 
 abbrev Inv-loop : tie.InvT-loop
 Inv-loop cells₀ opens₀ text at put out₀ from last₀ part₀ place₀ len₀ cells opens out last part place len =
-    (length part ≡ most-part) × ((z : Session) → Holds (tableWith last₀ cells₀ opens₀) z → Lining z text place₀ put out₀ from (last .n) (last .m) (last .desks) cells opens place len out)
+    (length part ≡ most-part) × ((z : Session) → Holds (tableWith last₀ cells₀ opens₀) z → Lining z text place₀ put out₀ from (tableWith last cells opens) place len out)
 
 abbrev μ-loop : tie.MeasureT-loop
 μ-loop cells₀ opens₀ text at put out₀ from last₀ part₀ place₀ len₀ cells opens out last part place len = length text - place

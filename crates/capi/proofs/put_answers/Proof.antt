@@ -16,13 +16,10 @@ lines-requires c κs =
     let p = c .before .before .before .before .before .before .before .before .before .before .pre in
     (p .0, (p .1 .0, λ z h e. omega (arith, p .1 .1 .1 z h refl, c .before .before .before .before .before .copy .kept)))
 
-same-length : tie.Need-same-length
-same-length c = search needs
-
 returns : tie.Need-returns
 returns c w h =
     let a = c .before .before .before .before .before .before .before .before .before .before .before .before .before .args in
     both-put (a .first .now) (a .len) (transcriptFrom w (a .text .now) (a .at)) (a .answers .now) (c .before .before .before .before .before .before .before .before .before .before .before .before .before .pre .1 .1 .0) (c .before .before .before .before .before .before .before .before .copy .ensures) (c .before .before .lines .ensures w h .stored)
 
 pub put-answers-spec : {M : Type 1} → statement M
-put-answers-spec = tie.close (tie.spec copy-requires lines-requires same-length returns)
+put-answers-spec = tie.close (tie.spec copy-requires lines-requires (λ c. search needs) returns)

@@ -6,17 +6,11 @@ use borrow.Author.Needs.{needs}
 use Rattle.capi.proofs.start.Statement.{statement}
 use Rattle.capi.proofs.start.Tie as tie
 
-begin-requires : tie.Need-begin-requires
-begin-requires c κs = search needs
-
 returns : tie.Need-returns
 unfolding beginTable
 returns c =
     let b = c .before .begin in
     empty-starts (c .before .before .before .before .args .image .now) (b .result .table) (c .before .before .if1 .taken) (ap (λ (r : Begun). r .table) (b .ensures .is))
-
-load-requires : tie.Need-load-requires
-load-requires c κs = search needs
 
 returns-2 : tie.Need-returns-2
 returns-2 c =
@@ -24,4 +18,4 @@ returns-2 c =
     image-starts (c .before .before .before .args .image .now) (l .result .answer) (l .result .table) (c .before .if1 .left) (l .ensures)
 
 pub start-spec : {M : Type 1} → statement M
-start-spec = tie.close (tie.spec begin-requires returns load-requires returns-2)
+start-spec = tie.close (tie.spec (λ c κs. search needs) returns (λ c κs. search needs) returns-2)

@@ -1,39 +1,54 @@
 use Rattle.clock.specs.Vectors.{places}
-use Rattle.image.specs.Limits.{payload-at, cell-bytes, cells-in}
-use Rattle.image.specs.Parts.{cellPiece, length-cellPiece, one-more, filled}
-use Rattle.laws.specs.Cat.{cat}
+use Rattle.image.specs.Limits.{payload-at, cell-bytes, cells-in, fit}
+use Rattle.laws.specs.Cat.{cat, length-cat}
 use lib.Seq.{sets}
 use mathlib.Core.Path.{_≡_, refl, _∙_}
 use native.Mathlib.Omega.{arith}
-use Prim.Native.Nat.{_+_, _≤_, _-_, _*_}
+use Rattle.image.specs.Parts.{CellFor, cellPiece, length-cellPiece, cell-there, cell-past, one-more}
+use Rattle.image.specs.Block.{cellRaw, made, zeros-behind}
+use Rattle.table.specs.Value.{desk-cells}
+use Prim.Native.Nat.{_+_, _*_, _≤_, _-_, min}
 use borrow.Author.Needs.{needs}
 use Rattle.image.proofs.cell_block.Statement.{statement}
 use Rattle.image.proofs.cell_block.Tie as tie
-use Rattle.image.proofs.cell_block.Reads as reads
-use Rattle.image.proofs.cell_block.Lts as lts
-use Rattle.image.proofs.cell_or.Reads as cell-or-reads
-use Rattle.image.proofs.put_cell.Reads as put-cell-reads
-use Rattle.image.proofs.put_head.Reads as put-head-reads
-use Rattle.image.proofs.seal.Reads as seal-reads
 
 abbrev Inv-loop : tie.InvT-loop
-Inv-loop at cells i q b₀ j₀ b j = (j ≤ cells-in places) × (b ≡ sets b₀ payload-at (cat (cellPiece places cells i q) j))
+Inv-loop at cells i q b₀ first end j₀ b j = (j ≤ cells-in places) × ((b ≡ sets b₀ payload-at (cat (cellPiece places cells i q) j)) × ((first ≡ cells-in places * q) × (end ≡ min desk-cells (first + cells-in places))))
 
 abbrev μ-loop : tie.MeasureT-loop
-μ-loop at cells i q b₀ j₀ b j = cells-in places - j
+μ-loop at cells i q b₀ first end j₀ b j = cells-in places - j
+
+there : (c : tie.After-cell-at Inv-loop μ-loop) → (let A = c .before .before .before .before .before .before .args in CellFor places (A .cells .now) (A .i) (cells-in places * A .q + c .before .before .loop .j) (c .cell-at .result))
+there c =
+    let A = c .before .before .before .before .before .before .args in
+    let P = c .before .before .before .before .before .before .pre in
+    let x = c .before .before .loop .inv .1 .1 in
+    cell-there places (A .cells .now) (A .i) (cells-in places * A .q + c .before .before .loop .j) _ (c .cell-at .result) (P .0) (omega arith) refl (P .1 .1) (c .cell-at .ensures)
 
 loop-holds : tie.Need-loop-holds Inv-loop μ-loop
 unfolding cat
 loop-holds c = search needs
 
+put-record-requires : tie.Need-put-record-requires Inv-loop μ-loop
+put-record-requires c κs = let s = there (c .before .before) .small in (search needs, (s .writer, (s .status, search needs)))
+
 loop-again : tie.Need-loop-again Inv-loop μ-loop
-loop-again c = let L = c .before .before .before .before .loop in let A = c .before .before .before .before .before .before .before .args in
-    (search needs, one-more (cellPiece places (A .cells .now) (A .i) (A .q)) (cell-bytes places) (length-cellPiece places (A .cells .now) (A .i) (A .q)) (c .before .before .before .before .before .put-head .last .0) (L .b) (c .put-cell .last .0) _ payload-at (L .j) (payload-at + cell-bytes places * L .j) (L .inv .1) refl (c .before .before .cell-or .ensures .bytes) (c .put-cell .ensures))
+unfolding cellRaw
+loop-again c =
+    let L = c .before .before .before .before .before .loop in
+    let A = c .before .before .before .before .before .before .before .before .before .args in
+    (search needs, (one-more (cellPiece places (A .cells .now) (A .i) (A .q)) (cell-bytes places) (length-cellPiece places (A .cells .now) (A .i) (A .q)) _ payload-at (L .j) (L .inv .1 .0) refl (there (c .before .before .before) .bytes) (c .put-record .ensures), L .inv .1 .1))
 
 returns : tie.Need-returns Inv-loop μ-loop
-returns c = let L = c .before .before .before .loop in let A = c .before .before .before .before .before .before .args in
-    let e : L .j ≡ cells-in places = omega arith in
-    filled 3 (A .at) (cells-in places) (cell-bytes places) (cellPiece places (A .cells .now) (A .i) (A .q)) (c .before .before .before .before .put-head .last .0) (L .b) (c .seal .last .0) (length-cellPiece places (A .cells .now) (A .i) (A .q)) (omega arith) (c .before .before .before .before .put-head .ensures) (L .inv .1 ∙ rw e) (c .seal .ensures)
+returns c =
+    let L = c .before .before .before .loop in
+    let A = c .before .before .before .before .before .before .before .args in
+    let f = cellPiece places (A .cells .now) (A .i) (A .q) in
+    let l = length-cellPiece places (A .cells .now) (A .i) (A .q) in
+    let h = fit (cell-bytes places) in
+    let x = L .inv .1 .1 in
+    made 3 (A .at) _ (omega (arith, length-cat f (cell-bytes places) l (L .j))) (c .before .before .before .before .before .put-head .ensures) (L .inv .1 .0) (c .seal .ensures)
+    ∙ zeros-behind 3 (A .at) (cell-bytes places) (L .j) (cells-in places) f (L .inv .0) l h (λ j g m. cell-past places (A .cells .now) (A .i) (A .q) j (omega arith))
 
 pub cell-block-spec : {M : Type 1} → statement M
 cell-block-spec =
@@ -42,13 +57,18 @@ cell-block-spec =
     Inv-loop
     μ-loop
     (λ c κs. search needs)
+    (λ c. search needs)
+    (λ c. search needs)
+    (λ c κs. search needs)
     loop-holds
     (λ c. search needs)
     (λ c. search needs)
-    (λ c κs. search needs)
     (λ c. search needs)
     (λ c. search needs)
     (λ c κs. search needs)
+    (λ c. search needs)
+    (λ c. search needs)
+    put-record-requires
     (λ c. search needs)
     (λ c. search needs)
     loop-again

@@ -10,9 +10,6 @@ use Rattle.image.proofs.cells_end.Tie as tie
 use Rattle.image.proofs.cells_end.Reads as reads
 use Rattle.image.proofs.cells_end.Lts as lts
 
-add-result : tie.Need-add-result
-add-result c = search needs
-
 mul-result : tie.Need-mul-result
 mul-result c = let h : c .args .c * c .args .n ≤ rows-most places = mul-le-mul (c .pre .1) (c .pre .0) in omega arith
 
@@ -23,4 +20,4 @@ returns : tie.Need-returns
 returns c = let h : c .args .c * c .args .n ≤ rows-most places = mul-le-mul (c .pre .1) (c .pre .0) in (refl, omega arith)
 
 pub cells-end-spec : {M : Type 1} → statement M
-cells-end-spec = tie.close (tie.spec add-result mul-result add-result-2 returns)
+cells-end-spec = tie.close (tie.spec (λ c. search needs) mul-result add-result-2 returns)

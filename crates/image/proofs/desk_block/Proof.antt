@@ -1,29 +1,24 @@
-use Rattle.image.specs.Limits.{wide}
-use Rattle.image.specs.Block.{desk-steps}
 use Rattle.clock.specs.Vectors.{places}
+use Rattle.clock.specs.Vectors.{place}
+use Rattle.image.specs.Limits.{wide, payload-at}
+use Rattle.image.specs.Encode.{deskBytes}
+use Rattle.image.specs.Fields.{length-desk}
+use Rattle.image.specs.Block.{behind, made}
+use mathlib.Core.Path.{_∙_}
+use native.Mathlib.Omega.{arith}
 use borrow.Author.Needs.{needs}
 use Rattle.image.proofs.desk_block.Statement.{statement}
 use Rattle.image.proofs.desk_block.Tie as tie
-use Rattle.image.proofs.desk_block.Reads as reads
-use Rattle.image.proofs.desk_block.Lts as lts
-use Rattle.image.proofs.byte.Reads as byte-reads
-use Rattle.image.proofs.put_head.Reads as put-head-reads
-use Rattle.image.proofs.put_words.Reads as put-words-reads
-use Rattle.image.proofs.seal.Reads as seal-reads
 
 returns : tie.Need-returns
-returns c = let A = c .before .before .before .before .before .before .before .before .before .before .before .before .args in
-    desk-steps places wide (A .at) (A .i) (c .before .before .before .before .before .before .before .before .before .byte .result) (A .d .applied) (A .d .clock .at) (c .before .before .before .before .before .before .before .before .before .before .put-head .last .0) (c .before .before .before .before .before .before .put-words .last .0) (c .before .before .put-words2 .last .0) (c .seal .last .0)
-    (c .before .before .before .before .before .before .before .before .before .byte .ensures) (c .before .before .before .before .before .before .before .before .before .before .put-head .ensures) (c .before .before .before .before .before .before .put-words .ensures) (c .before .before .put-words2 .ensures) (c .seal .ensures)
+unfolding deskBytes
+returns c =
+    let A = c .before .before .before .before .before .before .before .before .before .before .before .args in
+    let h = c .before .before .before .before .before .before .before .before .before .put-head in
+    made 2 (A .k) _ (omega (arith, length-desk places (A .k) (place (A .d .applied)) (place (A .d .clock .at)), wide .desk)) (h .ensures)
+    (c .before .before .put-words .ensures ∙ rw (c .before .before .before .before .before .before .put-record .ensures) (behind places (h .last .0) payload-at (A .k) 0 0 (place (A .d .applied)) _)) (c .seal .ensures)
 
 pub desk-block-spec : {M : Type 1} → statement M
 desk-block-spec =
     tie.close
-    (tie.spec
-    (λ c κs. search needs)
-    (λ c κs. search needs)
-    (λ c. search needs)
-    (λ c κs. search needs)
-    (λ c κs. search needs)
-    (λ c κs. search needs)
-    returns)
+    (tie.spec (λ c κs. search needs) (λ c κs. search needs) (λ c κs. search needs) (λ c κs. search needs) returns)

@@ -27,27 +27,14 @@ loop-holds : tie.Need-loop-holds Inv-loop μ-loop
 unfolding cat
 loop-holds c = (search needs, (ordered-none _ _, search needs))
 
-own-count-requires : tie.Need-own-count-requires Inv-loop μ-loop
-own-count-requires c κs = let d = c .before .before .before .pre .1 .desks in omega arith
-
-lowest-requires : tie.Need-lowest-requires Inv-loop μ-loop
-lowest-requires c κs = let d = c .before .before .before .before .pre .1 .desks in omega arith
-
-add-order-of : tie.Need-add-order-of Inv-loop μ-loop
-add-order-of c = let d = c .before .before .before .before .before .pre .1 .desks in omega arith
-
 order-of-requires : tie.Need-order-of-requires Inv-loop μ-loop
-order-of-requires c κs = let L = (c .before .before .before .before .loop) in let A = (c .before .before .before .before .before .before .args) in let K = c .before .before .before .before .before .before .pre .1 in
+order-of-requires c κs = let L = (c .before .before .before .before .loop) in let A = (c .before .before .before .before .before .before .args) in let K = c .before .before .before .before .before .before .pre .1 .1 in
     let eo = c .before .before .own-count .ensures in let el = c .before .lowest .ensures in
-    let d = K .desks in
     let lo = low-own (A .n) (appliedM (A .desks)) (suc (L .u)) in
     let room = known-room (A .n) (A .desks) (A .opens .now) (L .u) K (c .before .before .before .loop-test .taken) in
     let s = L .inv .1 .0 .size in
     let q = add-one (L .u) in
     (((omega arith, omega arith), (omega arith, omega arith)), λ k a b. rw q (K .found (L .u) k (c .before .before .before .loop-test .taken) (omega arith) (omega arith)))
-
-add-u : tie.Need-add-u Inv-loop μ-loop
-add-u c = let d = c .before .before .before .before .before .before .before .before .before .pre .1 .desks in omega arith
 
 loop-again : tie.Need-loop-again Inv-loop μ-loop
 loop-again c = let L = (c .before .before .before .before .before .before .before .loop) in let A = (c .before .before .before .before .before .before .before .before .before .args) in (
@@ -69,11 +56,11 @@ order-all-spec =
     Inv-loop
     μ-loop
     loop-holds
-    own-count-requires
-    lowest-requires
-    add-order-of
+    (λ c κs. search needs)
+    (λ c κs. search needs)
+    (λ c. search needs)
     order-of-requires
-    add-u
+    (λ c. search needs)
     (λ c. search needs)
     loop-again
     (λ c. search needs)

@@ -33,17 +33,22 @@ loop-holds c = (search needs, rw sub-zero (sound-start (c .before .before .befor
 right-requires : tie.Need-right-requires Inv-loop μ-loop
 right-requires c κs = simp (length-take, length-drop) (omega arith)
 
-returns-3 : tie.Need-returns-3 Inv-loop μ-loop
+-- the block that was looked at
+looked : (c : tie.After-right Inv-loop μ-loop) → rightCheck (blockIn (c .before .before .before .before .before .before .before .args .b .now) (c .before .before .before .loop .k)) ≡ c .right .result
 unfolding part
-returns-3 c = let L = (c .before .before .before .before .loop) in let b = c .before .before .before .before .before .before .before .before .args .b .now in let q : block-bytes * L .k + block-bytes - block-bytes * L .k ≡ block-bytes = omega arith in
-    let t : c .before .right .result ≡ rightCheck (take (block-bytes * L .k + block-bytes - block-bytes * L .k) (drop (block-bytes * L .k) b)) = c .before .right .ensures in
-    let e : rightCheck (blockIn b (L .k)) ≡ c .before .right .result = sym (t ∙ rw q) in sym (all-fails (λ k. rightCheck (blockIn b k)) (length b / block-bytes) (L .k) (search needs) (e ∙ not-true _ (c .if3 .taken))) ∙ L .inv .1
+looked c = let k = c .before .before .before .loop .k in let q : block-bytes * k + block-bytes - block-bytes * k ≡ block-bytes = omega arith in sym (rw q at (c .right .ensures))
+
+returns-3 : tie.Need-returns-3 Inv-loop μ-loop
+returns-3 c =
+    let L = c .before .before .before .before .loop in
+    let b = c .before .before .before .before .before .before .before .before .args .b .now in
+    sym (all-fails (λ k. rightCheck (blockIn b k)) (length b / block-bytes) (L .k) (search needs) (looked (c .before) ∙ not-true _ (c .if3 .taken))) ∙ L .inv .1
 
 loop-again : tie.Need-loop-again Inv-loop μ-loop
-unfolding part
-loop-again c = let L = (c .before .before .before .before .loop) in let b = c .before .before .before .before .before .before .before .before .args .b .now in let q : block-bytes * L .k + block-bytes - block-bytes * L .k ≡ block-bytes = omega arith in
-    let t : c .before .right .result ≡ rightCheck (take (block-bytes * L .k + block-bytes - block-bytes * L .k) (drop (block-bytes * L .k) b)) = c .before .right .ensures in
-    let e : rightCheck (blockIn b (L .k)) ≡ c .before .right .result = sym (t ∙ rw q) in (search needs, sym (all-next (λ k. rightCheck (blockIn b k)) (length b / block-bytes) (L .k) (search needs) (e ∙ not-false _ (c .if3 .left))) ∙ L .inv .1)
+loop-again c =
+    let L = c .before .before .before .before .loop in
+    let b = c .before .before .before .before .before .before .before .before .args .b .now in
+    (search needs, sym (all-next (λ k. rightCheck (blockIn b k)) (length b / block-bytes) (L .k) (search needs) (looked (c .before) ∙ not-false _ (c .if3 .left))) ∙ L .inv .1)
 
 returns-4 : tie.Need-returns-4 Inv-loop μ-loop
 returns-4 c = let L = (c .before .loop) in sym (all-end _ _ (L .k) (search needs)) ∙ L .inv .1

@@ -9,15 +9,6 @@ use Rattle.image.proofs.term.Reads as reads
 use Rattle.image.proofs.term.Lts as lts
 use Rattle.image.proofs.wide.Reads as wide-reads
 
-cast-result : tie.Need-cast-result
-cast-result c = search needs
-
-add-result : tie.Need-add-result
-add-result c = search needs
-
-wide-requires : tie.Need-wide-requires
-wide-requires c κs = search needs
-
 mul-result : tie.Need-mul-result
 mul-result c = let w = c .wide .ensures in let h : (c .before .args .j + 1) * c .wide .result ≤ check-at * 255 = mul-le-mul {n₂ = check-at} {m₂ = 255} (omega arith) (omega arith) in omega arith
 
@@ -25,4 +16,4 @@ returns : tie.Need-returns
 returns c = let w = c .wide .ensures in let h : (c .before .args .j + 1) * c .wide .result ≤ check-at * 255 = mul-le-mul {n₂ = check-at} {m₂ = 255} (omega arith) (omega arith) in (rw (w .0), h)
 
 pub term-spec : {M : Type 1} → statement M
-term-spec = tie.close (tie.spec cast-result add-result wide-requires mul-result returns)
+term-spec = tie.close (tie.spec (λ c. search needs) (λ c. search needs) (λ c κs. search needs) mul-result returns)

@@ -2,12 +2,6 @@ use borrow.Author.Needs.{needs}
 use Rattle.image_reload.proofs.step.Statement.{statement}
 use Rattle.image_reload.proofs.step.Tie as tie
 
-slice-aggregate-run : tie.Need-slice-aggregate-run
-slice-aggregate-run c = search needs
-
-run-requires : tie.Need-run-requires
-run-requires c κs = search needs
-
 returns : tie.Need-returns
 returns c =
     let p = c .before .before .before .before .before .before .before .before .before .before .pre in
@@ -15,4 +9,4 @@ returns c =
     record { session = r .session; holds = r .holds }
 
 pub step-spec : {M : Type 1} → statement M
-step-spec = tie.close (tie.spec slice-aggregate-run run-requires returns)
+step-spec = tie.close (tie.spec (λ c. search needs) (λ c κs. search needs) returns)

@@ -10,12 +10,6 @@ use Rattle.load.proofs.read_table.Reads as read-table-reads
 use Rattle.load.proofs.sizes_fit.Reads as sizes-fit-reads
 use Rattle.load.proofs.zeros.Reads as zeros-reads
 
-sizes-fit-requires : tie.Need-sizes-fit-requires
-sizes-fit-requires c κs = search needs
-
-zeros-requires : tie.Need-zeros-requires
-zeros-requires c κs = search needs
-
 returns : tie.Need-returns
 returns c = reads-none (c .before .before .before .before .args .b .now) _ (λ h. apart (c .before .before .sizes-fit .result) (c .before .before .sizes-fit .ensures .from h) (not-true _ (c .before .if1 .taken)))
 
@@ -27,4 +21,4 @@ returns-2 c = reads-right (c .before .before .before .before .args .b .now) _ (c
 
 pub candidate-spec : {M : Type 1} → statement M
 candidate-spec =
-    tie.close (tie.spec sizes-fit-requires zeros-requires returns read-table-requires returns-2)
+    tie.close (tie.spec (λ c κs. search needs) (λ c κs. search needs) returns read-table-requires returns-2)

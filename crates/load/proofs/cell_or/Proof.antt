@@ -2,9 +2,10 @@ use Rattle.image.specs.Decode.{cellPlace}
 use Rattle.image.specs.Limits.{wide, cell-bytes, cells-in}
 use Rattle.clock.specs.Vectors.{places}
 use Rattle.table.specs.Value.{desk-cells}
-use Rattle.load.specs.Read.{Within, cell-where, cell-there, cell-past, cell-off}
+use Rattle.load.specs.Read.{Within, cell-where, cellFor}
+use borrow.Author.Tests.{lt-ltb, le-ltb}
 use native.Mathlib.Omega.{arith}
-use mathlib.Core.Path.{_∙_, refl}
+use mathlib.Core.Path.{_∙_}
 use Prim.Native.Nat.{_*_, _/_, _%_}
 use borrow.Author.Needs.{needs}
 use Rattle.load.proofs.cell_or.Statement.{statement}
@@ -32,16 +33,17 @@ read-cell-requires : tie.Need-read-cell-requires
 read-cell-requires c κs = let w = stands (c .before) in omega (arith, w .is, w .ends, c .field-place .ensures)
 
 returns : tie.Need-returns
+unfolding cellFor
 returns c =
-    let A = c .before .before .before .before .before .args in
-    cell-there places (A .b .now) (A .n) (A .m) (A .s) (A .s / desk-cells) (A .s % desk-cells) (c .before .field-place .result) _ refl refl (c .before .before .before .if1 .taken) (c .before .before .if2 .taken)
-    (c .before .field-place .ensures ∙ stands (c .before .before) .is) (c .read-cell .ensures)
+    c .read-cell .ensures ∙ rw (lt-ltb _ _ (c .before .before .before .if1 .taken), lt-ltb _ _ (c .before .before .if2 .taken), c .before .field-place .ensures ∙ stands (c .before .before) .is)
 
 returns-2 : tie.Need-returns-2
-returns-2 c = let A = c .before .before .before .args in cell-past places (A .b .now) (A .n) (A .m) (A .s) (A .s % desk-cells) _ refl (c .if2 .left) refl
+unfolding cellFor
+returns-2 c = rw (lt-ltb _ _ (c .before .if1 .taken), le-ltb _ _ (c .if2 .left))
 
 returns-3 : tie.Need-returns-3
-returns-3 c = let A = c .before .before .args in cell-off places (A .b .now) (A .n) (A .m) (A .s) (A .s / desk-cells) _ refl (c .if1 .left) refl
+unfolding cellFor
+returns-3 c = rw (le-ltb _ _ (c .if1 .left))
 
 pub cell-or-spec : {M : Type 1} → statement M
 cell-or-spec =

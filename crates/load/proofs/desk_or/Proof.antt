@@ -1,6 +1,5 @@
-use Rattle.clock.specs.Vectors.{places}
-use Rattle.load.specs.Read.{desk-there, desk-past}
-use mathlib.Core.Path.{refl}
+use Rattle.load.specs.Read.{deskFor}
+use borrow.Author.Tests.{lt-ltb, le-ltb}
 use borrow.Author.Needs.{needs}
 use Rattle.load.proofs.desk_or.Statement.{statement}
 use Rattle.load.proofs.desk_or.Tie as tie
@@ -8,14 +7,13 @@ use Rattle.load.proofs.desk_or.Reads as reads
 use Rattle.load.proofs.desk_or.Lts as lts
 use Rattle.load.proofs.read_desk.Reads as read-desk-reads
 
-read-desk-requires : tie.Need-read-desk-requires
-read-desk-requires c κs = search needs
-
 returns : tie.Need-returns
-returns c = let A = (c .before .before .before .args) in desk-there places (A .b .now) (A .n) (A .i) _ (c .before .if1 .taken) (c .read-desk .ensures)
+unfolding deskFor
+returns c = rw (lt-ltb _ _ (c .before .if1 .taken)) (c .read-desk .ensures)
 
 returns-2 : tie.Need-returns-2
-returns-2 c = let A = (c .before .before .args) in desk-past places (A .b .now) (A .n) (A .i) _ (c .if1 .left) refl
+unfolding deskFor
+returns-2 c = rw (le-ltb _ _ (c .if1 .left))
 
 pub desk-or-spec : {M : Type 1} → statement M
-desk-or-spec = tie.close (tie.spec read-desk-requires returns returns-2)
+desk-or-spec = tie.close (tie.spec (λ c κs. search needs) returns returns-2)

@@ -10,28 +10,10 @@ use Rattle.load.proofs.read_desk.Reads as reads
 use Rattle.load.proofs.read_desk.Lts as lts
 use Rattle.load.proofs.words_at.Reads as words-at-reads
 
-mul-at : tie.Need-mul-at
-mul-at c = search needs
-
-add-at : tie.Need-add-at
-add-at c = search needs
-
-add-at-2 : tie.Need-add-at-2
-add-at-2 c = search needs
-
-words-at-requires : tie.Need-words-at-requires
-words-at-requires c κs = search needs
-
-add-words-at : tie.Need-add-words-at
-add-words-at c = search needs
-
-words-at-requires-2 : tie.Need-words-at-requires-2
-words-at-requires-2 c κs = search needs
-
 returns : tie.Need-returns
 returns c = let i = c .before .before .before .args .i in let e : block-bytes + (block-bytes * i + (payload-at + vector-at)) + vector-bytes places ≡ block-bytes + (block-bytes * i + (payload-at + after-vector places)) = omega arith in rw (c .before .words-at .ensures, c .words-at2 .ensures, e)
 
 pub read-desk-spec : {M : Type 1} → statement M
 read-desk-spec =
     tie.close
-    (tie.spec mul-at add-at add-at-2 words-at-requires add-words-at words-at-requires-2 returns)
+    (tie.spec (λ c. search needs) (λ c. search needs) (λ c. search needs) (λ c κs. search needs) (λ c. search needs) (λ c κs. search needs) returns)

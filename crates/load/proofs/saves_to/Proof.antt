@@ -1,4 +1,4 @@
-use Rattle.load.specs.Loading.{image-most, same-says, buffer-long, buffer-says}
+use Rattle.load.specs.Loading.{image-most, buffer-long, buffer-says}
 use Rattle.load.specs.Read.{says-no}
 use Rattle.image.specs.Encode.{encode}
 use Rattle.table.specs.Model.{model}

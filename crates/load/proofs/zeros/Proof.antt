@@ -8,12 +8,9 @@ use Rattle.load.proofs.zeros.Reads as reads
 use Rattle.load.proofs.zeros.Lts as lts
 use Rattle.table.proofs.begin.Reads as begin-reads
 
-begin-requires : tie.Need-begin-requires
-begin-requires c κs = search needs
-
 returns : tie.Need-returns
 unfolding beginTable
 returns c = ap (λ (r : Begun). r .table) (c .before .begin .ensures .is)
 
 pub zeros-spec : {M : Type 1} → statement M
-zeros-spec = tie.close (tie.spec begin-requires returns)
+zeros-spec = tie.close (tie.spec (λ c κs. search needs) returns)

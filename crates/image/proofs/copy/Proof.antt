@@ -3,10 +3,10 @@ use mathlib.Core.Path.{_≡_}
 use native.Mathlib.Omega.{arith}
 use lib.ListN.{length, take}
 use lib.Seq.{sets}
 use Rattle.image.specs.Fill.{set-more}
 use borrow.Author.Needs.{needs}
-use Rattle.capi.proofs.copy.Statement.{statement}
-use Rattle.capi.proofs.copy.Tie as tie
+use Rattle.image.proofs.copy.Statement.{statement}
+use Rattle.image.proofs.copy.Tie as tie
 
 abbrev Inv-loop : tie.InvT-loop
 Inv-loop part len out₀ at j₀ out j = (j ≤ len) × ((out ≡ sets out₀ at (take j part)) × (length out ≡ length out₀))
