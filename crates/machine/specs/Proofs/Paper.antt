@@ -2,21 +2,22 @@
 use mathlib.Core.Path.{_≡_, refl, sym, ap, subst, _∙_}
 use mathlib.Core.Logic.{_≢_}
 use mathlib.Core.Bool.{true}
-use mathlib.Core.List.{List, [], _∷_, map}
+use mathlib.Core.List.{List, _∷_, map, []}
 use mathlib.Core.Option.{Option, none, some}
-use Prim.Native.Nat.{ℕ, zero, suc, _≤_}
+use Prim.Native.Nat.{ℕ, _≤_}
 use native.Mathlib.Omega.{arith}
 use Rattle.laws.specs.Update.{upd2, same-or, upd-other, upd2-same, upd2-other, upd2-all}
-use Rattle.machine.specs.Table.{most-open, Vec, Name, name, Cell, blank, set, held, done, Open, Setup, State}
-use Rattle.machine.specs.Answer.{Shown, unset, shown, shownOf, shows, wrote}
-use Rattle.machine.specs.Steps.{Out, failing, ready, isNone, read, everywhere, mark, apply, hold, nextNumber, newWrite, raise, write, firstDue, Settled, applyNext, settleBy, settle, reads, Step, Read, Write, Deliver, Trip, step}
+use Rattle.machine.specs.Table.{most-open, Name, name, Cell, blank, set, held, done, Open, Setup, State}
+use Rattle.machine.specs.Answer.{shownOf, shows, wrote}
+use Rattle.machine.specs.Steps.{Out, failing, read, everywhere, mark, apply, hold, nextNumber, newWrite, raise, write, Settled, settle, reads, Step, Read, Write, Deliver, Trip, step}
 use Rattle.machine.specs.Rules.{In, Frame, Rules}
 use Rattle.machine.specs.Refusals.{Accepted}
-use Rattle.machine.specs.Paper.{Value, Message, Process, READ, sent, returned, a-write, a-read, a-receipt, a-thread, Action, Does, does-write, does-read, does-receipt, does-thread, Runs, ends, then, Idle, vectorOf, valueOf, messageOf, waitingOf, desk, receiptOf, actionsOf, actor, PaperRun, KeepsMessage, OpenAs, shownBy}
-use Rattle.machine.specs.Proofs.Kept.{Midway, ReadyAt, ready-next, apply-midway, first-due, step-keeps-rules}
+use Rattle.machine.specs.Paper.{Message, Process, READ, sent, returned, a-write, a-read, a-receipt, a-thread, Action, Does, does-write, does-read, does-receipt, does-thread, Runs, ends, then, Idle, vectorOf, valueOf, messageOf, waitingOf, desk, receiptOf, actionsOf, actor, PaperRun, KeepsMessage, OpenAs, shownBy}
+use Rattle.machine.specs.Proofs.Kept.{Midway, ReadyAt, ready-next, step-keeps-rules, settle-all, delivered-at, delivered-midway}
 use Rattle.machine.specs.Proofs.Refusals.{not-refused, step-cases}
 use Rattle.machine.specs.Proofs.Cases.{Delivery, deliver-cases, still-cases, settle-keeps, reads-keep, setup-stays}
 use Rattle.machine.specs.Proofs.Desks.{Waiting, waitingAt, set-all, marked-is, everywhere-at, quiet-idle, read-here, read-there, receipt-here, hold-there, resume-here, apply-there, write-here, write-there}
+use Rattle.machine.specs.Proofs.Ready.{option-cases}
 
 -- a waiting message that is ready goes on, whatever else waits
 thread : {s : State} {i u k : ℕ} {w : Open} → Frame s → ReadyAt s i u k w → (q : Waiting)
@@ -53,18 +54,8 @@ abbrev pub Cascades : State → ℕ → Settled → Type 0
 Cascades s i r = Moves s i (map a-thread (r .names)) (r .state)
 
 pub cascade : (f : ℕ) {s : State} {i : ℕ} → Midway s i → In (s .setup .desks) i → Cascades s i (settle f s i)
-unfolding settle
-cascade zero m hi = stays
-cascade (suc f) {s} {i} m hi = by (λ s m hi. cascade f m hi) (firstDue s i) refl
-  where
-    by : ((s : State) → Midway s i → In (s .setup .desks) i → Cascades s i (settle f s i)) → (o : Option ℕ) → firstDue s i ≡ o
-        → Cascades s i (settleBy (λ s′. settle f s′ i) s i o)
-    by again none e = stays
-    by again (some u) e =
-        let d = first-due hi e .1 in
-        let k : ℕ = suc (s .applied i u) in
-        subst (λ (o : Option Open). Cascades s i (applyNext (λ s′. settle f s′ i) s i u o)) (sym (d .at .is))
-        (apply-then (m .frame) (d .at) (d .is-held) (again (apply s i u k (d .entry)) (apply-midway m (d .at)) hi))
+cascade f {i = i} m hi =
+    settle-all (λ f s r. Cascades s i r) (λ s m. stays) (λ f s m e. stays) (λ f s u m d r t. apply-then (m .frame) (d .at) (d .is-held) t) f m hi
 
 -- Read and trip --
 
@@ -85,13 +76,9 @@ trip-reads i (x ∷ xs) s =
 
 -- the next number of i is not open yet
 pub new-number : {s : State} (i : ℕ) → Frame s → s .opens i (nextNumber s i) ≡ none
-new-number {s} i f = by (s .opens i (nextNumber s i)) refl
-  where
-    by : (o : Option Open) → s .opens i (nextNumber s i) ≡ o → s .opens i (nextNumber s i) ≡ none
-    by none e = e
-    by (some w) e =
-        let t = f .open-exactly i (nextNumber s i) .0 (rw e) in
-        absurd (omega (arith, t .number .1, f .clocks .own i))
+new-number {s} i f =
+    option-cases (s .opens i (nextNumber s i)) (λ e. e)
+    (λ w e. let t = f .open-exactly i (nextNumber s i) .0 (rw e) in absurd (omega (arith, t .number .1, f .clocks .own i)))
 
 -- an outcome that, if accepted, is its actions
 abbrev IsRun : State → Step → Out → Type 0
@@ -121,9 +108,8 @@ module _ {s : State} (r : Rules s) where
         → Moves s i (a-receipt u (messageOf u w) ∷ a-thread (name u k) ∷ map a-thread (settle most-open (apply s i u k w) i .names)) (settle most-open (apply s i u k w) i .state)
     apply-moves e =
         let o = r .frame .open-write u k w (d .is) in
-        let at : ReadyAt s i u k w = record { desk = d .desk; is = d .is; ready = ap isNone e } in
-        let midway : Midway s i = record { frame = r .frame; quiet = λ j ne. r .quiet j } in
-        let rest = cascade most-open (apply-midway midway at) (d .desk) in
+        let at = delivered-at r d e in
+        let rest = cascade most-open (delivered-midway r d e) (d .desk) in
         record {
           runs =
               then does-receipt

@@ -2,7 +2,7 @@
 use mathlib.Core.Path.{_≡_, refl, sym, ap, subst, _∙_}
 use mathlib.Core.Logic.{_⊎_, inl, inr, ⊎-elim, _↔_}
 use mathlib.Core.Bool.{Bool, true, false, not, _&&_}
-use mathlib.Core.List.{List, [], _∷_}
+use mathlib.Core.List.{List, _∷_, []}
 use mathlib.Core.Option.{Option, none, some}
 use Prim.Native.Nat.{ℕ}
 use lib.Dec.{eqb, leb, ltb}
@@ -14,10 +14,9 @@ use Rattle.machine.specs.Table.{most-desks, most-cells, most-open, most-
 use Rattle.machine.specs.Answer.{Refusal, no-desk, no-cell, no-status, spent, full, own-write, no-write, received, trip-size, no-size, Answer, began, shows, wrote, holds, applies, judged, refused}
 use Rattle.machine.specs.Steps.{Out, refuse, need, within, failing, shownAt, read, nextNumber, write, openCount, reads, verdict, deliverBy, deliverOpen, Step, Read, Write, Deliver, Trip, step, begins, Begun, begin}
 use Rattle.machine.specs.Rules.{In}
+pub use Rattle.machine.specs.Proofs.Ready.{says-within}
 use Rattle.machine.specs.Refusals.{Row, _or_, rowsOf, rowsOfBegin, FirstFails, AllPass, Accepted}
 
-pub says-within : (n i : ℕ) → Says (within n i) (In n i)
-says-within n i = says-both (leb 1 i) (leb i n) (says-leb 1 i) (says-leb i n)
 
 -- an outcome by the rows: refused by the first that fails, or what is done if all pass
 record ByRows (s : State) (l : List Row) (effect o : Out) : Type 0 where
@@ -157,8 +156,6 @@ begin-refusal-exactly n m r =
     (λ hn hm. (λ e. absurd (not-refused began refl r e), ⊎-elim (λ (f : _ × _). absurd (f .0 (hn, hm))) (λ (f : _ × ⊥). absurd (f .1))))
     (λ h. (λ e. inl (h, cc), ⊎-elim (λ (f : _ × (r ≡ no-size)). ap refused (sym (f .1))) (λ (f : _ × ⊥). absurd (f .1))))
 
-pub begun-table : (n m : ℕ) → AllPass (rowsOfBegin n m) → begin n m .table ≡ some (fresh n m)
-begun-table n m h = begin-cases (λ o. o .table ≡ some (fresh n m)) (λ hn hm. refl) (λ f. absurd (f (h .0)))
 
 pub refused-no-table : (n m : ℕ) (r : Refusal) → begin n m .answer ≡ refused r → begin n m .table ≡ none
 refused-no-table n m r =
