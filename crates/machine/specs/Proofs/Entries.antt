@@ -95,6 +95,11 @@ mem-cases i h e {b} m = go (entryOf i (length h) e) (entries i (length h) e) (Li
     go l (nothing z _) (inr m) = absurd (List·Memᴰ·not-nil (rw z at m))
     go l (one b′ z o) (inr m) = inr (subst (OwnEntry i (length h) e) (sym (List·Memᴰ·eq-of-singleton (rw z at m))) o)
 
+-- of a write: it was there, or the event applies it
+pub applied-cases : {R : Type 0} (i : ℕ) (h : List Event) (e : Event) {w : Name} → List·Memᴰ (applied w) (deskList i (add h e))
+    → (List·Memᴰ (applied w) (deskList i h) → R) → (e ≡ apply-at i w → R) → R
+applied-cases i h e m f g = elim (mem-cases i h e m) [ inl m ↦ f m | inr o ↦ elim o [ reads x v q r ↦ clash (cc) | applies w q r ↦ g (cc) ] ]
+
 -- own reads --
 
 reads-listed : (i q : ℕ) (h : List Event) (p x : ℕ) (v : Shown) → At h p (read-at i x v) → List·Memᴰ (own-read (q + p) x v) (listFrom i q h)
@@ -202,33 +207,19 @@ latest-stable h e x old (applied w ∷ l) f =
 -- what a desk has and shows, after an event that applies nothing there
 module _ (i : ℕ) (h : List Event) (e : Event) (idle : (w : Name) → e ≡ apply-at i w → ⊥) where
   pub has-keep : (w : Name) → List·Memᴰ (applied w) (deskList i (add h e)) ↔ List·Memᴰ (applied w) (deskList i h)
-  has-keep w = (λ m. go (mem-cases i h e m), λ m. mem-old i h e m)
-    where
-      go : List·Memᴰ (applied w) (deskList i h) ⊎ OwnEntry i (length h) e (applied w) → List·Memᴰ (applied w) (deskList i h)
-      go (inl m) = m
-      go (inr (reads x v q r)) = clash (cc)
-      go (inr (applies w q r)) = absurd (idle w q)
+  has-keep w = (λ m. applied-cases i h e m (λ m. m) (λ q. absurd (idle w q)), λ m. mem-old i h e m)
 
   pub latest-keep : (x : ℕ) → AllWritten h (deskList i h) → latest (add h e) x (deskList i (add h e)) ≡ latest h x (deskList i h)
   unfolding latestFrom
   latest-keep x f =
       ap (latest (add h e) x) (desk-add i h e) ∙ latest-append (add h e) x unset (deskList i h) (entryOf i (length h) e)
-      ∙ go (entryOf i (length h) e) (entries i (length h) e) ∙ latest-stable h e x unset (deskList i h) f
-    where
-      go : (l : List Entry) → Entries i (length h) e l → latestFrom (add h e) x (latest (add h e) x (deskList i h)) l ≡ latest (add h e) x (deskList i h)
-      go l (nothing z _) = rw z
-      go l (one b z (reads y v q r)) = rw (z, r)
-      go l (one b z (applies w q r)) = absurd (idle w q)
+      ∙ elim (entries i (length h) e) [ nothing z _ ↦ rw z | one b z o ↦ elim o [ reads y v q r ↦ rw (z, r) | applies w q r ↦ absurd (idle w q) ] ]
+      ∙ latest-stable h e x unset (deskList i h) f
 
 -- and after one that applies w there
 module _ (i : ℕ) (h : List Event) (w : Name) where
   pub has-apply : (w′ : Name) → List·Memᴰ (applied w′) (deskList i (add h (apply-at i w))) → List·Memᴰ (applied w′) (deskList i h) ⊎ (w ≡ w′)
-  has-apply w′ m = go (mem-cases i h (apply-at i w) m)
-    where
-      go : List·Memᴰ (applied w′) (deskList i h) ⊎ OwnEntry i (length h) (apply-at i w) (applied w′) → List·Memᴰ (applied w′) (deskList i h) ⊎ (w ≡ w′)
-      go (inl m) = inl m
-      go (inr (reads x v q r)) = clash (cc)
-      go (inr (applies v q r)) = inr (cc)
+  has-apply w′ m = applied-cases i h (apply-at i w) m inl (λ q. inr (cc))
 
   pub has-applied : List·Memᴰ (applied w) (deskList i (add h (apply-at i w)))
   has-applied = mem-new i h (apply-at i w) (applies w refl refl)

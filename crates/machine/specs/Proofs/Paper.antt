@@ -16,8 +16,8 @@ use Rattle.machine.specs.Paper.{Message, Process, READ, sent, returned, 
 use Rattle.machine.specs.Proofs.Kept.{Midway, ReadyAt, ready-next, step-keeps-rules, settle-all, delivered-at, delivered-midway}
 use Rattle.machine.specs.Proofs.Refusals.{not-refused, step-cases}
 use Rattle.machine.specs.Proofs.Cases.{Delivery, deliver-cases, still-cases, settle-keeps, reads-keep, setup-stays}
-use Rattle.machine.specs.Proofs.Desks.{Waiting, waitingAt, set-all, marked-is, everywhere-at, quiet-idle, read-here, read-there, receipt-here, hold-there, resume-here, apply-there, write-here, write-there}
-use Rattle.machine.specs.Proofs.Ready.{option-cases}
+use Rattle.machine.specs.Proofs.Desks.{Waiting, waitingAt, set-all, marked-is, quiet-idle, read-here, read-there, receipt-here, hold-there, resume-here, apply-there, write-here, write-there}
+use Rattle.machine.specs.Proofs.Ready.{option-cases, done-everywhere, not-both}
 
 -- a waiting message that is ready goes on, whatever else waits
 thread : {s : State} {i u k : ℕ} {w : Open} → Frame s → ReadyAt s i u k w → (q : Waiting)
@@ -142,9 +142,6 @@ paper-run {s} r a ok =
 
 -- Messages --
 
-pub none-some : {A R : Type 0} {a : A} → none ≡ some a → R
-none-some e = absurd (let z : _≡_ {A = ℕ} 0 1 = cc in omega arith)
-
 keeps-self : (u : ℕ) (o : Option Open) → KeepsMessage u o o
 keeps-self u o w w′ e e′ = let same : w′ ≡ w = cc in ap (messageOf u) same
 
@@ -163,7 +160,7 @@ module _ (s₀ : State) where
   apply-keeps : (i : ℕ) (s : State) (u k : ℕ) (w : Open) → KeepsMessage u (s₀ .opens u k) (some w) → KeepsAll s → KeepsAll (apply s i u k w)
   apply-keeps i s u k w h f =
       one-keeps s u k _
-      (still-cases (KeepsMessage u (s₀ .opens u k)) (s .setup .desks) (mark w i done) (λ t w w′ e e′. none-some e′) (λ t. keeps-mark u i done h)) f
+      (still-cases (KeepsMessage u (s₀ .opens u k)) (s .setup .desks) (mark w i done) (λ t w w′ e e′. not-both refl e′) (λ t. keeps-mark u i done h)) f
 
 pub message-kept : {s : State} → Rules s → (a : Step) (u k : ℕ) → KeepsMessage u (s .opens u k) (step s a .state .opens u k)
 message-kept {s} r a = by a
@@ -178,7 +175,7 @@ message-kept {s} r a = by a
     by (Read i x) = step-cases s (Read i x) (λ o. KeepsAll s (o .state)) (λ r. same) (λ h. same)
     by (Write i x v) =
         step-cases s (Write i x v) (λ o. KeepsAll s (o .state)) (λ r. same)
-        (λ h. apply-keeps s i (raise s i) i (nextNumber s i) (newWrite s i x v) (λ w w′ e e′. none-some (sym (new-number i (r .frame)) ∙ e)) same)
+        (λ h. apply-keeps s i (raise s i) i (nextNumber s i) (newWrite s i x v) (λ w w′ e e′. not-both (new-number i (r .frame)) e) same)
     by (Deliver i u k) =
         deliver-cases s i u k (λ o. KeepsAll s (o .state)) (λ r. same)
         (λ w d t e. one-keeps s s u k (some (mark w i held)) (keeps-mark u i held (is s u k w (d .is) same)) same)
@@ -192,7 +189,7 @@ not-everywhere s i x v two e = same-or i 1 (λ p. lacks 2 (omega arith) (λ q. o
   where
     lacks : (t : ℕ) → In (s .setup .desks) t → t ≢ i → ⊥
     lacks t h ne =
-        omega (arith, everywhere-at (s .setup .desks) (mark (newWrite s i x v) i done) e t h, upd-other (newWrite s i x v .marks) i done t ne)
+        omega (arith, done-everywhere (s .setup .desks) (mark (newWrite s i x v) i done) e t h, upd-other (newWrite s i x v .marks) i done t ne)
 
 -- where there is a desk to send it to, the new open write has the message that figure 4, line 2 sends
 pub message-sent : (s : State) (i x v k : ℕ) → 2 ≤ s .setup .desks → step s (Write i x v) .answer ≡ wrote (name i k)

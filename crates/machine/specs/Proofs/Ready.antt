@@ -80,8 +80,9 @@ not-everywhere n w e = let r = all-not (λ t. eqb (w .marks t) done) n 1 e in (r
 pub none-still : (n : ℕ) (w : Open) → isNone (stillOpen n w) ≡ everywhere n w
 none-still n w = cases (everywhere n w) (λ e. rw (e, stillOpen)) (λ e. rw (e, stillOpen))
 
-pub still-open : (n : ℕ) (w z : Open) → stillOpen n w ≡ some z → (everywhere n w ≡ false) × (w ≡ z)
-still-open n w z e =
+-- what is still open is the write as marked
+pub still-is : (n : ℕ) (w z : Open) → stillOpen n w ≡ some z → w ≡ z
+still-is n w z e =
     cases (everywhere n w)
     (λ t. not-both {A = Open} (rw (t, stillOpen)) e)
-    (λ t. (t, (let q : some w ≡ some z = sym (rw (t, stillOpen)) ∙ e in cc)))
+    (λ t. let q : some w ≡ some z = sym (rw (t, stillOpen)) ∙ e in cc)

@@ -2,18 +2,17 @@
 use mathlib.Core.Path.{_≡_, refl, sym, _∙_, ap, subst, subst₂}
 use mathlib.Core.Logic.{_≢_, _⊎_, inl, inr, _↔_, Iff·trans, Iff·symm}
 use mathlib.Core.List.{List}
-use mathlib.Core.Option.{Option, none, some}
+use mathlib.Core.Option.{some}
 use Prim.Native.Nat.{ℕ, suc, _≤_}
 use native.Mathlib.Omega.{arith}
 use native.Mathlib.Decide.{decLe}
 use lib.ListN.{length}
 use borrow.Author.Tests.{eq-eqb, ne-eqb}
-use Rattle.laws.specs.Loop.{cases}
 use Rattle.laws.specs.Update.{same-or, upd-same, upd-other, upd-all, upd2-all}
 use Rattle.laws.specs.Says.{clash}
 use Rattle.machine.specs.Table.{Vec, Name, name, Cell, blank, set, done, held, Open, State}
 use Rattle.machine.specs.Answer.{shown, shownOf}
-use Rattle.machine.specs.Steps.{readClock, read, shownAt, everywhere, stillOpen, mark, apply, hold, nextNumber, nextVector, raise}
+use Rattle.machine.specs.Steps.{readClock, read, shownAt, stillOpen, mark, apply, hold, nextNumber, nextVector, raise}
 use Rattle.machine.specs.Rules.{Below}
 use Rattle.machine.specs.History.{Event, read-at, write-at, receive-at, apply-at, applied, deskList, writtenAs, afterWrite, latest, At, a-read, a-write, Precedes, shown-by}
 use Rattle.machine.specs.Demand3.{WriteAt, Has, UpTo}
@@ -21,6 +20,7 @@ use Rattle.machine.specs.Proofs.Order.{add, at-one, Ordered, NewEvent, n
 use Rattle.machine.specs.Proofs.Entries.{written-some, written-found, has-keep, latest-keep, has-apply, has-applied, latest-apply, mem-old}
 use Rattle.machine.specs.Proofs.Story.{NewEntry, story-add, all-written}
 use Rattle.machine.specs.Proofs.Traced.{Origin, Traced, origin-write, origin-old, own-known, clock-own, onward, backward, op-traced, other-traced}
+use Rattle.machine.specs.Proofs.Ready.{still-is}
 
 -- Read --
 
@@ -186,12 +186,6 @@ traced-receive {s} {h} r i w =
     (λ j v q. clash (cc)) (λ j op. elim op [ ])
 
 -- Apply --
-
--- what is still open is the write as marked
-pub still-is : (n : ℕ) (w w′ : Open) → stillOpen n w ≡ some w′ → w ≡ w′
-still-is n w w′ q = cases (everywhere n w)
-    (λ y. let z : _≡_ {A = Option Open} none (some w′) = rw (y, stillOpen) at q in clash (cc))
-    (λ y. let z : some w ≡ some w′ = rw (y, stillOpen) at q in cc)
 
 -- u.k is the writer's next at i, and its causes are applied there
 pub record Due (s : State) (i u k : ℕ) (w : Vec) : Type 0 where

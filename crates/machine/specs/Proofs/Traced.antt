@@ -16,6 +16,7 @@ use Rattle.machine.specs.Demand3.{WriteAt, Has, UpTo}
 use Rattle.machine.specs.Proofs.Order.{add, one-desk, Ordered, ordered-add, at-old, at-new, upto-then, upto-old, upto-less, number-in, number-written, Knows, knows-new, knows-other}
 use Rattle.machine.specs.Proofs.Entries.{has-keep, latest-keep}
 use Rattle.machine.specs.Proofs.Story.{Story, NewEntry, story-add, write-inside, all-written}
+use Rattle.machine.specs.Proofs.Grown.{clocked}
 
 -- cell, status and vector of u.k come from the write in the history; the vector tells the order
 pub record Origin (h : List Event) (u k x v : ℕ) (w : Vec) : Type 0 where
@@ -76,14 +77,11 @@ backward r e i d q f op a of oe t j one b =
 
 -- an event that applies nothing: it changes clocks only --
 
-abbrev pub withClocks : State → (ℕ → Vec) → State
-withClocks s c = record { setup = s .setup; applied = s .applied; clock = c; cell = s .cell; opens = s .opens }
-
 module _ {s : State} {h : List Event} (r : Traced s h) (e : Event) (n : NewEntry h e) (idle : (i : ℕ) (w : Name) → e ≡ apply-at i w → ⊥) where
   o : Ordered (add h e)
   o = ordered-add (r .story .ordered) (n .new)
 
-  clock-traced : (c : ℕ → Vec) → ((i t j : ℕ) → 1 ≤ j → (j ≤ c i t) ↔ Knows (add h e) i t j) → Traced (withClocks s c) (add h e)
+  clock-traced : (c : ℕ → Vec) → ((i t j : ℕ) → 1 ≤ j → (j ≤ c i t) ↔ Knows (add h e) i t j) → Traced (clocked s c) (add h e)
   clock-traced c knows = record {
     story = story-add h e (r .story) n;
     clock = knows;
@@ -98,7 +96,7 @@ module _ {s : State} {h : List Event} (r : Traced s h) (e : Event) (n : NewEntry
   knows-same i t j one op = Iff·trans (r .clock i t j one) (Iff·symm (knows-other h e o op))
 
   -- an operation of the desk i, after which its clock is c
-  pub op-traced : (i : ℕ) (c : Vec) → OpOf i e → ((t j : ℕ) → 1 ≤ j → (j ≤ c t) ↔ UpTo (add h e) (length h) t j) → Traced (withClocks s (upd (s .clock) i c)) (add h e)
+  pub op-traced : (i : ℕ) (c : Vec) → OpOf i e → ((t j : ℕ) → 1 ≤ j → (j ≤ c t) ↔ UpTo (add h e) (length h) t j) → Traced (clocked s (upd (s .clock) i c)) (add h e)
   op-traced i c op tells =
       clock-traced (upd (s .clock) i c) (λ i′ t j one. upd-all (s .clock) i c (λ i′ c′. (j ≤ c′ t) ↔ Knows (add h e) i′ t j) i′
       (λ z. rw z (Iff·trans (tells t j one) (Iff·symm (knows-new h e o op))))
