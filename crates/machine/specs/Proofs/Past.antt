@@ -23,6 +23,7 @@ use Rattle.machine.specs.Proofs.Kept.{fresh-rules}
 use Rattle.machine.specs.Proofs.Order.{forward}
 use Rattle.machine.specs.Proofs.Observed.{observed-fresh}
 use Rattle.machine.specs.Proofs.Runs.{observed-run}
+use Rattle.machine.specs.Proofs.Ready.{option-cases}
 
 -- some number below n passes
 below-some : (n : ℕ) (g : ℕ → Bool) → someBelow n g ≡ true → (r : ℕ) × (g r ≡ true)
@@ -100,24 +101,14 @@ of-either {p} {q} (by-read {i} {u} {x} {v} {k}) = rw (of-read-from i u x v k) (o
     or-true false = refl
 
 module _ (h : List Event) where
-  record LinkAt (p q : ℕ) : Type 0 where
-    first : Event
-    second : Event
-    at-first : At h p first
-    at-second : At h q second
-    link : Linked p q first second
-
-  link-at : (p q : ℕ) → linked h p q ≡ true → LinkAt p q
+  link-at : {R : Type 0} (p q : ℕ) → linked h p q ≡ true → ((e f : Event) → At h p e → At h q f → Linked p q e f → R) → R
   unfolding linked
-  link-at p q z = by (getElem? h p) refl (getElem? h q) refl z
-    where
-      by : (a : Option Event) → getElem? h p ≡ a → (b : Option Event) → getElem? h q ≡ b → linkOf p q a b ≡ true → LinkAt p q
-      by none d b e z = clash (cc)
-      by (some a) d none e z = clash (cc)
-      by (some a) d (some b) e z = record { first = a; second = b; at-first = d; at-second = e; link = link-either p q a b z }
+  link-at p q z k =
+      option-cases (getElem? h p) (λ d. clash (rw d at z))
+      (λ e d. option-cases (getElem? h q) (λ g. clash (rw (d, g) at z)) (λ f g. k e f d g (link-either p q e f (rw (d, g) at z))))
 
   link-precedes : (p q : ℕ) → linked h p q ≡ true → Precedes h p q
-  link-precedes p q z = let l = link-at p q z in by (l .at-first) (l .at-second) (l .link)
+  link-precedes p q z = link-at p q z (λ e f. by)
     where
       by : {e f : Event} → At h p e → At h q f → Linked p q e f → Precedes h p q
       by a b (by-desk x y l) = same-desk a b x y l
@@ -129,7 +120,7 @@ module _ (h : List Event) where
 
   -- a link ends inside the history
   link-inside : (p q : ℕ) → linked h p q ≡ true → q < length h
-  link-inside p q z = let l = link-at p q z in at-inside h q (l .second) (l .at-second)
+  link-inside p q z = link-at p q z (λ e f a b l. at-inside h q f b)
 
   -- Chains --
 

@@ -6,7 +6,7 @@ use native.Mathlib.Omega.{arith}
 use lib.ListN.{length}
 use Rattle.laws.specs.Ends.{before, last, at-inside, at-either}
 use Rattle.laws.specs.Says.{clash}
-use Rattle.machine.specs.Table.{name}
+use Rattle.machine.specs.Table.{name, Name}
 use Rattle.machine.specs.Answer.{Shown, unset}
 use Rattle.machine.specs.History.{Event, read-at, write-at, apply-at, Entry, own-read, applied, deskList, latest, At, Precedes}
 use Rattle.machine.specs.Demand3.{WriteAt, OpAt, of-read, of-write, Has, ListsAccepted, ListsOnce, ReadsLatest, CausesFirst}
@@ -29,6 +29,17 @@ pub record NewEntry (h : List Event) (e : Event) : Type 0 where
   pub latest : (i x : ℕ) (v : Shown) → e ≡ read-at i x v → v ≡ latest h x (deskList i h)
   pub read-after : (i x : ℕ) (v : Shown) → e ≡ read-at i x v → (p t j : ℕ) → WriteAt h p t j → Precedes (add h e) p (length h) → Has (deskList i h) t j
   pub apply-after : (i u k : ℕ) → e ≡ apply-at i (name u k) → (q p t j : ℕ) → WriteAt h q u k → WriteAt h p t j → Precedes h p q → Has (deskList i h) t j
+
+-- an event that no desk lists
+pub not-listed : {h : List Event} {e : Event} → NewEvent h e → ((i : ℕ) (w : Name) → e ≡ apply-at i w → ⊥) → ((i x : ℕ) (v : Shown) → e ≡ read-at i x v → ⊥) → NewEntry h e
+not-listed n a r = record {
+  new = n;
+  written = λ i u k q. absurd (a i (name u k) q);
+  unlisted = λ i u k q. absurd (a i (name u k) q);
+  latest = λ i x v q. absurd (r i x v q);
+  read-after = λ i x v q. absurd (r i x v q);
+  apply-after = λ i u k q. absurd (a i (name u k) q);
+}
 
 -- a write stands inside the history
 pub write-inside : {h : List Event} {p u k : ℕ} → WriteAt h p u k → p < length h

@@ -8,7 +8,7 @@ use native.Mathlib.Omega.{arith}
 use native.Mathlib.Decide.{decLe}
 use lib.ListN.{length}
 use Rattle.laws.specs.Ends.{at-inside}
-use Rattle.laws.specs.Update.{upd, upd-all}
+use Rattle.laws.specs.Update.{upd, upd-all, same-or}
 use Rattle.machine.specs.Table.{Vec, Name, name, set, Open, State}
 use Rattle.machine.specs.Answer.{shownOf}
 use Rattle.machine.specs.History.{Event, write-at, apply-at, applied, deskList, latest, writesOf, At, OpOf, a-write, same-desk}
@@ -53,15 +53,12 @@ own-known {s} {h} r {p} {u} {k} w =
 
 -- a clock counts, at its own place, the writes that its desk has made
 pub clock-own : {s : State} {h : List Event} → Traced s h → (u : ℕ) → s .clock u u ≡ writesOf u h
-clock-own {s} {h} r u = let a = low (decLe 1 (s .clock u u)) in let b = high (decLe 1 (writesOf u h)) in omega arith
-  where
-    low : Dec (1 ≤ s .clock u u) → s .clock u u ≤ writesOf u h
-    low (no z) = omega arith
-    low (yes z) = number-in (r .story .ordered .numbered) u (s .clock u u) (r .clock u u (s .clock u u) z .0 (omega arith) .upto .write) .1
-
-    high : Dec (1 ≤ writesOf u h) → writesOf u h ≤ s .clock u u
-    high (no z) = omega arith
-    high (yes z) = own-known r (number-written (r .story .ordered .numbered) u (writesOf u h) (z, omega arith) .1) .1
+clock-own {s} {h} r u =
+    let low : 1 ≤ s .clock u u → s .clock u u ≤ writesOf u h =
+    (λ z. number-in (r .story .ordered .numbered) u (s .clock u u) (r .clock u u (s .clock u u) z .0 (omega arith) .upto .write) .1) in
+    let high : 1 ≤ writesOf u h → writesOf u h ≤ s .clock u u = (λ z. own-known r (number-written (r .story .ordered .numbered) u (writesOf u h) (z, omega arith) .1) .1) in
+    same-or (s .clock u u) 0 (λ a. same-or (writesOf u h) 0 (λ b. omega arith) (λ b. omega (arith, high (omega arith))))
+    (λ a. let l = low (omega arith) in omega (arith, high (omega arith)))
 
 -- what a desk's clock counts is before its next operation
 pub onward : {s : State} {h : List Event} → Traced s h → (e : Event) (i : ℕ) → OpOf i e → (t j : ℕ) → 1 ≤ j → j ≤ s .clock i t → UpTo (add h e) (length h) t j
