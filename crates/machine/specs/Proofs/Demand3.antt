@@ -1,12 +1,11 @@
 -- Demand 3, of every schedule with saves and reloads anywhere.
-use mathlib.Core.Path.{_≡_, refl, sym, _∙_}
-use mathlib.Core.Logic.{_≢_, _⊎_, inl, inr, _↔_, Iff·trans}
+use mathlib.Core.Path.{_≡_, sym, _∙_}
+use mathlib.Core.Logic.{_≢_, inl, inr, _↔_, Iff·trans}
 use mathlib.Core.Bool.{Bool, true, false}
 use mathlib.Core.List.{List, _∷_, Memᴰ·append-left}
-use mathlib.Core.Option.{Option, none, some}
+use mathlib.Core.Option.{none, some}
 use Prim.Native.Nat.{ℕ, suc, _≤_, _<_}
 use native.Mathlib.Omega.{arith}
-use native.Mathlib.Decide.{ℕ-discrete, decLe}
 use borrow.Author.Tests.{eqb-false, ltb-true, eq-eqb, ne-eqb, not-true}
 use lib.Dec.{eqb}
 use Rattle.laws.specs.Ends.{cut-at}
@@ -16,12 +15,11 @@ use Rattle.laws.specs.Says.{clash}
 use Rattle.machine.specs.Table.{most-desks, most-cells, Vec, name, away, held, done, Open, State, fresh, written, place}
 use Rattle.machine.specs.Steps.{fails, failing, isNone, ready}
 use Rattle.machine.specs.Rules.{In, Rules}
-use Rattle.machine.specs.History.{Event, write-at, applied, deskList, Precedes, Act, run, history}
+use Rattle.machine.specs.History.{Event, write-at, applied, deskList, Act, run, history}
 use Rattle.machine.specs.Demand3.{WriteAt, of-write, Has, CauseMissing, Received, HeldIffCauseMissing, UpTo, Demand3}
 use Rattle.machine.specs.Proofs.Kept.{fresh-rules, one-place, done-counted}
 use Rattle.machine.specs.Proofs.Order.{at-one, Ordered, forward}
 use Rattle.machine.specs.Proofs.Traced.{Origin, origin-write}
-use Rattle.machine.specs.Proofs.Marked.{Mark}
 use Rattle.machine.specs.Proofs.Observed.{Observed, observed-fresh}
 use Rattle.machine.specs.Proofs.Runs.{rules-kept, observed-run}
 use Rattle.machine.specs.Proofs.Counted.{write-in, names-observed, open-observed}

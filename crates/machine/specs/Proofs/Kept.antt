@@ -2,16 +2,16 @@
 use mathlib.Core.Path.{_≡_, refl, sym, ap}
 use mathlib.Core.Logic.{_⊎_, inl, inr, _↔_}
 use mathlib.Core.Bool.{true}
-use mathlib.Core.List.{List, []}
+use mathlib.Core.List.{List, _∷_}
 use mathlib.Core.Option.{none}
 use Prim.Native.Nat.{ℕ, _≤_, _<_}
 use native.Mathlib.Omega.{arith}
 use lib.ListN.{length}
-use Rattle.laws.specs.Says.{apart}
+use Rattle.laws.specs.Says.{apart, clash}
 use Rattle.laws.specs.Update.{same-or}
-use Rattle.machine.specs.Table.{most-open, Name, away, held, done, Open, State, written, place}
-use Rattle.machine.specs.Answer.{Refusal, Answer, began, shows, wrote, holds, applies, judged, refused}
-use Rattle.machine.specs.Steps.{Out, isNone, apply, refuse, failing, Step, Read, Write, Deliver, Trip, step}
+use Rattle.machine.specs.Table.{most-open, Name, away, held, done, Open, State, written, place, name}
+use Rattle.machine.specs.Answer.{Refusal, applies}
+use Rattle.machine.specs.Steps.{Out, isNone, apply, refuse, failing, Step, Read, Write, Deliver, Trip, step, settle}
 use Rattle.machine.specs.Rules.{In, Frame, Rules}
 use Rattle.machine.specs.Proofs.Ready.{option-cases}
 use Rattle.machine.specs.Proofs.Refusals.{step-cases}
@@ -21,23 +21,13 @@ pub use Rattle.machine.specs.Proofs.Apply.{Midway, ReadyAt, Next, ready-
 unfoldable pub use Rattle.machine.specs.Proofs.Cascade.{left}
 pub use Rattle.machine.specs.Proofs.Cascade.{apply-left, left-few, Found, first-due, none-due, settle-all, settle-rules, settle-names}
 
--- the writes that an answer says were applied
-abbrev named : Answer → List Name
-named began = []
-named (shows v) = []
-named (wrote w) = []
-named (holds t) = []
-named (applies l) = l
-named (judged v) = []
-named (refused n) = []
-
 -- what a step keeps
 record Kept (o : Out) : Type 0 where
   pub rules : Rules (o .state)
-  pub few : length (named (o .answer)) ≤ most-open
+  pub few : (l : List Name) → o .answer ≡ applies l → length l ≤ most-open
 
 refuse-kept : {s : State} → Rules s → (r : Refusal) → Kept (refuse r s)
-refuse-kept q r = record { rules = q; few = omega arith }
+refuse-kept q r = record { rules = q; few = λ l e. clash (cc) }
 
 -- a delivery that is accepted and ready
 module _ {s : State} {i u k : ℕ} {w : Open} (r : Rules s) (d : Delivery s i u k w) (e : failing (s .setup .desks) (s .applied i) u (w .vector) ≡ none) where
@@ -48,22 +38,22 @@ module _ {s : State} {i u k : ℕ} {w : Open} (r : Rules s) (d : Delivery s i u 
   delivered-midway = apply-midway (record { frame = r .frame; quiet = λ j ne. r .quiet j }) delivered-at
 
 step-kept : {s : State} → Rules s → (a : Step) → Kept (step s a)
-step-kept {s} r (Read i x) = step-cases s (Read i x) Kept (refuse-kept r) (λ h. record { rules = read-rules r i x; few = omega arith })
+step-kept {s} r (Read i x) = step-cases s (Read i x) Kept (refuse-kept r) (λ h. record { rules = read-rules r i x; few = λ l e. clash (cc) })
 step-kept {s} r (Write i x v) =
     step-cases s (Write i x v) Kept (refuse-kept r)
-    (λ h. record { rules = write-rules r i x v (h .0) (h .1 .0) (h .1 .1 .0) (h .1 .1 .1 .0) (h .1 .1 .1 .1 .0); few = omega arith })
+    (λ h. record { rules = write-rules r i x v (h .0) (h .1 .0) (h .1 .1 .0) (h .1 .1 .1 .0) (h .1 .1 .1 .1 .0); few = λ l e. clash (cc) })
 step-kept {s} r (Deliver i u k) =
     deliver-cases s i u k Kept (refuse-kept r)
-    (λ w d t e. record { rules = hold-rules r i u k w (d .desk) (d .is) (d .is-away) (rw e); few = omega arith })
+    (λ w d t e. record { rules = hold-rules r i u k w (d .desk) (d .is) (d .is-away) (rw e); few = λ l e. clash (cc) })
     (λ w d e. let mid = delivered-midway r d e in
     let a = apply-left (r .frame) (delivered-at r d e) in
     let b = left-few (r .frame) i (d .desk) in
     record {
       rules = settle-rules most-open mid (d .desk) (omega (arith, r .frame .ranges .few));
-      few = omega (arith, settle-names most-open mid (d .desk), r .frame .ranges .few);
+      few = λ l e. let z : name u k ∷ settle most-open (apply s i u k w) i .names ≡ l = cc in rw (← z) (omega (arith, settle-names most-open mid (d .desk), r .frame .ranges .few));
     })
 step-kept {s} r (Trip i xs) =
-    step-cases s (Trip i xs) Kept (refuse-kept r) (λ h. record { rules = reads-keep Rules i (λ s x q. read-rules q i x) xs s r; few = omega arith })
+    step-cases s (Trip i xs) Kept (refuse-kept r) (λ h. record { rules = reads-keep Rules i (λ s x q. read-rules q i x) xs s r; few = λ l e. clash (cc) })
 
 -- the theorems --
 
@@ -71,7 +61,7 @@ pub step-keeps-rules : {s : State} → Rules s → (a : Step) → Rules (step s 
 step-keeps-rules r a = step-kept r a .rules
 
 pub at-most-64-applied : {s : State} → Rules s → (a : Step) (l : List Name) → step s a .answer ≡ applies l → length l ≤ most-open
-at-most-64-applied {s} r a l e = let h : length (named (step s a .answer)) ≤ most-open = step-kept r a .few in rw e at h
+at-most-64-applied r a = step-kept r a .few
 
 pub done-counted : {s : State} → Frame s → (i u k : ℕ) → In (s .setup .desks) i → In (s .setup .desks) u → In (written s u) k
     → (place s i u k ≡ done) ↔ (k ≤ s .applied i u)

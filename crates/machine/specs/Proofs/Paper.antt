@@ -14,10 +14,11 @@ use Rattle.machine.specs.Rules.{In, Frame, Rules}
 use Rattle.machine.specs.Refusals.{Accepted}
 use Rattle.machine.specs.Paper.{Message, Process, READ, sent, returned, a-write, a-read, a-receipt, a-thread, Action, Does, does-write, does-read, does-receipt, does-thread, Runs, ends, then, Idle, vectorOf, valueOf, messageOf, waitingOf, desk, receiptOf, actionsOf, actor, PaperRun, KeepsMessage, OpenAs, shownBy}
 use Rattle.machine.specs.Proofs.Kept.{Midway, ReadyAt, ready-next, step-keeps-rules, settle-all, delivered-at, delivered-midway}
-use Rattle.machine.specs.Proofs.Refusals.{not-refused, step-cases}
+use Rattle.machine.specs.Proofs.Refusals.{step-cases}
 use Rattle.machine.specs.Proofs.Cases.{Delivery, deliver-cases, still-cases, settle-keeps, reads-keep, setup-stays}
 use Rattle.machine.specs.Proofs.Desks.{Waiting, waitingAt, set-all, marked-is, quiet-idle, read-here, read-there, receipt-here, hold-there, resume-here, apply-there, write-here, write-there}
 use Rattle.machine.specs.Proofs.Ready.{option-cases, done-everywhere, not-both}
+use Rattle.laws.specs.Says.{clash}
 
 -- a waiting message that is ready goes on, whatever else waits
 thread : {s : State} {i u k : ℕ} {w : Open} → Frame s → ReadyAt s i u k w → (q : Waiting)
@@ -196,7 +197,7 @@ pub message-sent : (s : State) (i x v k : ℕ) → 2 ≤ s .setup .desks → ste
     → OpenAs i (sent i x (record { status = v; writer = i }) (desk s i)) (step s (Write i x v) .state .opens i k)
 message-sent s i x v k two =
     step-cases s (Write i x v) (λ o. o .answer ≡ wrote (name i k) → OpenAs i m (o .state .opens i k))
-    (λ r e. absurd (not-refused (wrote (name i k)) refl r (sym e)))
+    (λ r e. clash (cc))
     (λ h e. (
     let same : name i (nextNumber s i) ≡ name i k = cc in
     rw (← ap (λ (n : Name). n .number) same, upd2-same)
