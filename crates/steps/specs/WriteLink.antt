@@ -13,7 +13,7 @@ use Rattle.laws.specs.Update.{upd, upd-same, upd-other, upd2, upd2-is, same-or}
 use Rattle.machine.specs.Table as states
 use Rattle.machine.specs.Answer as machine
 use Rattle.machine.specs.Rules.{In}
-use Rattle.machine.specs.Steps.{Write, write, openCount, everywhere, stillOpen, mark, newWrite, nextNumber, nextVector}
+use Rattle.machine.specs.Steps.{Write, openCount, everywhere, stillOpen, mark, newWrite, nextNumber, nextVector}
 use Rattle.machine.specs.Proofs.Alone.{alone-none-open}
 use Rattle.clock.specs.declared.Clock.{Clock}
 use Rattle.clock.specs.Vectors.{places, place, place-set, place-raised, raised, raiseClock}
@@ -23,7 +23,7 @@ use Rattle.table.specs.declared.Open.{Open}
 use Rattle.table.specs.declared.Table.{Table}
 use Rattle.table.specs.Value.{all-cells, cellAt, putCell, FullOpen, cellAt-put, cellAt-other}
 use Rattle.table.specs.Names.{number}
-use Rattle.table.specs.Model.{openM, slot, opensM, appliedM, clockM, cellsM, appliedVec, applied-at, applied-put, clock-put, cell-put, modelOf}
+use Rattle.table.specs.Model.{openM, slot, opensM, appliedM, clockM, cellsM, applied-put, clock-put, cell-put, modelOf}
 use Rattle.table.specs.Opens.{Unique, opens-store, unique-store}
 use Rattle.table.specs.Sound.{AllZero}
 use Rattle.reply.specs.Meaning.{answerOf}
@@ -31,7 +31,7 @@ use Rattle.steps.specs.declared.write.Spot.{Spot}
 use Rattle.steps.specs.declared.write.Spot.the-variants.{Entry, Alone, Full}
 use Rattle.steps.specs.Stepped.{Placed, Stepped}
 use Rattle.steps.specs.LookStepped.{in-places, in-cells, in-desks, desk-shape, taken-stepped}
-use Rattle.steps.specs.LookLink.{clock-start}
+use Rattle.steps.specs.LookLink.{clock-start, counts-start}
 use Rattle.steps.specs.WriteTurn.{Spotted, newMarks, enterAt, wroteDesk, wroteCell, wroteOpen, wroteTurn}
 use Rattle.steps.specs.WriteCount.{free-few}
 
@@ -61,14 +61,8 @@ module _ {whole : Table} {own : List ℕ} {i : ℕ} {d : Desk} (p : Placed whole
   abbrev os : List ℕ
   os = whole .opens
 
-  abbrev s0 : states.State
-  s0 = modelOf whole
-
-  applied-start : appliedM ds i ≡ place (d .applied)
-  applied-start = applied-at ds i (in-desks p hi) ∙ ap appliedVec (p .desk hi)
-
   pub written-start : appliedM ds i i ≡ place (d .applied) i
-  written-start = ap (λ (v : ℕ → ℕ). v i) applied-start
+  written-start = ap (λ (v : ℕ → ℕ). v i) (counts-start p hi)
 
   own-same : place (d .clock .at) i ≡ place (d .applied) i
   own-same = ap (λ (v : ℕ → ℕ). v i) (sym (clock-start p hi)) ∙ p .sound .rules .frame .clocks .own i ∙ written-start
@@ -98,7 +92,7 @@ module _ {whole : Table} {own : List ℕ} {i : ℕ} {d : Desk} (p : Placed whole
         applied-put ds i (in-desks p hi) (wroteDesk d i)
         ∙ ap (λ (v : ℕ → ℕ). upd (appliedM ds) i v)
         (place-raised (d .applied) i (hi .0) (omega (arith, in-places p hi, desk-shape p hi .applied))
-        ∙ ap (λ (v : ℕ → ℕ). upd v i (suc (v i))) (sym applied-start))
+        ∙ ap (λ (v : ℕ → ℕ). upd v i (suc (v i))) (sym (counts-start p hi)))
 
     clock-new : clockM (set ds (i - 1) (wroteDesk d i)) ≡ upd (clockM ds) i (nextVector (modelOf whole) i)
     clock-new = clock-put ds i (in-desks p hi) (wroteDesk d i) ∙ ap (λ (v : ℕ → ℕ). upd (clockM ds) i v) vector-new

@@ -24,7 +24,7 @@ abbrev μ-search : tie.MeasureT-search
 abbrev Inv-apply : tie.InvT-apply
 Inv-apply n own cells₀ opens₀ names₀ i u e a₀ w₀ entry₀ len₀ cells opens names a w entry len =
     (b : State) → Running b n i a₀ own cells₀ opens₀ → Next n a₀ opens₀ w₀ entry₀
-    → Going (from most-open (midst b n i a₀ cells₀ opens₀) i w₀ (openM (openAt opens₀ entry₀))) b n i a own cells opens names₀ names len w entry
+    → Going (from most-open (midst b i a₀ cells₀ opens₀) i w₀ (openM (openAt opens₀ entry₀))) b n i a own cells opens names₀ names len w entry
 
 abbrev μ-apply : tie.MeasureT-apply
 μ-apply n own cells₀ opens₀ names₀ i u e a₀ w₀ entry₀ len₀ cells opens names a w entry len = most-open - len
@@ -40,7 +40,7 @@ gone : (c : tie.After-put-name Inv-search μ-search Inv-apply μ-apply)
     → (let A = c .before .before .before .before .before .before .apply in
     let g = c .before .before .before .before .before .before .before .args in
     (b : State) → Running b (g .n) (g .i) (g .c) (g .own) (g .cells .now) (g .opens .now) → Next (g .n) (g .c) (g .opens .now) (g .u) (g .e)
-    → Gone (from most-open (midst b (g .n) (g .i) (g .c) (g .cells .now) (g .opens .now)) (g .i) (g .u) (openM (openAt (g .opens .now) (g .e))))
+    → Gone (from most-open (midst b (g .i) (g .c) (g .cells .now) (g .opens .now)) (g .i) (g .u) (openM (openAt (g .opens .now) (g .e))))
     b (g .n) (g .i) (set (A .a) (A .w - 1) (getD (A .a) (A .w - 1) 0 + 1)) (g .own) (c .before .before .before .apply-at .last .0) (c .before .before .before .apply-at .last .1 .0)
     (g .names .now) (c .put-name .last .0) (A .len + 1))
 gone c b r d =
