@@ -95,9 +95,12 @@ module _ {s : State} {h : List Event} (r : Rules s) (b : Observed s h) where
       from : CauseMissing h i q → place s i u k ≡ held
       from c = let n = write-in r (b .traced) w in elim (one-place r i u k hi (n .0) (n .1)) [
         | inl z ↦ absurd (unreceived i u k q hi w .0 z got)
-        | inr o ↦ elim o [ inl z ↦ z | inr z ↦ (let p = cut-at (applied-observed i u k q hi w .0 z) in
-            let m = b .traced .story .causes .writes i (applied (name u k)) (p .earlier) (p .later) (p .is) q (of-write w) (c .place) (c .writer) (c .number) (c .write) (c .precedes) in
-            absurd (c .unapplied (rw (p .is) (Memᴰ·append-left (applied (name u k) ∷ p .later) m)))) ]
+        | inr o ↦ elim o [
+          | inl z ↦ z
+          | inr z ↦ (let p = cut-at (applied-observed i u k q hi w .0 z) in
+              let m = b .traced .story .causes .writes i (applied (name u k)) (p .earlier) (p .later) (p .is) q (of-write w) (c .place) (c .writer) (c .number) (c .write) (c .precedes) in
+              absurd (c .unapplied (rw (p .is) (Memᴰ·append-left (applied (name u k) ∷ p .later) m))))
+        ]
       ]
 
   pub demand-of : Demand3 s h

@@ -18,7 +18,6 @@ pub use Rattle.machine.specs.Proofs.Ready.{says-within}
 use Rattle.machine.specs.Proofs.Ready.{option-all}
 use Rattle.machine.specs.Refusals.{Row, _or_, rowsOf, rowsOfBegin, FirstFails, AllPass, Accepted}
 
-
 -- an outcome by the rows: refused by the first that fails, or what is done if all pass
 record ByRows (s : State) (l : List Row) (effect o : Out) : Type 0 where
   refusal : (r : Refusal) → (o .answer ≡ refused r) ↔ FirstFails l r
@@ -142,7 +141,6 @@ begin-refusal-exactly n m r =
     begin-cases (λ o. (o .answer ≡ refused r) ↔ FirstFails (rowsOfBegin n m) r)
     (λ hn hm. (λ e. clash (cc), ⊎-elim (λ (f : _ × _). absurd (f .0 (hn, hm))) (λ (f : _ × ⊥). absurd (f .1))))
     (λ h. (λ e. inl (h, cc), ⊎-elim (λ (f : _ × (r ≡ no-size)). ap refused (sym (f .1))) (λ (f : _ × ⊥). absurd (f .1))))
-
 
 pub refused-no-table : (n m : ℕ) (r : Refusal) → begin n m .answer ≡ refused r → begin n m .table ≡ none
 refused-no-table n m r =

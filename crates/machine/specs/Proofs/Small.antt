@@ -151,7 +151,6 @@ module _ {s : State} {h : List Event} (r : Traced s h) (i x v : ℕ) where
           let le = backward r e i i′ q f a-write a op op′ t j one b in
           omega (arith, next-low t)
 
-
   pub traced-raise : Traced (raise s i) (add h (writeOf s i x v))
   traced-raise =
       op-traced r (writeOf s i x v) (not-listed write-new (λ j w q. clash (cc)) (λ j y w q. clash (cc))) (λ j w q. clash (cc)) i (nextVector s i) a-write write-tells
