@@ -23,11 +23,10 @@ weight (w ∷ ws) = length w + 1 + weight ws
 weight-words : (l : List ℕ) → weight (words l) ≡ length l + 1
 unfolding words weight
 weight-words [] = refl
-weight-words (b ∷ l) = cases (eqb b space) (λ e. rw e (omega (arith, weight-words l))) (λ e. rw e (go (words l) (weight-words l)))
-  where
-    go : (ws : List (List ℕ)) → weight ws ≡ length l + 1 → weight (onto b ws) ≡ suc (length l) + 1
-    go [] h = absurd (omega arith)
-    go (w ∷ ws) h = omega arith
+weight-words (b ∷ l) =
+    cases (eqb b space) (λ e. rw e (omega (arith, weight-words l)))
+    (λ e. rw e ((elim (words l) as (λ ws. weight ws ≡ length l + 1 → weight (onto b ws) ≡ suc (length l) + 1)
+    [ [] ↦ (λ h. absurd (omega arith)) | w ∷ ws ↦ (λ h. omega arith) ]) (weight-words l)))
 
 abbrev pub listOf : Option (List ℕ) → List ℕ
 listOf none = []
