@@ -185,8 +185,8 @@ message-kept {s} r a = by a
     by (Trip i xs) = step-cases s (Trip i xs) (λ o. KeepsAll s (o .state)) (λ r. same) (λ h. reads-keep (KeepsAll s) i (λ s′ x f. f) xs s same)
 
 -- where there is another desk, a new write is not yet applied everywhere
-not-everywhere : (s : State) (i x v : ℕ) → 2 ≤ s .setup .desks → everywhere (s .setup .desks) (mark (newWrite s i x v) i done) ≡ true → ⊥
-not-everywhere s i x v two e = same-or i 1 (λ p. lacks 2 (omega arith) (λ q. omega arith)) (λ p. lacks 1 (omega arith) (λ q. p (sym q)))
+pub new-somewhere : (s : State) (i x v : ℕ) → 2 ≤ s .setup .desks → everywhere (s .setup .desks) (mark (newWrite s i x v) i done) ≡ true → ⊥
+new-somewhere s i x v two e = same-or i 1 (λ p. lacks 2 (omega arith) (λ q. omega arith)) (λ p. lacks 1 (omega arith) (λ q. p (sym q)))
   where
     lacks : (t : ℕ) → In (s .setup .desks) t → t ≢ i → ⊥
     lacks t h ne =
@@ -201,7 +201,7 @@ message-sent s i x v k two =
     (λ h e. (
     let same : name i (nextNumber s i) ≡ name i k = cc in
     rw (← ap (λ (n : Name). n .number) same, upd2-same)
-    (still-cases (OpenAs i m) (s .setup .desks) (mark (newWrite s i x v) i done) (λ e. absurd (not-everywhere s i x v two e)) (λ e. record { entry = mark (newWrite s i x v) i done; is = refl; message = refl }))))
+    (still-cases (OpenAs i m) (s .setup .desks) (mark (newWrite s i x v) i done) (λ e. absurd (new-somewhere s i x v two e)) (λ e. record { entry = mark (newWrite s i x v) i done; is = refl; message = refl }))))
   where
     m : Message
     m = sent i x (record { status = v; writer = i }) (desk s i)
