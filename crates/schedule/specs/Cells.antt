@@ -45,7 +45,9 @@ module _ (s : List ℕ) (at : ℕ) (l : List ℕ) (n : ℕ) where
 module _ (s : List ℕ) (at i : ℕ) (l : List ℕ) where
   pub trip-bad : storing l 0 (fieldsAt s at) ≡ unstored → sayAt s at (λ xs. some (travels i xs)) ≡ none
   unfolding sayAt bind
-  trip-bad = elim (fieldsAt s at) as (λ o. storing l 0 o ≡ unstored → bind o (λ xs. some (travels i xs)) ≡ none) [ none ↦ (λ e. refl) | some xs ↦ (λ e. clash (cc)) ]
+  trip-bad =
+      elim (fieldsAt s at) as (λ o. storing l 0 o ≡ unstored → bind o
+      (λ xs. some (travels i xs)) ≡ none) [ none ↦ (λ e. refl) | some xs ↦ (λ e. clash (cc)) ]
 
   pub told-trip : (l′ : List ℕ) (n : ℕ) → storing l 0 (fieldsAt s at) ≡ stored l′ n → Told (sayAt s at (λ xs. some (travels i xs))) (Trip i n) l l′
   unfolding sayAt bind

@@ -54,7 +54,8 @@ module _ (s : List ℕ) (at : ℕ) (f : List ℕ → Option Line) where
   -- a field is there
   pub one-field : (v next : ℕ) → FieldIs s at v next → sayAt s at f ≡ sayAt s next (λ l. f (v ∷ l))
   unfolding sayAt bind
-  one-field v next h = rw (h .is) (elim (fieldsAt s next) as (λ o. bind (join (some v) o) f ≡ bind o (λ l. f (v ∷ l))) [ none ↦ refl | some l ↦ refl ])
+  one-field v next h =
+      rw (h .is) (elim (fieldsAt s next) as (λ o. bind (join (some v) o) f ≡ bind o (λ l. f (v ∷ l))) [ none ↦ refl | some l ↦ refl ])
 
   -- the line is at its end
   pub no-more : at ≡ length s → sayAt s at f ≡ f []
@@ -148,7 +149,6 @@ pub no-bytes : (s : List ℕ) → length s ≡ 0 → lineOf s ≡ none
 unfolding lineOf words bind
 no-bytes [] e = refl
 no-bytes (c ∷ l) e = absurd (omega arith)
-
 
 module _ (s : List ℕ) (z : length s ≡ 0 → ⊥) (h : length s ≤ most-bytes) where
   -- the letter decides

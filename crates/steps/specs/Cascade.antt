@@ -253,11 +253,13 @@ module _ (a own os : List ℕ) (i u : ℕ) where
 module _ {b : State} {n i : ℕ} {a own cs os : List ℕ} (r : Running b n i a own cs os) where
   due-is : (u : ℕ) → In n u → dueIn a own os i u ≡ due (midst b i a cs os) i u
   due-is u h =
-      rw (here r u) (option-all (λ o. dueIn a own os i u ≡ dueOpen (midst b i a cs os) i u o) (opensM os u (suc (place a u))) (due-none a own os i u)
+      rw (here r u) (option-all (λ o. dueIn a own os i u ≡ dueOpen (midst b i a cs os) i u o) (opensM os u (suc (place a u)))
+      (due-none a own os i u)
       (λ w e. let f = to-be-open (r .mid .frame) u (suc (place a u)) e in
       let l : place a u < place own u = omega (arith, f .number .1, r .own-counts u (in-places r u h)) in
       due-some a own os i u w l e
-      ∙ ap (λ (x : Bool). eqb (w .marks i) held && x) (narrow r u (suc (place a u)) w h e ∙ rw (r .count, upd-same (b .applied) i (place a)))))
+      ∙ ap (λ (x : Bool). eqb (w .marks i) held && x) (narrow r u (suc (place a u)) w h e
+      ∙ rw (r .count, upd-same (b .applied) i (place a)))))
 
   pub first-is : scan (dueIn a own os i) some none n 1 ≡ firstDue (midst b i a cs os) i
   unfolding firstDue
@@ -449,7 +451,8 @@ module _ {whole : Settled} {b : State} {n i : ℕ} {a own cs os names₀ names :
         holds = g .holds;
         same =
             g .same
-            ∙ ap (behind (namesOf len names)) (settle-some (most-open - len) (midst b i a cs os) i u (openM (openAt os e)) (sym (first-is (g .now)) ∙ f)
+            ∙ ap (behind (namesOf len names)) (settle-some (most-open - len) (midst b i a cs os) i u (openM (openAt os e))
+            (sym (first-is (g .now)) ∙ f)
             (rw (here (g .now) u) (ready-at (g .now) x .is)));
       }
 

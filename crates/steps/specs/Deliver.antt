@@ -85,7 +85,8 @@ module _ {whole : Table} {own : List ℕ} {i : ℕ} {d : Desk} (p : Placed whole
   few-desks = p .sound .rules .frame .ranges .desks .1
 
   -- a refusal leaves all as it came
-  pub meets-refused : (u k : ℕ) (r : Refusal) (names : List ℕ) → FirstFails (rowsOf s (Deliver i u k)) (refusalOf r) → Meets whole d names i u k (refusedTurn d r) cs os names
+  pub meets-refused : (u k : ℕ) (r : Refusal) (names : List ℕ) → FirstFails (rowsOf s (Deliver i u k)) (refusalOf r)
+      → Meets whole d names i u k (refusedTurn d r) cs os names
   meets-refused u k r names f = record {
     stepped = refused-stepped p (Deliver i u k) (refusalOf r) f;
     names-are = rw (refusal-exactly s (Deliver i u k) (refusalOf r) .1 f);
@@ -106,7 +107,9 @@ module _ {whole : Table} {own : List ℕ} {i : ℕ} {d : Desk} (p : Placed whole
     failed r (inl f) = inl f
     failed r (inr (h, inl f)) = inr (h, inl f)
     failed r (inr (h, inr (o, inl f))) = inr (h, inr (o, inl (rw (own-is (h .1)) at f)))
-    failed r (inr (h, inr (o, inr (m, inl f)))) = let m′ = rw (own-is (h .1)) at m in inr (h, inr (o, inr (m′, inl (old (h .0) (h .1) m′ (f .0), f .1))))
+    failed r (inr (h, inr (o, inr (m, inl f)))) =
+        let m′ = rw (own-is (h .1)) at m in
+        inr (h, inr (o, inr (m′, inl (old (h .0) (h .1) m′ (f .0), f .1))))
     failed r (inr (h, inr (o, inr (m, inr (l, f))))) = absurd f
 
     module _ (a : AllPass (askedOf n (d .applied) own i u k)) where
@@ -143,7 +146,8 @@ module _ {whole : Table} {own : List ℕ} {i : ℕ} {d : Desk} (p : Placed whole
           opens = s .opens;
         }
 
-        model-is : (d′ : Desk) (cs′ os′ : List ℕ) → d′ .clock ≡ d .clock → modelOf (tableOf n (whole .core .m) (set ds (i - 1) d′) cs′ os′) ≡ midst s i (d′ .applied) cs′ os′
+        model-is : (d′ : Desk) (cs′ os′ : List ℕ) → d′ .clock ≡ d .clock
+            → modelOf (tableOf n (whole .core .m) (set ds (i - 1) d′) cs′ os′) ≡ midst s i (d′ .applied) cs′ os′
         model-is d′ cs′ os′ q = λ j. record {
           setup = s .setup;
           applied = applied-put ds i (in-desks p hi) d′ j;
@@ -171,16 +175,20 @@ module _ {whole : Table} {own : List ℕ} {i : ℕ} {d : Desk} (p : Placed whole
             is-away = q;
           }
 
-          pub meets-received : {r : Turn} {names cs′ os′ names′ : List ℕ} → Receives s n i u k e d cs os names r cs′ os′ names′ → Meets whole d names i u k r cs′ os′ names′
+          pub meets-received : {r : Turn} {names cs′ os′ names′ : List ℕ} → Receives s n i u k e d cs os names r cs′ os′ names′
+              → Meets whole d names i u k r cs′ os′ names′
           meets-received {r} {names} {cs′} {os′} x =
               let w = openM (openAt os e) in
-              let rows : AllPass (rowsOf s (Deliver i u k)) = (a .0, (a .1 .0, (number, (ap (λ (o : Option machine.Open). placeOf o i) entry-open ∙ q, tt)))) in
+              let rows : AllPass (rowsOf s (Deliver i u k)) =
+              (a .0, (a .1 .0, (number, (ap (λ (o : Option machine.Open). placeOf o i) entry-open ∙ q, tt)))) in
               let o : effect (midst s i (d .applied) cs os) i u k w ≡ effectOf s (Deliver i u k) =
               ap (λ (y : State). effect y i u k w) midst-is ∙ sym (ap (deliverEffect s i u k) entry-open) in
               record {
                 stepped =
                     taken-stepped p (Deliver i u k) hi rows (x .answer-is ∙ ap (λ (y : Out). y .answer) o)
                     (model-is (r .desk) cs′ os′ (x .clock-is) ∙ x .state-is ∙ ap (λ (y : Out). y .state) o) (x .blanks) (x .unique);
-                names-are = x .names-are ∙ ap (λ (y : Out). sets names 0 (namesBeside (y .answer))) (o ∙ sym (accepted-effect s (Deliver i u k) rows));
+                names-are =
+                    x .names-are ∙ ap (λ (y : Out). sets names 0 (namesBeside (y .answer)))
+                    (o ∙ sym (accepted-effect s (Deliver i u k) rows));
                 counted = x .counted;
               }

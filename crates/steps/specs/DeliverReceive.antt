@@ -99,7 +99,8 @@ module _ {b : State} {n i u k e : ℕ} {a own cs os : List ℕ} (r : Arrival b n
 
   -- not ready --
 
-  failing-here : (t : ℕ) → failing places (place a) u (place (openAt os e .vector)) ≡ some t → failing (b .setup .desks) (s .applied i) u (w .vector) ≡ some t
+  failing-here : (t : ℕ) → failing places (place a) u (place (openAt os e .vector)) ≡ some t
+      → failing (b .setup .desks) (s .applied i) u (w .vector) ≡ some t
   failing-here t f =
       rw (r .running .count, upd-same (b .applied) i (place a))
       (sym (failing-narrow n places (place a) u (w .vector) (flat (r .running) u k w is-open) (writer-in .1) (small-n (r .running))) ∙ f)

@@ -146,9 +146,11 @@ pub record OneOutcome (r r′ : Turn) (cs cs′ os os′ : List ℕ) : Type 0 wh
   pub opens : Among os os′
   pub refused : (x : Refusal) → r .answer ≡ Refused x → os ≡ os′
 
-one-outcome : {t : Table} {own : List ℕ} {i : ℕ} {d : Desk} (p : Placed t own i d) {a : Step} (who : actor a ≡ i) {r r′ : Turn} {cs′ cs″ os′ os″ : List ℕ} (names names′ : List ℕ)
+one-outcome : {t : Table} {own : List ℕ} {i : ℕ} {d : Desk} (p : Placed t own i d) {a : Step}
+    (who : actor a ≡ i) {r r′ : Turn} {cs′ cs″ os′ os″ : List ℕ} (names names′ : List ℕ)
     → LeftShape (r .desk) cs′ os′ → LeftShape (r′ .desk) cs″ os″ → Counted (r .answer) → Counted (r′ .answer)
-    → Stepped t i d a (r .desk) cs′ os′ (answerOf (r .answer) names) → Stepped t i d a (r′ .desk) cs″ os″ (answerOf (r′ .answer) names′) → OneOutcome r r′ cs′ cs″ os′ os″
+    → Stepped t i d a (r .desk) cs′ os′ (answerOf (r .answer) names) → Stepped t i d a (r′ .desk) cs″ os″ (answerOf (r′ .answer) names′)
+    → OneOutcome r r′ cs′ cs″ os′ os″
 one-outcome p who names names′ hf hg c c′ a b = record {
   turn = turn-is names names′ (one-desk p who a b hf hg) c c′ (a .answer-is) (b .answer-is);
   cells = one-cells p who a b hf hg;
@@ -163,7 +165,8 @@ one-write {n} {m} {cs} {os} {i} {d} {x} {v} {r} {r′} w hf hg f g =
     let a = f (w .desks) (w .own) (w .placed) in
     let b = g (w .desks) (w .own) (w .placed) in
     let q = write-silent (modelOf (tableOf n m (w .desks) cs os)) i x v in
-    one-outcome (w .placed) refl [] [] hf hg (silent-counted (r .answer) [] q (a .answer-is)) (silent-counted (r′ .answer) [] q (b .answer-is)) a b
+    one-outcome (w .placed) refl [] [] hf hg (silent-counted (r .answer) [] q (a .answer-is))
+    (silent-counted (r′ .answer) [] q (b .answer-is)) a b
 
 -- and the names beside the answer
 pub record OneDelivery (r r′ : Turn) (cs cs′ os os′ names names′ : List ℕ) : Type 0 where

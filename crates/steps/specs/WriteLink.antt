@@ -128,7 +128,8 @@ module _ {whole : Table} {own : List ℕ} {i : ℕ} {d : Desk} (p : Placed whole
       -- with another desk it stays open
       stays-open : (n ≡ 1 → ⊥) → stillOpen n done-here ≡ some done-here
       stays-open ne =
-          cases (everywhere n done-here) (λ t. absurd (new-somewhere (modelOf whole) i x v (omega (arith, hi, ne)) t)) (λ t. rw (t, stillOpen))
+          cases (everywhere n done-here) (λ t. absurd (new-somewhere (modelOf whole) i x v (omega (arith, hi, ne)) t))
+          (λ t. rw (t, stillOpen))
 
       -- alone it is applied everywhere at once
       goes-alone : n ≡ 1 → stillOpen n done-here ≡ none

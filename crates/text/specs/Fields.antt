@@ -92,7 +92,8 @@ digits-stop v b l h n =
 pub digit-zero : (l : List ℕ) → rest (32 ∷ 48 ∷ l) ≡ join (some 0) (rest l)
 unfolding rest words numbers number every isDigit readOn
 digit-zero [] = refl
-digit-zero (b ∷ l) = cases (eqb b 32) (λ e. rw e) (λ e. rw e (elim (words l) as (λ ws. numbers (onto 48 (onto b ws)) ≡ none) [ [] ↦ refl | w ∷ ws ↦ refl ]))
+digit-zero (b ∷ l) =
+    cases (eqb b 32) (λ e. rw e) (λ e. rw e (elim (words l) as (λ ws. numbers (onto 48 (onto b ws)) ≡ none) [ [] ↦ refl | w ∷ ws ↦ refl ]))
 
 -- 1 to 9
 pub digit-first : (d : ℕ) (l : List ℕ) → 48 < d → d ≤ 57 → rest (32 ∷ d ∷ l) ≡ digitsOn (d - 48) l
@@ -109,7 +110,8 @@ pub digit-none : (d : ℕ) (l : List ℕ) → NoDigit d → rest (32 ∷ d ∷ l
 unfolding rest words numbers number every
 digit-none d l n =
     let fails : (w : List ℕ) → number (d ∷ w) ≡ none = (λ w. rw (every-fails isDigit d w (no-digit d n), and-false (unpadded (d ∷ w)))) in
-    cases (eqb d 32) (λ e. rw e) (λ e. rw e (elim (words l) as (λ ws. numbers (onto d ws) ≡ none) [ [] ↦ rw (fails []) | w ∷ ws ↦ rw (fails w) ]))
+    cases (eqb d 32) (λ e. rw e) (λ e. rw e (elim (words l) as
+    (λ ws. numbers (onto d ws) ≡ none) [ [] ↦ rw (fails []) | w ∷ ws ↦ rw (fails w) ]))
 
 -- fields at places of the line --
 

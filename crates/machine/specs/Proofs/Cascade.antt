@@ -71,7 +71,8 @@ quiet-rules {s} {i} m q = record { frame = m .frame; quiet = λ j. same-or j i (
 -- what holds where the turns end, and of a turn if it holds of those after it, holds of the cascade
 module _ {i : ℕ} (P : ℕ → State → Settled → Type 0) (none-left : (s : State) → Midway s i → P zero s (record { names = []; state = s }))
     (ends : (f : ℕ) (s : State) → Midway s i → firstDue s i ≡ none → P (suc f) s (record { names = []; state = s }))
-    (turn : (f : ℕ) (s : State) (u : ℕ) (m : Midway s i) (d : Found s i u) (r : Settled) → P f (apply s i u (suc (s .applied i u)) (d .entry)) r
+    (turn : (f : ℕ) (s : State) (u : ℕ) (m : Midway s i) (d : Found s i u) (r : Settled)
+    → P f (apply s i u (suc (s .applied i u)) (d .entry)) r
     → P (suc f) s (record { names = name u (suc (s .applied i u)) ∷ r .names; state = r .state })) where
   pub settle-all : (f : ℕ) {s : State} → Midway s i → In (s .setup .desks) i → P f s (settle f s i)
   unfolding settle
@@ -94,7 +95,8 @@ settle-ends f {s} {i} m hi =
       names = omega arith;
     })
     (λ f s m e hi. record { rules = λ l. quiet-rules m (none-due (m .frame) hi e); names = omega arith })
-    (λ f s u m d r t hi. let a = apply-left (m .frame) (d .at) in record { rules = λ l. t hi .rules (omega arith); names = omega (arith, t hi .names) })
+    (λ f s u m d r t hi. let a = apply-left (m .frame) (d .at) in
+    record { rules = λ l. t hi .rules (omega arith); names = omega (arith, t hi .names) })
     f m hi hi
 
 pub settle-rules : (f : ℕ) {s : State} {i : ℕ} → Midway s i → In (s .setup .desks) i → left s i ≤ f → Rules (settle f s i .state)

@@ -68,7 +68,8 @@ module _ {s : State} {h : List Event} (r : Rules s) (b : Observed s h) where
   -- what a write counts that its desk has yet to apply
   missing : (i u k q t j : ℕ) → WriteAt h q u k → UpTo h q t j → (t ≡ u → j ≡ k → ⊥) → s .applied i t < j → CauseMissing h i q
   missing i u k q t j w c ne lt = elim (c .order) [
-    | inl z ↦ (let e : write-at t (c .write .cell) (c .write .status) j ≡ write-at u (w .cell) (w .status) k = at-one h q (rw z at (c .write .at)) (w .at) in
+    | inl z ↦ (let e : write-at t (c .write .cell) (c .write .status) j ≡ write-at u (w .cell) (w .status) k =
+        at-one h q (rw z at (c .write .at)) (w .at) in
         absurd (ne (cc) (cc)))
     | inr p ↦ record { place = c .place; writer = t; number = j; write = c .write; precedes = p; unapplied = λ m. let y = b .traced .counts i t j .0 m .1 in omega arith }
   ]

@@ -98,7 +98,8 @@ mem-cases i h e {b} m = go (entryOf i (length h) e) (entries i (length h) e) (Li
 -- of a write: it was there, or the event applies it
 pub applied-cases : {R : Type 0} (i : ℕ) (h : List Event) (e : Event) {w : Name} → List·Memᴰ (applied w) (deskList i (add h e))
     → (List·Memᴰ (applied w) (deskList i h) → R) → (e ≡ apply-at i w → R) → R
-applied-cases i h e m f g = elim (mem-cases i h e m) [ inl m ↦ f m | inr o ↦ elim o [ reads x v q r ↦ clash (cc) | applies w q r ↦ g (cc) ] ]
+applied-cases i h e m f g =
+    elim (mem-cases i h e m) [ inl m ↦ f m | inr o ↦ elim o [ reads x v q r ↦ clash (cc) | applies w q r ↦ g (cc) ] ]
 
 -- own reads --
 

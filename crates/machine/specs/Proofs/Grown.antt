@@ -114,7 +114,8 @@ module _ {s : State} (f : Frame s) (c : ℕ → Vec) (o : ℕ → ℕ → Option
   abbrev changed : State
   changed = record { setup = s .setup; applied = s .applied; clock = c; cell = s .cell; opens = o }
 
-  changed-frame : ((u k : ℕ) → isOpen changed u k ≡ isOpen s u k) → Clocks changed → ((u k : ℕ) (w : Open) → o u k ≡ some w → OpenWrite s u k w) → Frame changed
+  changed-frame : ((u k : ℕ) → isOpen changed u k ≡ isOpen s u k) → Clocks changed
+      → ((u k : ℕ) (w : Open) → o u k ≡ some w → OpenWrite s u k w) → Frame changed
   unfolding openCount
   changed-frame same h each =
       let g : Grown s changed = record { setup = refl; more = λ j t. omega arith } in
@@ -123,7 +124,9 @@ module _ {s : State} (f : Frame s) (c : ℕ → Vec) (o : ℕ → ℕ → Option
           desks = f .ranges .desks;
           cells = f .ranges .cells;
           written = f .ranges .written;
-          few = rw (ap (λ (p : ℕ → ℕ → Bool). sum (s .setup .desks) (λ u. tally (written s u) (p u))) (fun-ext (λ a. fun-ext (same a)))) (f .ranges .few);
+          few =
+              rw (ap (λ (p : ℕ → ℕ → Bool). sum (s .setup .desks) (λ u. tally (written s u) (p u))) (fun-ext (λ a. fun-ext (same a))))
+              (f .ranges .few);
         };
         counts = record { inside = f .counts .inside; most = f .counts .most };
         clocks = h;
@@ -145,7 +148,9 @@ read-clock {s} f i x (set v u w) e =
 
 pub read-rules : {s : State} → Rules s → (i x : ℕ) → Rules (read s i x)
 read-rules {s} r i x = record {
-  frame = changed-frame (r .frame) _ (s .opens) (λ u k. refl) (record { below = λ j. each j .below; own = λ j. each j .own }) (r .frame .open-write);
+  frame =
+      changed-frame (r .frame) _ (s .opens) (λ u k. refl) (record { below = λ j. each j .below; own = λ j. each j .own })
+      (r .frame .open-write);
   quiet = r .quiet;
 }
   where
@@ -162,9 +167,11 @@ pub hold-rules : {s : State} → Rules s → (i u k : ℕ) (w : Open) → In (s 
 hold-rules {s} r i u k w hi e ma nr = record {
   frame =
       changed-frame f (s .clock) _
-      (λ a c. upd2-all (s .opens) u k (some (mark w i held)) (λ a c z. not (isNone z) ≡ isOpen s a c) a c (λ p q. rw (p, q, e)) (λ ne. refl))
+      (λ a c. upd2-all (s .opens) u k (some (mark w i held)) (λ a c z. not (isNone z) ≡ isOpen s a c) a c (λ p q. rw (p, q, e))
+      (λ ne. refl))
       (record { below = f .clocks .below; own = f .clocks .own })
-      (upd2-some (OpenWrite s) (s .opens) u k (some (mark w i held)) (λ z q. let n : mark w i held ≡ z = cc in rw (← n) this) (λ a c z ne q. f .open-write a c z q));
+      (upd2-some (OpenWrite s) (s .opens) u k (some (mark w i held)) (λ z q. let n : mark w i held ≡ z = cc in rw (← n) this)
+      (λ a c z ne q. f .open-write a c z q));
   quiet = λ j.
       upd2-some (λ a c z. Waits s j a z) (s .opens) u k (some (mark w i held))
       (λ z q. let n : mark w i held ≡ z = cc in rw (← n) (quiet-this j))

@@ -151,7 +151,8 @@ record Freed (s : State) (r : Settled) : Type 0 where
 
 settle-held : (f : ℕ) {s : State} {i : ℕ} → Midway s i → In (s .setup .desks) i → Freed s (settle f s i)
 settle-held f {i = i} m hi =
-    settle-all (λ f s r. Freed s r) (λ s m. record { names = no; count = omega arith }) (λ f s m e. record { names = no; count = omega arith })
+    settle-all (λ f s r. Freed s r) (λ s m. record { names = no; count = omega arith })
+    (λ f s m e. record { names = no; count = omega arith })
     (λ f s u m d r t.
     let b = to-be-open (m .frame) u (suc (s .applied i u)) (d .at .is) in
     let a : heldCount s ≡ 1 + heldCount (apply s i u (suc (s .applied i u)) (d .entry)) = rw (d .is-held) at (apply-held (m .frame) (d .at)) in

@@ -30,7 +30,8 @@ refuse-kept : {s : State} → Rules s → (r : Refusal) → Kept (refuse r s)
 refuse-kept q r = record { rules = q; few = λ l e. clash (cc) }
 
 -- a delivery that is accepted and ready
-module _ {s : State} {i u k : ℕ} {w : Open} (r : Rules s) (d : Delivery s i u k w) (e : failing (s .setup .desks) (s .applied i) u (w .vector) ≡ none) where
+module _ {s : State} {i u k : ℕ} {w : Open} (r : Rules s) (d : Delivery s i u k w)
+    (e : failing (s .setup .desks) (s .applied i) u (w .vector) ≡ none) where
   pub delivered-at : ReadyAt s i u k w
   delivered-at = record { desk = d .desk; is = d .is; ready = ap isNone e }
 
@@ -38,7 +39,8 @@ module _ {s : State} {i u k : ℕ} {w : Open} (r : Rules s) (d : Delivery s i u 
   delivered-midway = apply-midway (record { frame = r .frame; quiet = λ j ne. r .quiet j }) delivered-at
 
 step-kept : {s : State} → Rules s → (a : Step) → Kept (step s a)
-step-kept {s} r (Read i x) = step-cases s (Read i x) Kept (refuse-kept r) (λ h. record { rules = read-rules r i x; few = λ l e. clash (cc) })
+step-kept {s} r (Read i x) =
+    step-cases s (Read i x) Kept (refuse-kept r) (λ h. record { rules = read-rules r i x; few = λ l e. clash (cc) })
 step-kept {s} r (Write i x v) =
     step-cases s (Write i x v) Kept (refuse-kept r)
     (λ h. record { rules = write-rules r i x v (h .0) (h .1 .0) (h .1 .1 .0) (h .1 .1 .1 .0) (h .1 .1 .1 .1 .0); few = λ l e. clash (cc) })
@@ -50,7 +52,9 @@ step-kept {s} r (Deliver i u k) =
     let b = left-few (r .frame) i (d .desk) in
     record {
       rules = settle-rules most-open mid (d .desk) (omega (arith, r .frame .ranges .few));
-      few = λ l e. let z : name u k ∷ settle most-open (apply s i u k w) i .names ≡ l = cc in rw (← z) (omega (arith, settle-names most-open mid (d .desk), r .frame .ranges .few));
+      few =
+          λ l e. let z : name u k ∷ settle most-open (apply s i u k w) i .names ≡ l = cc in
+          rw (← z) (omega (arith, settle-names most-open mid (d .desk), r .frame .ranges .few));
     })
 step-kept {s} r (Trip i xs) =
     step-cases s (Trip i xs) Kept (refuse-kept r) (λ h. record { rules = reads-keep Rules i (λ s x q. read-rules q i x) xs s r; few = λ l e. clash (cc) })

@@ -31,7 +31,8 @@ module _ (h : List Event) (e : Event) where
 
   pub received-less : {i u k : ℕ} → (e ≡ receive-at i (name u k) → ⊥) → Received (add h e) i u k → Received h i u k
   received-less n (its-own q) = its-own q
-  received-less {i} {u} {k} n (delivered p a) = elim (at-either h e p (receive-at i (name u k)) a) [ before b ↦ delivered p b | last _ q ↦ absurd (n q) ]
+  received-less {i} {u} {k} n (delivered p a) =
+      elim (at-either h e p (receive-at i (name u k)) a) [ before b ↦ delivered p b | last _ q ↦ absurd (n q) ]
 
   mark-same : {i u k m : ℕ} → (e ≡ receive-at i (name u k) → ⊥) → Mark h i u k m → Mark (add h e) i u k m
   mark-same n r = record { not-yet = λ z a. r .not-yet z (received-less n a); came = λ z. received-old (r .came z) }
@@ -40,7 +41,8 @@ module _ (h : List Event) (e : Event) where
   more-sent : {opens : ℕ → ℕ → Option Open} → Marked opens h → ((i u k : ℕ) → e ≡ receive-at i (name u k) → (q : ℕ) × WriteAt h q u k)
       → (p i u k : ℕ) → At (add h e) p (receive-at i (name u k)) → (q : ℕ) × WriteAt (add h e) q u k
   more-sent r f p i u k a =
-      let z : (q : ℕ) × WriteAt h q u k = elim (at-either h e p (receive-at i (name u k)) a) [ before b ↦ r .sent p i u k b | last _ q ↦ f i u k q ] in
+      let z : (q : ℕ) × WriteAt h q u k = elim (at-either h e p
+      (receive-at i (name u k)) a) [ before b ↦ r .sent p i u k b | last _ q ↦ f i u k q ] in
       (z .0, write-old h e (z .1))
 
   more-got : {opens : ℕ → ℕ → Option Open} → Marked opens h → ((i u k : ℕ) → e ≡ apply-at i (name u k) → Received h i u k)

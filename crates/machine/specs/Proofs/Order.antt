@@ -96,7 +96,8 @@ module _ (h : List Event) (e : Event) where
   prec-old (chained c d) = chained (prec-old c) (prec-old d)
 
   pub upto-old : {q t j : ℕ} → UpTo h q t j → UpTo (add h e) q t j
-  upto-old b = record { place = b .place; write = write-old (b .write); order = elim (b .order) [ inl z ↦ inl z | inr c ↦ inr (prec-old c) ] }
+  upto-old b =
+      record { place = b .place; write = write-old (b .write); order = elim (b .order) [ inl z ↦ inl z | inr c ↦ inr (prec-old c) ] }
 
   module _ (o : Ordered (add h e)) where
     pub prec-less : {p q : ℕ} → Precedes (add h e) p q → q < length h → Precedes h p q
@@ -126,7 +127,8 @@ module _ (h : List Event) (e : Event) where
     pub upto-last : {t j : ℕ} → UpTo (add h e) (length h) t j → LastUp h e t j
     upto-last b = elim (b .order) [
       | inl z ↦ itself (b .write .cell) (b .write .status) (sym (at-last (b .place) (b .write .at) z))
-      | inr c ↦ let l = prec-last c refl in through (l .place) (record { place = b .place; write = write-less (b .write) (forward o c); order = l .order }) (l .link)
+      | inr c ↦ let l = prec-last c refl in through (l .place)
+          (record { place = b .place; write = write-less (b .write) (forward o c); order = l .order }) (l .link)
     ]
 
     -- what a desk knows that did the new operation, and what the others know

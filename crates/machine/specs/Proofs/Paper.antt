@@ -56,7 +56,8 @@ Cascades s i r = Moves s i (map a-thread (r .names)) (r .state)
 
 pub cascade : (f : ℕ) {s : State} {i : ℕ} → Midway s i → In (s .setup .desks) i → Cascades s i (settle f s i)
 cascade f {i = i} m hi =
-    settle-all (λ f s r. Cascades s i r) (λ s m. stays) (λ f s m e. stays) (λ f s u m d r t. apply-then (m .frame) (d .at) (d .is-held) t) f m hi
+    settle-all (λ f s r. Cascades s i r) (λ s m. stays) (λ f s m e. stays)
+    (λ f s u m d r t. apply-then (m .frame) (d .at) (d .is-held) t) f m hi
 
 -- Read and trip --
 
@@ -161,7 +162,8 @@ module _ (s₀ : State) where
   apply-keeps : (i : ℕ) (s : State) (u k : ℕ) (w : Open) → KeepsMessage u (s₀ .opens u k) (some w) → KeepsAll s → KeepsAll (apply s i u k w)
   apply-keeps i s u k w h f =
       one-keeps s u k _
-      (still-cases (KeepsMessage u (s₀ .opens u k)) (s .setup .desks) (mark w i done) (λ t w w′ e e′. not-both refl e′) (λ t. keeps-mark u i done h)) f
+      (still-cases (KeepsMessage u (s₀ .opens u k)) (s .setup .desks) (mark w i done) (λ t w w′ e e′. not-both refl e′)
+      (λ t. keeps-mark u i done h)) f
 
 pub message-kept : {s : State} → Rules s → (a : Step) (u k : ℕ) → KeepsMessage u (s .opens u k) (step s a .state .opens u k)
 message-kept {s} r a = by a
@@ -201,7 +203,8 @@ message-sent s i x v k two =
     (λ h e. (
     let same : name i (nextNumber s i) ≡ name i k = cc in
     rw (← ap (λ (n : Name). n .number) same, upd2-same)
-    (still-cases (OpenAs i m) (s .setup .desks) (mark (newWrite s i x v) i done) (λ e. absurd (new-somewhere s i x v two e)) (λ e. record { entry = mark (newWrite s i x v) i done; is = refl; message = refl }))))
+    (still-cases (OpenAs i m) (s .setup .desks) (mark (newWrite s i x v) i done) (λ e. absurd (new-somewhere s i x v two e))
+    (λ e. record { entry = mark (newWrite s i x v) i done; is = refl; message = refl }))))
   where
     m : Message
     m = sent i x (record { status = v; writer = i }) (desk s i)

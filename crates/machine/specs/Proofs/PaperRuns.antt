@@ -134,7 +134,8 @@ module _ {s : State} (r : Rules s) where
         → Receipt (a-thread (name u k) ∷ map a-thread (settle most-open (apply s i u k w) i .names)) (settle most-open (apply s i u k w) i .state)
     of-apply e =
         of-receipt (apply-moves r d e)
-        (settle-ways most-open (delivered-midway r d e) (d .desk) ∙ apply-takes s i u k w (d .desk) (d .is) (r .frame .open-write u k w (d .is) .number))
+        (settle-ways most-open (delivered-midway r d e) (d .desk)
+        ∙ apply-takes s i u k w (d .desk) (d .is) (r .frame .open-write u k w (d .is) .number))
         (threads-leave (s .setup .desks) i (d .desk) (desk s) (name u k ∷ settle most-open (apply s i u k w) i .names))
 
   of-step : (a : Step) → AsPaper s a (step s a)
@@ -231,7 +232,8 @@ written-kept : {s : State} → Rules s → (i u k t : ℕ) → written (step s (
 written-kept {s} r i u k t =
     deliver-cases s i u k (λ o. written (o .state) t ≡ written s t) (λ r. refl) (λ w d t e. refl)
     (λ w d e.
-    cascade-keeps i (λ s′. written s′ t ≡ written s t) (λ s′ u k w m y h e. apply-written (m .frame) y t ∙ e) most-open (delivered-midway r d e) (d .desk)
+    cascade-keeps i (λ s′. written s′ t ≡ written s t) (λ s′ u k w m y h e. apply-written (m .frame) y t ∙ e) most-open
+    (delivered-midway r d e) (d .desk)
     (apply-written (r .frame) (delivered-at r d e) t))
 
 wrote-step : {s : State} → Rules s → (u k : ℕ) (a : Step) → written s u < k → k ≤ written (step s a .state) u → Wrote s u k a

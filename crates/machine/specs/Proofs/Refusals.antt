@@ -80,7 +80,8 @@ open-rows : (s : State) (i u k : ℕ) (o : Option Open) → ByRows s ((placeOf o
 open-rows s i u k none = need-rows false received (says-eqb done away) (end-rows (λ r e. clash (cc)))
 open-rows s i u k (some w) =
     need-rows (eqb (w .marks i) away) received (says-eqb (w .marks i) away)
-    (end-rows (option-all (λ f. Accepted (deliverBy s i u k w f .answer)) (failing (s .setup .desks) (s .applied i) u (w .vector)) (λ _ r e. clash (cc)) (λ t _ r e. clash (cc))))
+    (end-rows (option-all (λ f. Accepted (deliverBy s i u k w f .answer)) (failing (s .setup .desks) (s .applied i) u (w .vector))
+    (λ _ r e. clash (cc)) (λ t _ r e. clash (cc))))
 
 by-rows : (s : State) (a : Step) → ByRows s (rowsOf s a) (effectOf s a) (step s a)
 unfolding step
@@ -100,7 +101,8 @@ by-rows s (Deliver i u k) =
 by-rows s (Trip i xs) =
     need-rows (within (s .setup .desks) i) no-desk (says-within (s .setup .desks) i)
     (need-rows (within most-trip (length xs)) trip-size (says-within most-trip (length xs))
-    (need-rows (every (within (s .setup .cells)) xs) no-cell (says-every _ (says-within (s .setup .cells)) xs) (end-rows (λ r e. clash (cc)))))
+    (need-rows (every (within (s .setup .cells)) xs) no-cell (says-every _ (says-within (s .setup .cells)) xs)
+    (end-rows (λ r e. clash (cc)))))
 
 -- the theorems --
 

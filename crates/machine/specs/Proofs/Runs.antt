@@ -20,7 +20,8 @@ pub observed-settle : (f : ℕ) {s : State} {h : List Event} {i : ℕ} → Midwa
 observed-settle f {s} {h} {i} m hi =
     settle-all (λ f s r. (h : List Event) → Observed s h → Observed (r .state) (h ++ map (apply-at i) (r .names)))
     (λ s m h b. rw (append-nil h) b) (λ f s m e h b. rw (append-nil h) b)
-    (λ f s u m d r t h b. rw append-assoc at (t (add h (apply-at i (name u (suc (s .applied i u))))) (observed-apply (m .frame) b (d .at) (d .is-held)))) f m hi h
+    (λ f s u m d r t h b. rw append-assoc at (t (add h (apply-at i (name u (suc (s .applied i u)))))
+    (observed-apply (m .frame) b (d .at) (d .is-held)))) f m hi h
 
 -- the steps --
 
@@ -52,12 +53,15 @@ step-fine {s} {h} r b = by
     by : (a : Step) → Fine s h a (step s a)
     by (Read i x) = step-cases s (Read i x) (Fine s h (Read i x)) (refuse-fine (Read i x)) (λ _. record { fine = observed-read r b i x })
     by (Write i x v) =
-        step-cases s (Write i x v) (Fine s h (Write i x v)) (refuse-fine (Write i x v)) (λ _. record { fine = rw append-assoc at (observed-write (r .frame) b i x v) })
+        step-cases s (Write i x v) (Fine s h (Write i x v)) (refuse-fine (Write i x v))
+        (λ _. record { fine = rw append-assoc at (observed-write (r .frame) b i x v) })
     by (Deliver i u k) =
-        deliver-cases s i u k (Fine s h (Deliver i u k)) (refuse-fine (Deliver i u k)) (λ w d t e. record { fine = observed-hold b i u k w (d .is) })
+        deliver-cases s i u k (Fine s h (Deliver i u k)) (refuse-fine (Deliver i u k))
+        (λ w d t e. record { fine = observed-hold b i u k w (d .is) })
         (λ w d e. record { fine = simp append-assoc at (observed-settle most-open (delivered-midway r d e) (d .desk) (observed-deliver (r .frame) b (delivered-at r d e))) })
     by (Trip i xs) =
-        step-cases s (Trip i xs) (Fine s h (Trip i xs)) (refuse-fine (Trip i xs)) (λ g. record { fine = observed-reads i xs r b (g .0) (g .1 .1 .0) })
+        step-cases s (Trip i xs) (Fine s h (Trip i xs)) (refuse-fine (Trip i xs))
+        (λ g. record { fine = observed-reads i xs r b (g .0) (g .1 .1 .0) })
 
 pub observed-step : {s : State} {h : List Event} → Rules s → Observed s h → (a : Step) → Observed (step s a .state) (h ++ eventsOf s a (step s a .answer))
 observed-step r b a = step-fine r b a .fine

@@ -52,7 +52,8 @@ module _ {s : State} {h : List Event} (r : Traced s h) (i x : ℕ) (low : Below 
       elim (decLe j (s .clock i t)) [
         | yes a ↦ onward r e i a-read t j one a
         | no a ↦ (let g = r .cell i x v u w q in
-            let z : At (add h e) (length h) (read-at i x (shown v u (w u))) = subst (λ (c : Cell). At (add h e) (length h) (read-at i x (shownOf c))) q (at-new h e) in
+            let z : At (add h e) (length h) (read-at i x (shown v u (w u))) =
+            subst (λ (c : Cell). At (add h e) (length h) (read-at i x (shownOf c))) q (at-new h e) in
             upto-then (upto-old h e (g .tells t j one .0 (omega arith))) (shown-by (at-old h e (g .place) (g .at)) z))
       ]
 
@@ -153,7 +154,8 @@ module _ {s : State} {h : List Event} (r : Traced s h) (i x v : ℕ) where
 
   pub traced-raise : Traced (raise s i) (add h (writeOf s i x v))
   traced-raise =
-      op-traced r (writeOf s i x v) (not-listed write-new (λ j w q. clash (cc)) (λ j y w q. clash (cc))) (λ j w q. clash (cc)) i (nextVector s i) a-write write-tells
+      op-traced r (writeOf s i x v) (not-listed write-new (λ j w q. clash (cc)) (λ j y w q. clash (cc))) (λ j w q. clash (cc)) i
+      (nextVector s i) a-write write-tells
 
   pub new-origin : Origin (add h (writeOf s i x v)) i (nextNumber s i) x v (nextVector s i)
   new-origin = record { place = length h; at = at-new h (writeOf s i x v); tells = write-tells }
@@ -162,7 +164,8 @@ module _ {s : State} {h : List Event} (r : Traced s h) (i x v : ℕ) where
 
 pub traced-receive : {s : State} {h : List Event} → Traced s h → (i : ℕ) (w : Name) → Traced s (add h (receive-at i w))
 traced-receive {s} {h} r i w =
-    other-traced r (receive-at i w) (not-listed (not-op (λ j op. elim op [ ])) (λ j v q. clash (cc)) (λ j y v q. clash (cc))) (λ j v q. clash (cc)) (λ j op. elim op [ ])
+    other-traced r (receive-at i w) (not-listed (not-op (λ j op. elim op [ ])) (λ j v q. clash (cc)) (λ j y v q. clash (cc)))
+    (λ j v q. clash (cc)) (λ j op. elim op [ ])
 
 -- Apply --
 

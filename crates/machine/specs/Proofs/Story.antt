@@ -31,7 +31,8 @@ pub record NewEntry (h : List Event) (e : Event) : Type 0 where
   pub apply-after : (i u k : ℕ) → e ≡ apply-at i (name u k) → (q p t j : ℕ) → WriteAt h q u k → WriteAt h p t j → Precedes h p q → Has (deskList i h) t j
 
 -- an event that no desk lists
-pub not-listed : {h : List Event} {e : Event} → NewEvent h e → ((i : ℕ) (w : Name) → e ≡ apply-at i w → ⊥) → ((i x : ℕ) (v : Shown) → e ≡ read-at i x v → ⊥) → NewEntry h e
+pub not-listed : {h : List Event} {e : Event} → NewEvent h e → ((i : ℕ) (w : Name) → e ≡ apply-at i w → ⊥)
+    → ((i x : ℕ) (v : Shown) → e ≡ read-at i x v → ⊥) → NewEntry h e
 not-listed n a r = record {
   new = n;
   written = λ i u k q. absurd (a i (name u k) q);
@@ -99,7 +100,8 @@ module _ (h : List Event) (e : Event) (s : Story h) (n : NewEntry h e) where
   cut-last i q earlier b z (applies w a y) of-read = clash (cc)
   cut-last i q earlier b z (applies w a y) (of-write {u} {k} c) =
       let a′ : e ≡ apply-at i (name u k) = cc in
-      op-write u k z a′ (elim (at-either h e q (write-at u (c .cell) (c .status) k) (c .at)) [ before d ↦ record { cell = c .cell; status = c .status; at = d } | last _ d ↦ clash (cc) ])
+      op-write u k z a′ (elim (at-either h e q (write-at u (c .cell) (c .status) k)
+      (c .at)) [ before d ↦ record { cell = c .cell; status = c .status; at = d } | last _ d ↦ clash (cc) ])
 
   op-cut : (i q : ℕ) (earlier : List Entry) (b : Entry) (later : List Entry) → deskList i (add h e) ≡ earlier ++ b ∷ later → OpAt (add h e) q b → OpCut i q earlier b
   op-cut i q earlier b later eq o = elim (desk-cut i h e earlier b later eq) [

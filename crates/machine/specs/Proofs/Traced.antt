@@ -55,7 +55,8 @@ pub clock-own : {s : State} {h : List Event} → Traced s h → (u : ℕ) → s 
 clock-own {s} {h} r u =
     let low : 1 ≤ s .clock u u → s .clock u u ≤ writesOf u h =
     (λ z. number-in (r .story .ordered .numbered) u (s .clock u u) (r .clock u u (s .clock u u) z .0 (omega arith) .upto .write) .1) in
-    let high : 1 ≤ writesOf u h → writesOf u h ≤ s .clock u u = (λ z. own-known r (number-written (r .story .ordered .numbered) u (writesOf u h) (z, omega arith) .1) .1) in
+    let high : 1 ≤ writesOf u h → writesOf u h ≤ s .clock u u =
+    (λ z. own-known r (number-written (r .story .ordered .numbered) u (writesOf u h) (z, omega arith) .1) .1) in
     same-or (s .clock u u) 0 (λ a. same-or (writesOf u h) 0 (λ b. omega arith) (λ b. omega (arith, high (omega arith))))
     (λ a. let l = low (omega arith) in omega (arith, high (omega arith)))
 
@@ -92,7 +93,8 @@ module _ {s : State} {h : List Event} (r : Traced s h) (e : Event) (n : NewEntry
   knows-same i t j one op = Iff·trans (r .clock i t j one) (Iff·symm (knows-other h e o op))
 
   -- an operation of the desk i, after which its clock is c
-  pub op-traced : (i : ℕ) (c : Vec) → OpOf i e → ((t j : ℕ) → 1 ≤ j → (j ≤ c t) ↔ UpTo (add h e) (length h) t j) → Traced (clocked s (upd (s .clock) i c)) (add h e)
+  pub op-traced : (i : ℕ) (c : Vec) → OpOf i e → ((t j : ℕ) → 1 ≤ j → (j ≤ c t) ↔ UpTo (add h e) (length h) t j)
+      → Traced (clocked s (upd (s .clock) i c)) (add h e)
   op-traced i c op tells =
       clock-traced (upd (s .clock) i c) (λ i′ t j one. upd-all (s .clock) i c (λ i′ c′. (j ≤ c′ t) ↔ Knows (add h e) i′ t j) i′
       (λ z. rw z (Iff·trans (tells t j one) (Iff·symm (knows-new h e o op))))

@@ -24,7 +24,8 @@ abbrev μ-search : tie.MeasureT-search
 abbrev Inv-apply : tie.InvT-apply
 Inv-apply n own cells₀ opens₀ names₀ i u e a₀ w₀ entry₀ len₀ cells opens names a w entry len =
     Safe n i a opens len w entry × ((b : State) → Running b n i a₀ own cells₀ opens₀ → Next n a₀ opens₀ w₀ entry₀
-    → Going (from most-open (midst b i a₀ cells₀ opens₀) i w₀ (openM (openAt opens₀ entry₀))) b n i a own cells opens names₀ names len w entry)
+    → Going (from most-open (midst b i a₀ cells₀ opens₀) i w₀
+    (openM (openAt opens₀ entry₀))) b n i a own cells opens names₀ names len w entry)
 
 abbrev μ-apply : tie.MeasureT-apply
 μ-apply n own cells₀ opens₀ names₀ i u e a₀ w₀ entry₀ len₀ cells opens names a w entry len = most-open - len
@@ -38,11 +39,13 @@ gone : (c : tie.After-put-name Inv-search μ-search Inv-apply μ-apply)
     b (g .n) (g .i) (set (A .a) (A .w - 1) (getD (A .a) (A .w - 1) 0 + 1)) (g .own) (c .before .before .before .apply-at .last .0) (c .before .before .before .apply-at .last .1 .0)
     (g .names .now) (c .put-name .last .0) (A .len + 1))
 gone c b r d =
-    going-turn (c .before .before .before .before .before .before .apply .inv .1 b r d) (c .before .small .ensures) (c .before .before .before .apply-at .ensures)
+    going-turn (c .before .before .before .before .before .before .apply .inv .1 b r d) (c .before .small .ensures)
+    (c .before .before .before .apply-at .ensures)
     (c .put-name .ensures)
 
 apply-holds : tie.Need-apply-holds Inv-search μ-search Inv-apply μ-apply
-apply-holds c = let p = c .pre in (going-safe (going-starts (c .args .names .now) (p .1) (p .2)), λ b r d. going-starts (c .args .names .now) r d)
+apply-holds c =
+    let p = c .pre in (going-safe (going-starts (c .args .names .now) (p .1) (p .2)), λ b r d. going-starts (c .args .names .now) r d)
 
 search-holds : tie.Need-search-holds Inv-search μ-search Inv-apply μ-apply
 search-holds c = (scan-whole _ _, (search needs, search needs))

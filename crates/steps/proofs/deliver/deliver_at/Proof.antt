@@ -21,9 +21,11 @@ returns c m ds p =
     let q = c .before .before in
     let t = q .before .before in
     let g = t .before .args in
-    rw (c .refused .ensures) (meets-refused p (g .u) (g .k) _ (g .names .now) (failed p (g .u) (g .k) _ (rw (q .test .given .1) at (t .tests .ensures))))
+    rw (c .refused .ensures) (meets-refused p (g .u) (g .k) _ (g .names .now)
+    (failed p (g .u) (g .k) _ (rw (q .test .given .1) at (t .tests .ensures))))
 
-past : (c : tie.After-enum-told) → (let g = c .before .before .before .args in AllPass (askedOf (g .n) (g .d .applied) (g .own) (g .i) (g .u) (g .k)))
+past : (c : tie.After-enum-told) → (let g = c .before .before .before .args in
+    AllPass (askedOf (g .n) (g .d .applied) (g .own) (g .i) (g .u) (g .k)))
 past c = rw (c .enum-told .given .1) at (c .before .before .tests .ensures)
 
 small-requires : tie.Need-small-requires
@@ -47,7 +49,8 @@ returns-2 c m ds p =
     let g = t .before .before .before .args in
     rw (c .refused2 .ensures)
     (meets-refused p (g .u) (g .k) Received (g .names .now)
-    (known p (g .u) (g .k) (past t) (none-open p (g .u) (g .k) (past t) (found-none (g .opens .now) (g .u) (g .k) (f .find .result) (found f) (c .before .enum-told2 .given .1)))))
+    (known p (g .u) (g .k) (past t) (none-open p (g .u) (g .k) (past t)
+    (found-none (g .opens .now) (g .u) (g .k) (f .find .result) (found f) (c .before .enum-told2 .given .1)))))
 
 entry : (c : tie.After-known-told2)
     → (let g = c .before .before .before .before .before .before .before .before .before .args in
@@ -69,7 +72,8 @@ mark-is : (c : tie.After-mark-at)
 mark-is c =
     let t = c .before .before .before .before .before .before .before .before in
     let g = t .before .before .before .args in
-    c .mark-at .ensures ∙ sym (place-at (openAt (g .opens .now) (c .before .before .before .e .given .0 .0) .marks) (g .i) (past t .0 .0 .0))
+    c .mark-at .ensures ∙ sym (place-at (openAt (g .opens .now) (c .before .before .before .e .given .0 .0) .marks) (g .i)
+    (past t .0 .0 .0))
 
 returns-3 : tie.Need-returns-3
 returns-3 c m ds p =

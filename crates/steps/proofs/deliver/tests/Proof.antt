@@ -18,7 +18,8 @@ returns-2 : tie.Need-returns-2
 returns-2 c = inl (λ h. stops (says-within _ _) (c .before .inside2 .ensures) (c .if2 .taken) (h .1), refl)
 
 desks : (c : tie.Else2) → (let g = c .before .before .before .before .before .args in In (g .n) (g .i) × In (g .n) (g .u))
-desks c = (passes (says-within _ _) (c .before .before .before .inside .ensures) (c .before .before .if1 .left), passes (says-within _ _) (c .before .inside2 .ensures) (c .if2 .left))
+desks c =
+    (passes (says-within _ _) (c .before .before .before .inside .ensures) (c .before .before .if1 .left), passes (says-within _ _) (c .before .inside2 .ensures) (c .if2 .left))
 
 writer : (c : tie.Else3) → In places (c .before .before .before .before .before .before .args .u)
 writer c = let h = desks (c .before) .1 in (h .0, omega (arith, h .1, c .before .before .before .before .before .before .pre))

@@ -40,7 +40,8 @@ returns-2 c ds own p =
     (inr (desk-in (c .before .before .before), inl (stops (says-within _ _) (c .before .before .inside2 .ensures) (c .before .if2 .taken), refl)))
 
 -- the first three rows pass
-rows : (k : tie.Else3) → (let g = k .before .before .before .before .before .args in In (g .n) (g .i) × (In (g .m) (g .x) × (g .v ≤ most-status)))
+rows : (k : tie.Else3) → (let g = k .before .before .before .before .before .args in
+    In (g .n) (g .i) × (In (g .m) (g .x) × (g .v ≤ most-status)))
 rows k = (desk-in (k .before .before .before), (cell-in (k .before), omega (arith, k .if3 .left)))
 
 returns-3 : tie.Need-returns-3
@@ -79,7 +80,8 @@ returns-6 c ds own p =
     let r = rows (t .before .before .before .before .before) in
     let w = c .written .ensures in
     rw (w .turn, w .cells, w .opens, c .before .small .ensures)
-    (write-stepped p (r .0) (unspent (t .before .before)) _ _ (r .1 .0) _ (r .1 .1) (t .spot-for .ensures) (not-full (c .before .before .before .before)))
+    (write-stepped p (r .0) (unspent (t .before .before)) _ _ (r .1 .0) _ (r .1 .1) (t .spot-for .ensures)
+    (not-full (c .before .before .before .before)))
 
 pub write-at-spec : {M : Type 1} → statement M
 write-at-spec =
