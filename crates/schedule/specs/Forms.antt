@@ -194,5 +194,6 @@ module _ (s : List ℕ) (z : length s ≡ 0 → ⊥) (h : length s ≤ most-byte
   line-other a b c =
       cases (eqb (getD s 0 0) space)
       (λ q. no-letter (eqb-true _ _ q))
-      (λ q. by-letter (getD s 0 0) q refl ∙ rw (ne-eqb _ 78 (λ e. a (inl e)), ne-eqb _ 82 (λ e. a (inr e)), ne-eqb _ 87 (λ e. b (inr e)), ne-eqb _ 68 (λ e. b (inl e)), ne-eqb _ 84 c)
+      (λ q. by-letter (getD s 0 0) q refl
+      ∙ rw (ne-eqb _ 78 (λ e. a (inl e)), ne-eqb _ 82 (λ e. a (inr e)), ne-eqb _ 87 (λ e. b (inr e)), ne-eqb _ 68 (λ e. b (inl e)), ne-eqb _ 84 c)
       (sayAt-all s 1 (λ l. none) (λ o. o ≡ none) refl (λ l _. refl)))

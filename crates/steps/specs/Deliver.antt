@@ -100,7 +100,8 @@ module _ {whole : Table} {own : List ℕ} {i : ℕ} {d : Desk} (p : Placed whole
     -- what the desk has applied it has received
     old : In n i → In n u → In (written s u) k → (place (d .applied) u < k → ⊥) → machine.place s i u k ≡ away → ⊥
     old hi hu hk l q =
-        omega (arith, done-counted (p .sound .rules .frame) i u k hi hu hk .1 (omega (arith, ap (λ (v : machine.Vec). v u) (counts-start p hi))))
+        let e = ap (λ (v : machine.Vec). v u) (counts-start p hi) in
+        omega (arith, done-counted (p .sound .rules .frame) i u k hi hu hk .1 (omega arith))
 
     -- the tests fail as the machine's do
     pub failed : (r : machineAnswer.Refusal) → FirstFails (askedOf n (d .applied) own i u k) r → FirstFails (rowsOf s (Deliver i u k)) r

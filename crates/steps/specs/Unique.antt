@@ -179,4 +179,5 @@ pub one-deliver : {n : ℕ} {d : Desk} {own cs os names : List ℕ} {i u k : ℕ
 one-deliver {names′ = names′} {names″ = names″} w hf hg f g =
     let a = f (w .0) (w .1) (w .2) in
     let b = g (w .0) (w .1) (w .2) in
-    record { outcome = one-outcome (w .2) refl names′ names″ hf hg (a .counted) (b .counted) (a .stepped) (b .stepped); beside = a .names-are ∙ sym (b .names-are) }
+    let o = one-outcome (w .2) refl names′ names″ hf hg (a .counted) (b .counted) (a .stepped) (b .stepped) in
+    record { outcome = o; beside = a .names-are ∙ sym (b .names-are) }

@@ -147,7 +147,8 @@ module _ {whole : Table} {own : List ℕ} {i : ℕ} {d : Desk} (p : Placed whole
             unique-store os e o (h .1 .0) (p .opens-size) full-new (h .1 .1) inuse fresh (p .sound .unique),
           )
       opens-new Alone h ne =
-          (rw (goes-alone h) (upd2-is (opensM os) i (nextNumber (modelOf whole) i) none (opensM os) (new-number i (p .sound .rules .frame)) (λ j y nj. refl)), p .sound .unique)
+          let new = new-number i (p .sound .rules .frame) in
+          (rw (goes-alone h) (upd2-is (opensM os) i (nextNumber (modelOf whole) i) none (opensM os) new (λ j y nj. refl)), p .sound .unique)
       opens-new Full h ne = absurd (ne refl)
 
       few-open : (s : Spot) → Spotted n os s → (s ≡ Full → ⊥) → openCount (modelOf whole) < states.most-open

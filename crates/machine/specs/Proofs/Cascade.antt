@@ -91,7 +91,8 @@ settle-ends f {s} {i} m hi =
     settle-all (λ f s r. In (s .setup .desks) i → Ends i f s r)
     (λ s m hi. record {
       rules = λ l. quiet-rules m (λ u k w is h.
-          cases (ready (s .setup .desks) (s .applied i) u (w .vector)) (λ y. absurd (omega (arith, apply-left (m .frame) (record { desk = hi; is = is; ready = y })))) (λ y. y));
+          cases (ready (s .setup .desks) (s .applied i) u (w .vector))
+          (λ y. absurd (omega (arith, apply-left (m .frame) (record { desk = hi; is = is; ready = y })))) (λ y. y));
       names = omega arith;
     })
     (λ f s m e hi. record { rules = λ l. quiet-rules m (none-due (m .frame) hi e); names = omega arith })

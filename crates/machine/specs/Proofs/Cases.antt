@@ -32,7 +32,8 @@ pub deliver-cases : (s : State) (i u k : ℕ) (Q : Out → Type 0) → ((r : Ref
 deliver-cases s i u k Q refusal f g =
     step-cases s (Deliver i u k) Q refusal (λ h.
     option-all (λ o. placeOf o i ≡ away → Q (deliverEffect s i u k o)) (s .opens u k) (λ e ha. absurd (omega arith))
-    (λ w e ha. let d : Delivery s i u k w = record { desk = h .0 .0; writer = h .0 .1; other = h .1 .0; number = h .1 .1 .0; is = e; is-away = ha } in
+    (λ w e ha. let d : Delivery s i u k w =
+    record { desk = h .0 .0; writer = h .0 .1; other = h .1 .0; number = h .1 .1 .0; is = e; is-away = ha } in
     option-all (λ o. Q (deliverBy s i u k w o)) (failing (s .setup .desks) (s .applied i) u (w .vector)) (g w d) (f w d))
     (h .1 .1 .1 .0))
 

@@ -214,7 +214,10 @@ module _ (i : ℕ) (h : List Event) (e : Event) (idle : (w : Name) → e ≡ app
   unfolding latestFrom
   latest-keep x f =
       ap (latest (add h e) x) (desk-add i h e) ∙ latest-append (add h e) x unset (deskList i h) (entryOf i (length h) e)
-      ∙ elim (entries i (length h) e) [ nothing z _ ↦ rw z | one b z o ↦ elim o [ reads y v q r ↦ rw (z, r) | applies w q r ↦ absurd (idle w q) ] ]
+      ∙ elim (entries i (length h) e) [
+        | nothing z _ ↦ rw z
+        | one b z o ↦ elim o [ reads y v q r ↦ rw (z, r) | applies w q r ↦ absurd (idle w q) ]
+      ]
       ∙ latest-stable h e x unset (deskList i h) f
 
 -- and after one that applies w there

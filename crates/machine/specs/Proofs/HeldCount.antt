@@ -155,9 +155,11 @@ settle-held f {i = i} m hi =
     (λ f s m e. record { names = no; count = omega arith })
     (λ f s u m d r t.
     let b = to-be-open (m .frame) u (suc (s .applied i u)) (d .at .is) in
-    let a : heldCount s ≡ 1 + heldCount (apply s i u (suc (s .applied i u)) (d .entry)) = rw (d .is-held) at (apply-held (m .frame) (d .at)) in
+    let a : heldCount s ≡ 1 + heldCount (apply s i u (suc (s .applied i u)) (d .entry)) =
+    rw (d .is-held) at (apply-held (m .frame) (d .at)) in
     record {
-      names = and (b .writer, b .number) (each-then (λ w a. (a .0, rw (apply-written (m .frame) (d .at) (w .writer)) at (a .1))) (t .names));
+      names =
+          and (b .writer, b .number) (each-then (λ w a. (a .0, rw (apply-written (m .frame) (d .at) (w .writer)) at (a .1))) (t .names));
       count = omega (arith, t .count);
     }) f m hi
 

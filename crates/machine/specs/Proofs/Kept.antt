@@ -57,7 +57,8 @@ step-kept {s} r (Deliver i u k) =
           rw (← z) (omega (arith, settle-names most-open mid (d .desk), r .frame .ranges .few));
     })
 step-kept {s} r (Trip i xs) =
-    step-cases s (Trip i xs) Kept (refuse-kept r) (λ h. record { rules = reads-keep Rules i (λ s x q. read-rules q i x) xs s r; few = λ l e. clash (cc) })
+    step-cases s (Trip i xs) Kept (refuse-kept r) (λ h.
+    record { rules = reads-keep Rules i (λ s x q. read-rules q i x) xs s r; few = λ l e. clash (cc) })
 
 -- the theorems --
 

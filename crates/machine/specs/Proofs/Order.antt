@@ -108,7 +108,8 @@ module _ (h : List Event) (e : Event) where
     pub upto-less : {q t j : ℕ} → UpTo (add h e) q t j → q < length h → UpTo h q t j
     upto-less b k = elim (b .order) [
       | inl z ↦ record { place = b .place; write = write-less (b .write) (omega arith); order = inl z }
-      | inr c ↦ let lt = forward o c in record { place = b .place; write = write-less (b .write) (omega arith); order = inr (prec-less c k) }
+      | inr c ↦ let lt = forward o c in
+          record { place = b .place; write = write-less (b .write) (omega arith); order = inr (prec-less c k) }
     ]
 
     pub prec-last : {p q : ℕ} → Precedes (add h e) p q → q ≡ length h → LastLink h e p
@@ -121,7 +122,8 @@ module _ (h : List Event) (e : Event) where
         let lt = forward o d in
         let s = prec-last d z in
         let b = prec-less c (omega arith) in
-        record { place = s .place; order = inr (elim (s .order) [ inl y ↦ subst (λ (q : ℕ). Precedes h p q) y b | inr d ↦ chained b d ]); link = s .link }
+        let a : Precedes h p (s .place) = elim (s .order) [ inl y ↦ subst (λ (q : ℕ). Precedes h p q) y b | inr d ↦ chained b d ] in
+        record { place = s .place; order = inr a; link = s .link }
 
     -- what precedes or is the new event
     pub upto-last : {t j : ℕ} → UpTo (add h e) (length h) t j → LastUp h e t j
@@ -144,7 +146,8 @@ module _ (h : List Event) (e : Event) where
     pub knows-other : {i t j : ℕ} → (OpOf i e → ⊥) → Knows (add h e) i t j ↔ Knows h i t j
     knows-other {i} {t} {j} op = (
       λ k. elim (at-either h e (k .place) (k .event) (k .at)) [
-        | before a ↦ record { place = k .place; event = k .event; at = a; op = k .op; upto = upto-less (k .upto) (at-inside h (k .place) (k .event) a) }
+        | before a ↦
+            record { place = k .place; event = k .event; at = a; op = k .op; upto = upto-less (k .upto) (at-inside h _ _ a) }
         | last _ z ↦ absurd (op (subst (OpOf i) (sym z) (k .op)))
       ],
       λ k. record { place = k .place; event = k .event; at = at-old (k .place) (k .at); op = k .op; upto = upto-old (k .upto) },

@@ -192,7 +192,8 @@ new-somewhere s i x v two e = same-or i 1 (λ p. lacks 2 (omega arith) (λ q. om
   where
     lacks : (t : ℕ) → In (s .setup .desks) t → t ≢ i → ⊥
     lacks t h ne =
-        omega (arith, done-everywhere (s .setup .desks) (mark (newWrite s i x v) i done) e t h, upd-other (newWrite s i x v .marks) i done t ne)
+        let d = done-everywhere (s .setup .desks) (mark (newWrite s i x v) i done) e t h in
+        omega (arith, upd-other (newWrite s i x v .marks) i done t ne)
 
 -- where there is a desk to send it to, the new open write has the message that figure 4, line 2 sends
 pub message-sent : (s : State) (i x v k : ℕ) → 2 ≤ s .setup .desks → step s (Write i x v) .answer ≡ wrote (name i k)

@@ -184,7 +184,11 @@ never-again {s} {s′} f f′ g u k h e =
     let still = f .open-exactly u k .1 (record {
       writer = subst (λ (z : Setup). In (z .desks) u) (g .setup) (t .writer);
       number = h;
-      lacks = record { desk = l .desk; desk-in = subst (λ (z : Setup). In (z .desks) (l .desk)) (g .setup) (l .desk-in); lower = omega (arith, l .lower, g .more (l .desk) u) };
+      lacks = record {
+        desk = l .desk;
+        desk-in = subst (λ (z : Setup). In (z .desks) (l .desk)) (g .setup) (l .desk-in);
+        lower = omega (arith, l .lower, g .more (l .desk) u);
+      };
     }) in
     apart (isOpen s u k) still (ap (λ (o : Option Open). not (isNone o)) e))
 

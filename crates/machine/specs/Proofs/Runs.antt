@@ -58,7 +58,9 @@ step-fine {s} {h} r b = by
     by (Deliver i u k) =
         deliver-cases s i u k (Fine s h (Deliver i u k)) (refuse-fine (Deliver i u k))
         (λ w d t e. record { fine = observed-hold b i u k w (d .is) })
-        (λ w d e. record { fine = simp append-assoc at (observed-settle most-open (delivered-midway r d e) (d .desk) (observed-deliver (r .frame) b (delivered-at r d e))) })
+        (λ w d e.
+        let t = observed-settle most-open (delivered-midway r d e) (d .desk) (observed-deliver (r .frame) b (delivered-at r d e)) in
+        record { fine = simp append-assoc at t })
     by (Trip i xs) =
         step-cases s (Trip i xs) (Fine s h (Trip i xs)) (refuse-fine (Trip i xs))
         (λ g. record { fine = observed-reads i xs r b (g .0) (g .1 .1 .0) })

@@ -89,7 +89,8 @@ apply-again c =
     let J = c .before .before .before in
     let y = yields-at _ _ _ _ _ (J .if1 .found) (yields J) (c .before .found .given .1) in
     let p = J .before .before .before .before .before .before .before .before .before .pre in
-    (going-safe (gone-on (gone (J .before .before) (p .0) (p .1) (p .2)) (y .0, y .1) (y .2) (y .3)), λ b r d. gone-on (gone (J .before .before) b r d) (y .0, y .1) (y .2) (y .3))
+    let s = going-safe (gone-on (gone (J .before .before) (p .0) (p .1) (p .2)) (y .0, y .1) (y .2) (y .3)) in
+    (s, λ b r d. gone-on (gone (J .before .before) b r d) (y .0, y .1) (y .2) (y .3))
 
 returns : tie.Need-returns Inv-search μ-search Inv-apply μ-apply
 returns c b r d =

@@ -13,9 +13,6 @@ use borrow.Author.Needs.{needs}
 use Rattle.steps.proofs.deliver.deliver_at.Statement.{statement}
 use Rattle.steps.proofs.deliver.deliver_at.Tie as tie
 
-tests-requires : tie.Need-tests-requires
-tests-requires c κs = few-desks (c .pre .2)
-
 returns : tie.Need-returns
 returns c m ds p =
     let q = c .before .before in
@@ -56,9 +53,6 @@ entry : (c : tie.After-known-told2)
     → (let g = c .before .before .before .before .before .before .before .before .before .args in
     let e = c .before .e .given .0 .0 in (e < entries) × (namedAt (g .opens .now) (g .u) (g .k) e ≡ true))
 entry c = found-at _ (c .before .before .before .find .result) _ (found (c .before .before .before)) (c .before .e .given .1)
-
-sub-mark-at : tie.Need-sub-mark-at
-sub-mark-at c = past (c .before .before .before .before .before .before .before) .0 .0 .0
 
 mark-at-requires : tie.Need-mark-at-requires
 mark-at-requires c κs =
@@ -108,7 +102,7 @@ pub deliver-at-spec : {M : Type 1} → statement M
 deliver-at-spec =
     tie.close
     (tie.spec
-    tests-requires
+    (λ c κs. few-desks (c .pre .2))
     (λ c. search needs)
     (λ c κs. search needs)
     returns
@@ -119,7 +113,7 @@ deliver-at-spec =
     (λ c. search needs)
     (λ c κs. search needs)
     returns-2
-    sub-mark-at
+    (λ c. past (c .before .before .before .before .before .before .before) .0 .0 .0)
     mark-at-requires
     (λ c κs. search needs)
     returns-3

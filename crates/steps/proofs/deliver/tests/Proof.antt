@@ -19,7 +19,8 @@ returns-2 c = inl (λ h. stops (says-within _ _) (c .before .inside2 .ensures) (
 
 desks : (c : tie.Else2) → (let g = c .before .before .before .before .before .args in In (g .n) (g .i) × In (g .n) (g .u))
 desks c =
-    (passes (says-within _ _) (c .before .before .before .inside .ensures) (c .before .before .if1 .left), passes (says-within _ _) (c .before .inside2 .ensures) (c .if2 .left))
+    let a = passes (says-within _ _) (c .before .before .before .inside .ensures) (c .before .before .if1 .left) in
+    (a, passes (says-within _ _) (c .before .inside2 .ensures) (c .if2 .left))
 
 writer : (c : tie.Else3) → In places (c .before .before .before .before .before .before .args .u)
 writer c = let h = desks (c .before) .1 in (h .0, omega (arith, h .1, c .before .before .before .before .before .before .pre))
@@ -48,13 +49,15 @@ returns-5 : tie.Need-returns-5
 returns-5 c =
     let f = c .before .before in
     let e = f .before .before .before in
-    inr (desks (e .before), inr (e .if3 .left, inr (passes (says-within _ _) (number (f .before)) (f .if4 .left), inl (λ l. omega (arith, count (c .before), c .if5 .taken), refl))))
+    let m = passes (says-within _ _) (number (f .before)) (f .if4 .left) in
+    inr (desks (e .before), inr (e .if3 .left, inr (m, inl (λ l. omega (arith, count (c .before), c .if5 .taken), refl))))
 
 returns-6 : tie.Need-returns-6
 returns-6 c =
     let f = c .before .before in
     let e = f .before .before .before in
-    (desks (e .before), (e .if3 .left, (passes (says-within _ _) (number (f .before)) (f .if4 .left), (omega (arith, count (c .before), c .if5 .left), tt))))
+    let m = passes (says-within _ _) (number (f .before)) (f .if4 .left) in
+    (desks (e .before), (e .if3 .left, (m, (omega (arith, count (c .before), c .if5 .left), tt))))
 
 pub tests-spec : {M : Type 1} → statement M
 tests-spec =

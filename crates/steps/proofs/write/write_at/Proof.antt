@@ -52,8 +52,10 @@ returns-3 c ds own p =
 returns-4 : tie.Need-returns-4
 returns-4 c ds own p =
     let r = rows (c .before .before .before .before) in
+    let w = written-start p (r .0) in
+    let k = c .before .before .at-place .ensures in
     refused-turn p _ Spent (c .refused4 .ensures)
-    (inr (r .0, inr (r .1 .0, inr (r .1 .1, inl (λ h. omega (arith, c .before .if4 .taken, c .before .before .at-place .ensures, written-start p (r .0)), refl)))))
+    (inr (r .0, inr (r .1 .0, inr (r .1 .1, inl (λ h. omega (arith, c .before .if4 .taken), refl)))))
 
 returns-5 : tie.Need-returns-5
 returns-5 c ds own p =
