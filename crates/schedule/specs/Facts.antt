@@ -1,4 +1,4 @@
--- What holds of every line: how many cells it lists, how large its numbers are; and the two public functions leave no choice.
+-- What holds of every line: how many cells it lists, how long it is; and the two public functions leave no choice.
 use Prim.Native.Nat.{ℕ, _+_, _-_, _*_, _≤_}
 use mathlib.Core.Path.{_≡_, refl, sym, _∙_}
 use mathlib.Core.List.{List, [], _∷_}
@@ -12,13 +12,12 @@ use lib.Seq.{sets, sets-eq, take-at}
 use Rattle.laws.specs.Loop.{cases}
 use Rattle.machine.specs.Steps.{Read, Write, Deliver, Trip}
 use Rattle.schedule.specs.declared.Line.{Line as Answer}
-use Rattle.text.specs.Number.{most-number}
 use Rattle.text.specs.Words.{space}
 use Rattle.text.specs.Fields.{fieldsAt}
-use Rattle.text.specs.Bounds.{Small, small-nil, rest-count, rest-small}
+use Rattle.text.specs.Bounds.{rest-count}
 use Rattle.schedule.specs.Grammar.{Line, begin-line, step-line, most-bytes, two, three, oneOrMore, form, lineOf}
 use Rattle.schedule.specs.Lines.{lineAt, placeIn}
-use Rattle.schedule.specs.Value.{cellsOf, most-listed, numbersOf, SaidBy, value-said}
+use Rattle.schedule.specs.Value.{cellsOf, most-listed, SaidBy, value-said}
 use Rattle.schedule.specs.Forms.{sayAt-all, too-long, no-bytes, no-letter, by-letter}
 
 -- a line is none, or one of the forms of the numbers that follow its letter --
@@ -100,13 +99,6 @@ step-bytes s x =
   where
     no-line : none ≡ some x → 3 ≤ length s
     no-line q = absurd (let z : _≡_ {A = ℕ} 0 1 = cc in omega arith)
-
--- no number above the largest --
-
-pub line-small : (s : List ℕ) (k : ℕ) → getD (numbersOf (lineOf s)) k 0 ≤ most-number
-line-small s =
-    line-all s (λ o. Small (numbersOf o)) small-nil
-    (λ c l h e. form-all (λ l o. Small l → Small (numbersOf o)) (λ l g. small-nil) (λ n m g. g) (λ i x g. g) (λ i x v g. g) (λ i u k g. g) (λ i xs g. g) c l (rw e at (rest-small (drop 1 s))))
 
 -- no choice is left --
 
