@@ -108,20 +108,28 @@ three-two s at f a = go (fieldsAt s at)
     go (some (x ∷ y ∷ [])) = refl
     go (some (x ∷ y ∷ z ∷ l)) = refl
 
+-- what holds of no step, and of what a form makes, holds of what is said in it
+module _ (P : List ℕ → Option Line → Type 0) (z : (l : List ℕ) → P l none) where
+  pub two-all : (f : ℕ → ℕ → Line) → ((a b : ℕ) → P (a ∷ b ∷ []) (some (f a b))) → (l : List ℕ) → P l (two f l)
+  two-all f h [] = z []
+  two-all f h (a ∷ []) = z (a ∷ [])
+  two-all f h (a ∷ b ∷ []) = h a b
+  two-all f h (a ∷ b ∷ c ∷ l) = z (a ∷ b ∷ c ∷ l)
+
+  pub three-all : (f : ℕ → ℕ → ℕ → Line) → ((a b c : ℕ) → P (a ∷ b ∷ c ∷ []) (some (f a b c))) → (l : List ℕ) → P l (three f l)
+  three-all f h [] = z []
+  three-all f h (a ∷ []) = z (a ∷ [])
+  three-all f h (a ∷ b ∷ []) = z (a ∷ b ∷ [])
+  three-all f h (a ∷ b ∷ c ∷ []) = h a b c
+  three-all f h (a ∷ b ∷ c ∷ d ∷ l) = z (a ∷ b ∷ c ∷ d ∷ l)
+
 two-cells : (b : Bool) (l : List ℕ) → cellsOf (two (pairs b) l) ≡ []
-two-cells b [] = refl
-two-cells b (x ∷ []) = refl
-two-cells true (x ∷ y ∷ []) = refl
-two-cells false (x ∷ y ∷ []) = refl
-two-cells b (x ∷ y ∷ z ∷ l) = refl
+two-cells true = two-all (λ l o. cellsOf o ≡ []) (λ l. refl) (pairs true) (λ x y. refl)
+two-cells false = two-all (λ l o. cellsOf o ≡ []) (λ l. refl) (pairs false) (λ x y. refl)
 
 three-cells : (b : Bool) (l : List ℕ) → cellsOf (three (triples b) l) ≡ []
-three-cells b [] = refl
-three-cells b (w ∷ []) = refl
-three-cells b (w ∷ x ∷ []) = refl
-three-cells true (w ∷ x ∷ y ∷ []) = refl
-three-cells false (w ∷ x ∷ y ∷ []) = refl
-three-cells b (w ∷ x ∷ y ∷ z ∷ l) = refl
+three-cells true = three-all (λ l o. cellsOf o ≡ []) (λ l. refl) (triples true) (λ x y z. refl)
+three-cells false = three-all (λ l o. cellsOf o ≡ []) (λ l. refl) (triples false) (λ x y z. refl)
 
 -- nothing is stored: no step, or another form than a trip's
 pub told-none : (o : Option Line) (l : List ℕ) → o ≡ none → Told o NoStep l l

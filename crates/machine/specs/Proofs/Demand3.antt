@@ -71,8 +71,8 @@ module _ {s : State} {h : List Event} (r : Rules s) (b : Observed s h) where
     | inl z ↦ (let e : write-at t (c .write .cell) (c .write .status) j ≡ write-at u (w .cell) (w .status) k =
         at-one h q (rw z at (c .write .at)) (w .at) in
         absurd (ne (cc) (cc)))
-    | inr p ↦
-        record { place = c .place; writer = t; number = j; write = c .write; precedes = p; unapplied = λ m. omega (arith, b .traced .counts i t j .0 m .1) }
+    | inr p ↦ (let un : Has (deskList i h) t j → ⊥ = (λ m. omega (arith, b .traced .counts i t j .0 m .1)) in
+        record { place = c .place; writer = t; number = j; write = c .write; precedes = p; unapplied = un })
   ]
 
   held-lacks : (i u k q : ℕ) (x : Open) → In (s .setup .desks) i → WriteAt h q u k → s .opens u k ≡ some x → x .marks i ≡ held → CauseMissing h i q
