@@ -9,7 +9,7 @@ use native.Mathlib.Decide.{decLe}
 use borrow.Author.Tests.{eq-eqb, ne-eqb}
 use lib.Dec.{eqb}
 use lib.ListN.{length}
-use Rattle.laws.specs.Ends.{AtEnd, before, last, at-inside, at-before, at-end, at-either, CutEnd, inside, outside, cut-end, by-parts}
+use Rattle.laws.specs.Ends.{AtEnd, before, last, at-inside, at-before, at-end, at-either, inside, outside, cut-end, by-parts}
 use Rattle.laws.specs.Count.{count, count-end}
 use Rattle.laws.specs.Says.{clash}
 use Rattle.laws.specs.Update.{same-or}
@@ -228,25 +228,20 @@ not-op n = record {
 
 pub ordered-add : {h : List Event} {e : Event} → Ordered h → NewEvent h e → Ordered (add h e)
 ordered-add {h} {e} o n = record {
-  source = λ q i x v u k a. source′ q i x v u k (at-either h e q (read-at i x (shown v u k)) a);
+  source = λ q i x v u k a. elim (at-either h e q (read-at i x (shown v u k)) a) [
+    | before a ↦ (let r = o .source q i x v u k a in (r .0, r .1, write-old h e (r .2)))
+    | last z w ↦ (let r = n .source i x v u k w in (r .0, (let lt = at-inside h (r .0) _ (r .1 .at) in omega arith), write-old h e (r .1)))
+  ];
   once = λ p q u k a b. once′ p q u k a b (at-either h e p (write-at u (a .cell) (a .status) k) (a .at)) (at-either h e q (write-at u (b .cell) (b .status) k) (b .at));
-  numbered = λ u x v k earlier later q. numbered′ u x v k earlier (cut-end h e earlier (write-at u x v k) later q);
+  numbered = λ u x v k earlier later q. elim (cut-end h e earlier (write-at u x v k) later q) [
+    | inside later z ↦ o .numbered u x v k earlier later z
+    | outside z y ↦ rw (← z) (n .next u x v k y)
+  ];
 }
   where
-    numbered′ : (u x v k : ℕ) (earlier : List Event) → CutEnd h e earlier (write-at u x v k) → k ≡ suc (writesOf u earlier)
-    numbered′ u x v k earlier (inside later z) = o .numbered u x v k earlier later z
-    numbered′ u x v k earlier (outside z y) = rw (← z) (n .next u x v k y)
-
     -- a new write's number is above those of the writes before it
     unwritten : (u x v k p : ℕ) → e ≡ write-at u x v k → WriteAt h p u k → ⊥
     unwritten u x v k p y w = let a = n .next u x v k y in let b = number-in (o .numbered) u k w in omega arith
-
-    source′ : (q i x v u k : ℕ) → AtEnd h e q (read-at i x (shown v u k)) → (p : ℕ) × (p < q) × WriteAt (add h e) p u k
-    source′ q i x v u k (before a) = let r = o .source q i x v u k a in (r .0, r .1, write-old h e (r .2))
-    source′ q i x v u k (last z w) =
-        let r = n .source i x v u k w in
-        let lt = at-inside h (r .0) (write-at u (r .1 .cell) (r .1 .status) k) (r .1 .at) in
-        (r .0, omega arith, write-old h e (r .1))
 
     once′ : (p q u k : ℕ) (a : WriteAt (add h e) p u k) (b : WriteAt (add h e) q u k) → AtEnd h e p (write-at u (a .cell) (a .status) k)
         → AtEnd h e q (write-at u (b .cell) (b .status) k) → p ≡ q
