@@ -6,12 +6,12 @@ use mathlib.Core.List.{List}
 use mathlib.Core.Option.{Option, none, some}
 use native.Mathlib.Omega.{arith}
 use native.Mathlib.Numerals.{add-one}
-use borrow.Author.Tests.{ltb-true, lt-ltb, le-ltb, eq-eqb, ne-eqb, eqb-true, not-true, not-false}
+use borrow.Author.Tests.{ltb-true, lt-ltb, le-ltb, eq-eqb, ne-eqb}
 use lib.ListN.{length, getD, set}
 use lib.Seq.{getD-set-same, getD-set-other}
 use lib.Dec.{ltb, eqb}
 use Rattle.laws.specs.Loop.{pick, cases, scan-map, scan-same, scan-short}
-use Rattle.laws.specs.All.{all, all-at, all-next, all-fails, all-end, all-fails-at, all-same, all-shift}
+use Rattle.laws.specs.All.{all, all-next, all-fails, all-end, all-fails-at, all-same, all-shift}
 use Rattle.laws.specs.Update.{same-or}
 use Rattle.machine.specs.Rules.{In, Flat}
 use Rattle.machine.specs.Table.{Vec}
@@ -56,12 +56,6 @@ unfolding failing all
 ready-all n a u w =
     scan-map isNone (fails a u w) some none n 1
     ∙ scan-same (fails a u w) (λ t. not (not (fails a u w t))) (λ k. false) true n 1 (λ k l h. not-not (fails a u w k))
-
--- a ready write's number is one above the count of its writer
-pub next-of-ready : (n : ℕ) (a : Vec) (u : ℕ) (w : Vec) → In n u → ready n a u w ≡ true → suc (a u) ≡ w u
-next-of-ready n a u w h e =
-    let f : not (fails a u w u) ≡ true = all-at (λ t. not (fails a u w t)) n 1 (sym (ready-all n a u w) ∙ e) u (h .0) (omega (arith, h .1)) in
-    eqb-true (suc (a u)) (w u) (not-false (eqb (suc (a u)) (w u)) (sym (fails-own a u w) ∙ not-true (fails a u w u) f))
 
 -- a vector that is zero past n: the places past n never fail
 pub failing-narrow : (n p : ℕ) (a : Vec) (u : ℕ) (w : Vec) → Flat n w → u ≤ n → n ≤ p → failing p a u w ≡ failing n a u w
@@ -145,15 +139,6 @@ module _ (a v : List ℕ) (u t : ℕ) (h : 1 ≤ t) where
 
   pub failsAt-other : (t ≡ u → ⊥) → ltb (getD a (t - 1) 0) (getD v (t - 1) 0) ≡ failsAt a v u t
   failsAt-other n = sym (fails-other (place a) u (place v) t n ∙ rw (place-at a t h, place-at v t h))
-
--- what an answer says --
-
-pub next-of-readyAt : (a v : List ℕ) (u : ℕ) → In places u → readyAt a v u ≡ true → getD a (u - 1) 0 + 1 ≡ getD v (u - 1) 0
-next-of-readyAt a v u h e =
-    add-one (getD a (u - 1) 0)
-    ∙ ap suc (sym (place-at a u (h .0)))
-    ∙ next-of-ready places (place a) u (place v) h e
-    ∙ place-at v u (h .0)
 
 -- the contract leaves one answer
 abbrev pub waitFor : Option ℕ → Wait

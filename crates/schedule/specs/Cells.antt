@@ -14,6 +14,7 @@ use Rattle.schedule.specs.declared.Line.the-variants.{Trip}
 use Rattle.text.specs.Words.{join}
 use Rattle.text.specs.Fields.{rest, fieldsAt, FieldIs}
 use Rattle.schedule.specs.Forms.{travels, sayAt, Told}
+use Rattle.laws.specs.Says.{clash}
 
 pub data Stored : Type 0 where
   stored : (cells : List ℕ) (n : ℕ) → Stored
@@ -30,11 +31,9 @@ CellsTell s at l Bad l′ = storing l 0 (fieldsAt s at) ≡ unstored
 
 module _ (s : List ℕ) (at : ℕ) (l : List ℕ) (n : ℕ) where
   pub store-one : (x next : ℕ) → FieldIs s at x next → storing l n (fieldsAt s at) ≡ storing (set l n x) (n + 1) (fieldsAt s next)
-  store-one x next h = rw (h .is) (go (fieldsAt s next))
-    where
-      go : (o : Option (List ℕ)) → storing l n (join (some x) o) ≡ storing (set l n x) (n + 1) o
-      go none = refl
-      go (some xs) = let e : n + suc (length xs) ≡ suc n + length xs = omega arith in rw (e, add-one n)
+  store-one x next h =
+      rw (h .is) (elim (fieldsAt s next) as (λ o. storing l n (join (some x) o) ≡ storing (set l n x) (n + 1) o)
+      [ none ↦ refl | some xs ↦ let e : n + suc (length xs) ≡ suc n + length xs = omega arith in rw (e, add-one n) ])
 
   pub store-bad : at < length s → (at < length s → fieldsAt s at ≡ none) → storing l n (fieldsAt s at) ≡ unstored
   store-bad h e = rw (e h)
@@ -46,16 +45,13 @@ module _ (s : List ℕ) (at : ℕ) (l : List ℕ) (n : ℕ) where
 module _ (s : List ℕ) (at i : ℕ) (l : List ℕ) where
   pub trip-bad : storing l 0 (fieldsAt s at) ≡ unstored → sayAt s at (λ xs. some (travels i xs)) ≡ none
   unfolding sayAt bind
-  trip-bad e = go (fieldsAt s at) e
-    where
-      go : (o : Option (List ℕ)) → storing l 0 o ≡ unstored → bind o (λ xs. some (travels i xs)) ≡ none
-      go none e = refl
-      go (some xs) e = absurd (let z : _≡_ {A = ℕ} 0 1 = cc in omega arith)
+  trip-bad =
+      elim (fieldsAt s at) as (λ o. storing l 0 o ≡ unstored → bind o
+      (λ xs. some (travels i xs)) ≡ none) [ none ↦ (λ e. refl) | some xs ↦ (λ e. clash (cc)) ]
 
   pub told-trip : (l′ : List ℕ) (n : ℕ) → storing l 0 (fieldsAt s at) ≡ stored l′ n → Told (sayAt s at (λ xs. some (travels i xs))) (Trip i n) l l′
   unfolding sayAt bind
-  told-trip l′ n e = go (fieldsAt s at) e
-    where
-      go : (o : Option (List ℕ)) → storing l 0 o ≡ stored l′ n → Told (bind o (λ xs. some (travels i xs))) (Trip i n) l l′
-      go none e = absurd (let z : _≡_ {A = ℕ} 0 1 = cc in omega arith)
-      go (some xs) e = let q : n ≡ 0 + length xs = cc in let k : n ≡ length xs = omega arith in (rw k, (cc))
+  told-trip l′ n = elim (fieldsAt s at) as (λ o. storing l 0 o ≡ stored l′ n → Told (bind o (λ xs. some (travels i xs))) (Trip i n) l l′) [
+    | none ↦ (λ e. clash (cc))
+    | some xs ↦ (λ e. let q : n ≡ 0 + length xs = cc in let k : n ≡ length xs = omega arith in (rw k, (cc)))
+  ]

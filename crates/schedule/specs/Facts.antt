@@ -1,4 +1,4 @@
--- What holds of every line: how many cells it lists, how large its numbers are; and the two public functions leave no choice.
+-- What holds of every line: how many cells it lists, how long it is; and the two public functions leave no choice.
 use Prim.Native.Nat.{ℕ, _+_, _-_, _*_, _≤_}
 use mathlib.Core.Path.{_≡_, refl, sym, _∙_}
 use mathlib.Core.List.{List, [], _∷_}
@@ -12,31 +12,17 @@ use lib.Seq.{sets, sets-eq, take-at}
 use Rattle.laws.specs.Loop.{cases}
 use Rattle.machine.specs.Steps.{Read, Write, Deliver, Trip}
 use Rattle.schedule.specs.declared.Line.{Line as Answer}
-use Rattle.text.specs.Number.{most-number}
 use Rattle.text.specs.Words.{space}
 use Rattle.text.specs.Fields.{fieldsAt}
-use Rattle.text.specs.Bounds.{Small, small-nil, rest-count, rest-small}
-use Rattle.schedule.specs.Grammar.{Line, begin-line, step-line, most-bytes, two, three, oneOrMore, form, lineOf}
+use Rattle.text.specs.Bounds.{rest-count}
+use Rattle.schedule.specs.Grammar.{Line, begin-line, step-line, most-bytes, oneOrMore, form, lineOf}
 use Rattle.schedule.specs.Lines.{lineAt, placeIn}
-use Rattle.schedule.specs.Value.{cellsOf, most-listed, numbersOf, SaidBy, value-said}
-use Rattle.schedule.specs.Forms.{sayAt-all, too-long, no-bytes, no-letter, by-letter}
+use Rattle.schedule.specs.Value.{cellsOf, most-listed, SaidBy, value-said}
+use Rattle.schedule.specs.Forms.{two-all, three-all, sayAt-all, too-long, no-bytes, no-letter, by-letter}
 
 -- a line is none, or one of the forms of the numbers that follow its letter --
 
 module _ (P : List ℕ → Option Line → Type 0) (z : (l : List ℕ) → P l none) where
-  two-all : (f : ℕ → ℕ → Line) → ((a b : ℕ) → P (a ∷ b ∷ []) (some (f a b))) → (l : List ℕ) → P l (two f l)
-  two-all f h [] = z []
-  two-all f h (a ∷ []) = z (a ∷ [])
-  two-all f h (a ∷ b ∷ []) = h a b
-  two-all f h (a ∷ b ∷ c ∷ l) = z (a ∷ b ∷ c ∷ l)
-
-  three-all : (f : ℕ → ℕ → ℕ → Line) → ((a b c : ℕ) → P (a ∷ b ∷ c ∷ []) (some (f a b c))) → (l : List ℕ) → P l (three f l)
-  three-all f h [] = z []
-  three-all f h (a ∷ []) = z (a ∷ [])
-  three-all f h (a ∷ b ∷ []) = z (a ∷ b ∷ [])
-  three-all f h (a ∷ b ∷ c ∷ []) = h a b c
-  three-all f h (a ∷ b ∷ c ∷ d ∷ l) = z (a ∷ b ∷ c ∷ d ∷ l)
-
   more-all : (f : ℕ → List ℕ → Line) → ((a : ℕ) (l : List ℕ) → P (a ∷ l) (some (f a l))) → (l : List ℕ) → P l (oneOrMore f l)
   more-all f h [] = z []
   more-all f h (a ∷ l) = h a l
@@ -47,13 +33,13 @@ module _ (P : List ℕ → Option Line → Type 0) (z : (l : List ℕ) → P l n
   unfolding form
   form-all n r w d t c l =
       cases (eqb c 78)
-      (λ e. rw e (two-all begin-line n l))
+      (λ e. rw e (two-all P z begin-line n l))
       (λ e. rw e (cases (eqb c 82)
-      (λ e. rw e (two-all (λ i x. step-line (Read i x)) r l))
+      (λ e. rw e (two-all P z (λ i x. step-line (Read i x)) r l))
       (λ e. rw e (cases (eqb c 87)
-      (λ e. rw e (three-all (λ i x v. step-line (Write i x v)) w l))
+      (λ e. rw e (three-all P z (λ i x v. step-line (Write i x v)) w l))
       (λ e. rw e (cases (eqb c 68)
-      (λ e. rw e (three-all (λ i u k. step-line (Deliver i u k)) d l))
+      (λ e. rw e (three-all P z (λ i u k. step-line (Deliver i u k)) d l))
       (λ e. rw e (cases (eqb c 84) (λ e. rw e (more-all (λ i xs. step-line (Trip i xs)) t l)) (λ e. rw e (z l))))))))))
 
 line-all : (s : List ℕ) (P : Option Line → Type 0) → P none → ((c : ℕ) (l : List ℕ) → length s ≤ most-bytes → fieldsAt s 1 ≡ some l → P (form c l)) → P (lineOf s)
@@ -100,13 +86,6 @@ step-bytes s x =
   where
     no-line : none ≡ some x → 3 ≤ length s
     no-line q = absurd (let z : _≡_ {A = ℕ} 0 1 = cc in omega arith)
-
--- no number above the largest --
-
-pub line-small : (s : List ℕ) (k : ℕ) → getD (numbersOf (lineOf s)) k 0 ≤ most-number
-line-small s =
-    line-all s (λ o. Small (numbersOf o)) small-nil
-    (λ c l h e. form-all (λ l o. Small l → Small (numbersOf o)) (λ l g. small-nil) (λ n m g. g) (λ i x g. g) (λ i x v g. g) (λ i u k g. g) (λ i xs g. g) c l (rw e at (rest-small (drop 1 s))))
 
 -- no choice is left --
 

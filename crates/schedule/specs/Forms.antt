@@ -21,6 +21,7 @@ use Rattle.text.specs.Words.{space, onto, words, join, numbers}
 use Rattle.schedule.specs.Grammar.{Line, begin-line, step-line, most-bytes, two, three, oneOrMore, form, sentence, lineOf}
 use Rattle.schedule.specs.Value.{lineValue, cellsOf}
 use Rattle.text.specs.Fields.{rest, fieldsAt, FieldIs}
+use Rattle.machine.specs.Proofs.Ready.{option-all}
 
 abbrev pub pairs : Bool → ℕ → ℕ → Line
 pairs true n m = begin-line n m
@@ -53,11 +54,8 @@ module _ (s : List ℕ) (at : ℕ) (f : List ℕ → Option Line) where
   -- a field is there
   pub one-field : (v next : ℕ) → FieldIs s at v next → sayAt s at f ≡ sayAt s next (λ l. f (v ∷ l))
   unfolding sayAt bind
-  one-field v next h = rw (h .is) (go (fieldsAt s next))
-    where
-      go : (o : Option (List ℕ)) → bind (join (some v) o) f ≡ bind o (λ l. f (v ∷ l))
-      go none = refl
-      go (some l) = refl
+  one-field v next h =
+      rw (h .is) (elim (fieldsAt s next) as (λ o. bind (join (some v) o) f ≡ bind o (λ l. f (v ∷ l))) [ none ↦ refl | some l ↦ refl ])
 
   -- the line is at its end
   pub no-more : at ≡ length s → sayAt s at f ≡ f []
@@ -88,11 +86,7 @@ module _ (s : List ℕ) (at : ℕ) (f : List ℕ → Option Line) where
   -- what every list of numbers has, the line has
   pub sayAt-all : (P : Option Line → Type 0) → P none → ((l : List ℕ) → fieldsAt s at ≡ some l → P (f l)) → P (sayAt s at f)
   unfolding sayAt bind
-  sayAt-all P z h = go (fieldsAt s at) h
-    where
-      go : (o : Option (List ℕ)) → ((l : List ℕ) → o ≡ some l → P (f l)) → P (bind o f)
-      go none h = z
-      go (some l) h = h l refl
+  sayAt-all P z h = option-all (λ o. P (bind o f)) (fieldsAt s at) (λ _. z) h
 
 -- what reading two fields and the end tells, of every form of two
 abbrev pub pairSays : (ℕ → ℕ → Line) → Pair → Option Line
@@ -114,20 +108,28 @@ three-two s at f a = go (fieldsAt s at)
     go (some (x ∷ y ∷ [])) = refl
     go (some (x ∷ y ∷ z ∷ l)) = refl
 
+-- what holds of no step, and of what a form makes, holds of what is said in it
+module _ (P : List ℕ → Option Line → Type 0) (z : (l : List ℕ) → P l none) where
+  pub two-all : (f : ℕ → ℕ → Line) → ((a b : ℕ) → P (a ∷ b ∷ []) (some (f a b))) → (l : List ℕ) → P l (two f l)
+  two-all f h [] = z []
+  two-all f h (a ∷ []) = z (a ∷ [])
+  two-all f h (a ∷ b ∷ []) = h a b
+  two-all f h (a ∷ b ∷ c ∷ l) = z (a ∷ b ∷ c ∷ l)
+
+  pub three-all : (f : ℕ → ℕ → ℕ → Line) → ((a b c : ℕ) → P (a ∷ b ∷ c ∷ []) (some (f a b c))) → (l : List ℕ) → P l (three f l)
+  three-all f h [] = z []
+  three-all f h (a ∷ []) = z (a ∷ [])
+  three-all f h (a ∷ b ∷ []) = z (a ∷ b ∷ [])
+  three-all f h (a ∷ b ∷ c ∷ []) = h a b c
+  three-all f h (a ∷ b ∷ c ∷ d ∷ l) = z (a ∷ b ∷ c ∷ d ∷ l)
+
 two-cells : (b : Bool) (l : List ℕ) → cellsOf (two (pairs b) l) ≡ []
-two-cells b [] = refl
-two-cells b (x ∷ []) = refl
-two-cells true (x ∷ y ∷ []) = refl
-two-cells false (x ∷ y ∷ []) = refl
-two-cells b (x ∷ y ∷ z ∷ l) = refl
+two-cells true = two-all (λ l o. cellsOf o ≡ []) (λ l. refl) (pairs true) (λ x y. refl)
+two-cells false = two-all (λ l o. cellsOf o ≡ []) (λ l. refl) (pairs false) (λ x y. refl)
 
 three-cells : (b : Bool) (l : List ℕ) → cellsOf (three (triples b) l) ≡ []
-three-cells b [] = refl
-three-cells b (w ∷ []) = refl
-three-cells b (w ∷ x ∷ []) = refl
-three-cells true (w ∷ x ∷ y ∷ []) = refl
-three-cells false (w ∷ x ∷ y ∷ []) = refl
-three-cells b (w ∷ x ∷ y ∷ z ∷ l) = refl
+three-cells true = three-all (λ l o. cellsOf o ≡ []) (λ l. refl) (triples true) (λ x y z. refl)
+three-cells false = three-all (λ l o. cellsOf o ≡ []) (λ l. refl) (triples false) (λ x y z. refl)
 
 -- nothing is stored: no step, or another form than a trip's
 pub told-none : (o : Option Line) (l : List ℕ) → o ≡ none → Told o NoStep l l
@@ -143,11 +145,9 @@ told-form s f h o e r l a =
 first-word : (c : ℕ) (l : List ℕ) → (c ≡ space → ⊥) → sentence (words (c ∷ l)) ≡ bind (rest l) (form c)
 unfolding words numbers rest bind
 first-word c [] n = rw (ne-eqb c space n)
-first-word c (b ∷ l) n = rw (ne-eqb c space n) (cases (eqb b space) (λ e. rw e) (λ e. rw e (go (words l))))
-  where
-    go : (ws : List (List ℕ)) → sentence (onto c (onto b ws)) ≡ none
-    go [] = refl
-    go (w ∷ ws) = refl
+first-word c (b ∷ l) n =
+    rw (ne-eqb c space n) (cases (eqb b space) (λ e. rw e)
+    (λ e. rw e (elim (words l) as (λ ws. sentence (onto c (onto b ws)) ≡ none) [ [] ↦ refl | w ∷ ws ↦ refl ])))
 
 pub too-long : (s : List ℕ) → most-bytes < length s → lineOf s ≡ none
 unfolding lineOf
@@ -157,11 +157,6 @@ pub no-bytes : (s : List ℕ) → length s ≡ 0 → lineOf s ≡ none
 unfolding lineOf words bind
 no-bytes [] e = refl
 no-bytes (c ∷ l) e = absurd (omega arith)
-
-bind-none : (o : Option (List ℕ)) → bind {B = Line} o (λ l. none) ≡ none
-unfolding bind
-bind-none none = refl
-bind-none (some l) = refl
 
 module _ (s : List ℕ) (z : length s ≡ 0 → ⊥) (h : length s ≤ most-bytes) where
   -- the letter decides
@@ -203,8 +198,10 @@ module _ (s : List ℕ) (z : length s ≡ 0 → ⊥) (h : length s ≤ most-byte
   line-trip e = by-letter 84 refl e
 
   pub line-other : ((getD s 0 0 ≡ 78) ⊎ (getD s 0 0 ≡ 82) → ⊥) → ((getD s 0 0 ≡ 68) ⊎ (getD s 0 0 ≡ 87) → ⊥) → (getD s 0 0 ≡ 84 → ⊥) → lineOf s ≡ none
-  unfolding sayAt form
+  unfolding form
   line-other a b c =
       cases (eqb (getD s 0 0) space)
       (λ q. no-letter (eqb-true _ _ q))
-      (λ q. by-letter (getD s 0 0) q refl ∙ rw (ne-eqb _ 78 (λ e. a (inl e)), ne-eqb _ 82 (λ e. a (inr e)), ne-eqb _ 87 (λ e. b (inr e)), ne-eqb _ 68 (λ e. b (inl e)), ne-eqb _ 84 c) (bind-none (fieldsAt s 1)))
+      (λ q. by-letter (getD s 0 0) q refl
+      ∙ rw (ne-eqb _ 78 (λ e. a (inl e)), ne-eqb _ 82 (λ e. a (inr e)), ne-eqb _ 87 (λ e. b (inr e)), ne-eqb _ 68 (λ e. b (inl e)), ne-eqb _ 84 c)
+      (sayAt-all s 1 (λ l. none) (λ o. o ≡ none) refl (λ l _. refl)))

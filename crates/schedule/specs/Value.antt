@@ -1,6 +1,6 @@
 -- The code's value for what a line says, and the cells that stand beside it.
 use mathlib.Core.Path.{_≡_, refl, ap, _∙_}
-use mathlib.Core.List.{List, [], _∷_}
+use mathlib.Core.List.{List, []}
 use mathlib.Core.Option.{Option, none, some}
 use Prim.Native.Nat.{ℕ}
 use lib.ListN.{length}
@@ -29,15 +29,6 @@ cellsOf (some (step-line (travelling i xs))) = xs
 -- so many cells at most does a line list
 abbrev pub most-listed : ℕ
 most-listed = 62
-
--- all its numbers, in the order of the text
-abbrev pub numbersOf : Option Said → List ℕ
-numbersOf none = []
-numbersOf (some (begin-line n m)) = n ∷ m ∷ []
-numbersOf (some (step-line (reading i x))) = i ∷ x ∷ []
-numbersOf (some (step-line (writing i x v))) = i ∷ x ∷ v ∷ []
-numbersOf (some (step-line (delivering i u k))) = i ∷ u ∷ k ∷ []
-numbersOf (some (step-line (travelling i xs))) = i ∷ xs
 
 -- by the cases of the value, with the cells beside it: what the line says
 abbrev pub lineBack : Line → List ℕ → Option Said

@@ -19,9 +19,9 @@ use Rattle.machine.specs.Table as machine
 use Rattle.machine.specs.Table.{Vec, State, most-open, most-writes, done, held, Name, name, written}
 use Rattle.machine.specs.Answer.{nameValues}
 use Rattle.machine.specs.Steps.{ready, everywhere, stillOpen, mark, apply, dueOpen, due, firstDue, Settled, applyNext, settleBy, settle}
-use Rattle.machine.specs.Rules.{In, Flat, Rules}
+use Rattle.machine.specs.Rules.{In, Flat}
 use Rattle.machine.specs.Proofs.Apply.{to-be-open, apply-written}
-use Rattle.machine.specs.Proofs.Kept.{Midway, ReadyAt, ready-next, apply-midway, left, apply-left, left-few, settle-rules}
+use Rattle.machine.specs.Proofs.Kept.{Midway, ReadyAt, ready-next, apply-midway, left, apply-left, left-few}
 use Rattle.reply.specs.Meaning.{namesOf}
 use Rattle.reply.specs.Names.{length-names, names-none, names-more}
 use Rattle.table.specs.declared.Cell.{Cell}
@@ -33,11 +33,12 @@ use Rattle.table.specs.Names.{namedAt, named-is}
 use Rattle.table.specs.Model.{openM, slot, cellsM, opensM, cell-put}
 use Rattle.table.specs.Opens.{Unique, opens-at, opens-mark, unique-mark, openM-mark, opens-mark-free, unique-mark-free}
 use Rattle.table.specs.Sound.{AllZero}
+use Rattle.machine.specs.Proofs.Ready.{option-all}
 
 -- b with other counts at desk i, other cells and other open writes
-abbrev pub midst : State → ℕ → ℕ → List ℕ → List ℕ → List ℕ → State
-midst b n i a cs os = record {
-  setup = machine.sized n (b .setup .cells);
+abbrev pub midst : State → ℕ → List ℕ → List ℕ → List ℕ → State
+midst b i a cs os = record {
+  setup = b .setup;
   applied = upd (b .applied) i (place a);
   clock = b .clock;
   cell = cellsM cs;
@@ -46,11 +47,12 @@ midst b n i a cs os = record {
 
 -- a desk's counts and the two arrays, part of a table that keeps every rule but that a write held at i may be ready
 pub record Running (b : State) (n i : ℕ) (a own cs os : List ℕ) : Type 0 where
-  pub mid : Midway (midst b n i a cs os) i
+  pub count : b .setup .desks ≡ n
+  pub mid : Midway (midst b i a cs os) i
   pub desk : In n i
   pub blanks : (s : ℕ) → s < all-cells → cellAt cs s .writer ≡ 0 → AllZero (cellAt cs s)
   pub unique : Unique os
-  pub own-counts : (u : ℕ) → In places u → place own u ≡ written (midst b n i a cs os) u
+  pub own-counts : (u : ℕ) → In places u → place own u ≡ written (midst b i a cs os) u
   pub counts-size : length a ≡ places
   pub cells-size : length cs ≡ all-cells * cell-width
   pub opens-size : length os ≡ entries * open-width
@@ -76,10 +78,10 @@ pub record AppliedAt (n i e : ℕ) (cs os cs′ os′ : List ℕ) : Type 0 where
 
 module _ {b : State} {n i : ℕ} {a own cs os : List ℕ} (r : Running b n i a own cs os) where
   abbrev s : State
-  s = midst b n i a cs os
+  s = midst b i a cs os
 
   pub small-n : n ≤ places
-  small-n = r .mid .frame .ranges .desks .1
+  small-n = omega (arith, r .count, r .mid .frame .ranges .desks .1)
 
   pub in-places : (u : ℕ) → In n u → In places u
   in-places u h = (h .0, (let l = small-n in omega (arith, h .1)))
@@ -89,7 +91,7 @@ module _ {b : State} {n i : ℕ} {a own cs os : List ℕ} (r : Running b n i a o
 
   -- what is open has nothing past n in its vector
   pub flat : (u k : ℕ) (w : machine.Open) → opensM os u k ≡ some w → Flat n (w .vector)
-  flat u k w e t l = r .mid .frame .counts .inside t t (omega (arith, r .mid .frame .open-write u k w e .issued t)) .0
+  flat u k w e t l = rw (r .count) at (r .mid .frame .counts .inside t t (omega (arith, r .mid .frame .open-write u k w e .issued t)) .0)
 
   pub narrow : (u k : ℕ) (w : machine.Open) → In n u → opensM os u k ≡ some w → ready places (place a) u (w .vector) ≡ ready n (place a) u (w .vector)
   narrow u k w h e = ready-narrow n places (place a) u (w .vector) (flat u k w e) (h .1) small-n
@@ -103,13 +105,13 @@ module _ {b : State} {n i : ℕ} {a own cs os : List ℕ} (r : Running b n i a o
 
     pub ready-at : ReadyAt s i u k w
     ready-at = record {
-      desk = r .desk;
+      desk = rw (r .count) (r .desk);
       is = opens-at os e u k (r .unique) (d .small) (d .holds);
-      ready = rw (upd-same (b .applied) i (place a)) (d .is-ready);
+      ready = rw (r .count, upd-same (b .applied) i (place a)) (d .is-ready);
     }
 
     writer-in : In n u
-    writer-in = ready-next (r .mid .frame) ready-at .writer
+    writer-in = rw (r .count) at (ready-next (r .mid .frame) ready-at .writer)
 
     pub cell-in-range : In desk-cells (openAt os e .cell)
     cell-in-range =
@@ -156,11 +158,11 @@ module _ {b : State} {n i : ℕ} {a own cs os : List ℕ} (r : Running b n i a o
           (λ t. rw (ap′ .opens-are, m, t) (f t))
           (λ t. rw (ap′ .opens-are, m, t) (g t))
 
-      opened : opensM os′ ≡ upd2 (opensM os) u k (stillOpen n (mark w i done))
+      opened : opensM os′ ≡ upd2 (opensM os) u k (stillOpen (b .setup .desks) (mark w i done))
       opened =
-          entry-cases (λ (l : List ℕ). opensM l ≡ upd2 (opensM os) u k (stillOpen n (mark w i done)))
+          rw (r .count) (entry-cases (λ (l : List ℕ). opensM l ≡ upd2 (opensM os) u k (stillOpen n (mark w i done)))
           (λ t. rw (t, stillOpen) (opens-mark-free os e u k (d .small) (r .opens-size) (r .unique) (d .holds) i done pi))
-          (λ t. rw (t, stillOpen) (opens-mark os e u k (d .small) (r .opens-size) (r .unique) (d .holds) i done pi))
+          (λ t. rw (t, stillOpen) (opens-mark os e u k (d .small) (r .opens-size) (r .unique) (d .holds) i done pi)))
 
       unique-after : Unique os′
       unique-after =
@@ -184,17 +186,12 @@ module _ {b : State} {n i : ℕ} {a own cs os : List ℕ} (r : Running b n i a o
           rw (p, cellAt-put cs x c full b (r .cells-size)) (λ q. absurd (omega (arith, writer-is, writer-in .0))))
           (λ p. rw (cellAt-other cs x c full z p) (r .blanks z hz)))
 
-      pub apply-is : midst b n i (raised a u) cs′ os′ ≡ apply s i u k w
-      apply-is = λ j. record {
-        setup = machine.sized n (b .setup .cells);
-        applied = counted j;
-        clock = b .clock;
-        cell = celled j;
-        opens = opened j;
-      }
+      pub apply-is : midst b i (raised a u) cs′ os′ ≡ apply s i u k w
+      apply-is = λ j. record { setup = b .setup; applied = counted j; clock = b .clock; cell = celled j; opens = opened j }
 
       pub running-after : Running b n i (raised a u) own cs′ os′
       running-after = record {
+        count = r .count;
         mid = rw apply-is (apply-midway (r .mid) ready-at);
         desk = r .desk;
         blanks = blanks-after;
@@ -254,20 +251,21 @@ module _ (a own os : List ℕ) (i u : ℕ) where
       ∙ ap (λ (x : ℕ). eqb x held && readyAt a (openAt os e .vector) u) (place-at (openAt os e .marks) i hi ∙ sym p)
 
 module _ {b : State} {n i : ℕ} {a own cs os : List ℕ} (r : Running b n i a own cs os) where
-  due-is : (u : ℕ) → In n u → dueIn a own os i u ≡ due (midst b n i a cs os) i u
-  due-is u h = rw (here r u) (go (opensM os u (suc (place a u))) refl)
-    where
-      go : (o : Option machine.Open) → opensM os u (suc (place a u)) ≡ o → dueIn a own os i u ≡ dueOpen (midst b n i a cs os) i u o
-      go none e = due-none a own os i u e
-      go (some w) e =
-          let f = to-be-open (r .mid .frame) u (suc (place a u)) e in
-          let l : place a u < place own u = omega (arith, f .number .1, r .own-counts u (in-places r u h)) in
-          due-some a own os i u w l e
-          ∙ ap (λ (x : Bool). eqb (w .marks i) held && x) (narrow r u (suc (place a u)) w h e ∙ rw (upd-same (b .applied) i (place a)))
+  due-is : (u : ℕ) → In n u → dueIn a own os i u ≡ due (midst b i a cs os) i u
+  due-is u h =
+      rw (here r u) (option-all (λ o. dueIn a own os i u ≡ dueOpen (midst b i a cs os) i u o) (opensM os u (suc (place a u)))
+      (due-none a own os i u)
+      (λ w e. let f = to-be-open (r .mid .frame) u (suc (place a u)) e in
+      let l : place a u < place own u = omega (arith, f .number .1, r .own-counts u (in-places r u h)) in
+      due-some a own os i u w l e
+      ∙ ap (λ (x : Bool). eqb (w .marks i) held && x) (narrow r u (suc (place a u)) w h e
+      ∙ rw (r .count, upd-same (b .applied) i (place a)))))
 
-  pub first-is : scan (dueIn a own os i) some none n 1 ≡ firstDue (midst b n i a cs os) i
+  pub first-is : scan (dueIn a own os i) some none n 1 ≡ firstDue (midst b i a cs os) i
   unfolding firstDue
-  first-is = scan-same (dueIn a own os i) (due (midst b n i a cs os) i) some none n 1 (λ k l h. due-is k (l, omega arith))
+  first-is =
+      scan-same (dueIn a own os i) (due (midst b i a cs os) i) some none n 1 (λ k l h. due-is k (l, omega arith))
+      ∙ ap (λ (x : ℕ). scan (due (midst b i a cs os) i) some none x 1) (sym (r .count))
 
   pub next-of : {u e : ℕ} → In n u → DueAt a own os i u e → Next n a os u e
   next-of {u} {e} h d = record {
@@ -336,9 +334,9 @@ settle-some f s i u w e o = rw (e, settleBy, o)
 pub record Going (whole : Settled) (b : State) (n i : ℕ) (a own cs os names₀ names : List ℕ) (len u e : ℕ) : Type 0 where
   pub now : Running b n i a own cs os
   pub next : Next n a os u e
-  pub room : len + left (midst b n i a cs os) i ≤ most-open
+  pub room : len + left (midst b i a cs os) i ≤ most-open
   pub holds : Holds names₀ len names
-  pub same : whole ≡ behind (namesOf len names) (from (most-open - len) (midst b n i a cs os) i u (openM (openAt os e)))
+  pub same : whole ≡ behind (namesOf len names) (from (most-open - len) (midst b i a cs os) i u (openM (openAt os e)))
 
 pub record Safe (n i : ℕ) (a os : List ℕ) (len u e : ℕ) : Type 0 where
   pub count : n ≤ places
@@ -353,23 +351,23 @@ pub record Safe (n i : ℕ) (a os : List ℕ) (len u e : ℕ) : Type 0 where
 -- the same once it is applied, before the search
 pub record Gone (whole : Settled) (b : State) (n i : ℕ) (a own cs os names₀ names : List ℕ) (len : ℕ) : Type 0 where
   pub now : Running b n i a own cs os
-  pub room : len + left (midst b n i a cs os) i ≤ most-open
+  pub room : len + left (midst b i a cs os) i ≤ most-open
   pub holds : Holds names₀ len names
-  pub same : whole ≡ behind (namesOf len names) (settle (suc (most-open - len)) (midst b n i a cs os) i)
+  pub same : whole ≡ behind (namesOf len names) (settle (suc (most-open - len)) (midst b i a cs os) i)
 
 -- the end
 pub record Ended (whole : Settled) (b : State) (n i : ℕ) (a own cs os names₀ names : List ℕ) (len : ℕ) : Type 0 where
   pub now : Running b n i a own cs os
   pub few : len ≤ most-open
   pub holds : Holds names₀ len names
-  pub same : whole ≡ record { names = namesOf len names; state = midst b n i a cs os }
+  pub same : whole ≡ record { names = namesOf len names; state = midst b i a cs os }
 
 pub going-starts : {b : State} {n i : ℕ} {a own cs os : List ℕ} {u e : ℕ} (names : List ℕ) → Running b n i a own cs os → Next n a os u e
-    → Going (from most-open (midst b n i a cs os) i u (openM (openAt os e))) b n i a own cs os names names 0 u e
+    → Going (from most-open (midst b i a cs os) i u (openM (openAt os e))) b n i a own cs os names names 0 u e
 going-starts {b} {n} {i} {a} {own} {cs} {os} names r d = record {
   now = r;
   next = d;
-  room = omega (arith, left-few (r .mid .frame) i (r .desk), r .mid .frame .ranges .few);
+  room = omega (arith, left-few (r .mid .frame) i (rw (r .count) (r .desk)), r .mid .frame .ranges .few);
   holds = holds-none names;
   same = rw (names-none names);
 }
@@ -380,7 +378,7 @@ module _ {whole : Settled} {b : State} {n i : ℕ} {a own cs os names₀ names :
   going-room = omega (arith, g .room, apply-left (g .now .mid .frame) (ready-at (g .now) (g .next)))
 
   going-writer : In n u
-  going-writer = ready-next (g .now .mid .frame) (ready-at (g .now) (g .next)) .writer
+  going-writer = writer-in (g .now) (g .next)
 
   -- its number is no larger than the largest
   going-number : place a u < most-writes
@@ -437,7 +435,7 @@ module _ {whole : Settled} {b : State} {n i : ℕ} {a own cs os names₀ names :
         holds = g .holds;
         same =
             g .same
-            ∙ ap (behind (namesOf len names)) (settle-none (suc (most-open - len)) (midst b n i a cs os) i (sym (first-is (g .now)) ∙ e))
+            ∙ ap (behind (namesOf len names)) (settle-none (suc (most-open - len)) (midst b i a cs os) i (sym (first-is (g .now)) ∙ e))
             ∙ rw append-nil;
       }
 
@@ -453,19 +451,10 @@ module _ {whole : Settled} {b : State} {n i : ℕ} {a own cs os names₀ names :
         holds = g .holds;
         same =
             g .same
-            ∙ ap (behind (namesOf len names)) (settle-some (most-open - len) (midst b n i a cs os) i u (openM (openAt os e)) (sym (first-is (g .now)) ∙ f)
+            ∙ ap (behind (namesOf len names)) (settle-some (most-open - len) (midst b i a cs os) i u (openM (openAt os e))
+            (sym (first-is (g .now)) ∙ f)
             (rw (here (g .now) u) (ready-at (g .now) x .is)));
       }
-
--- at the end all the rules hold again
-pub ended-rules : {b : State} {n i : ℕ} {a own cs os a′ own′ cs′ os′ names₀ names : List ℕ} {u e len : ℕ} → Running b n i a own cs os → Next n a os u e
-    → Ended (from most-open (midst b n i a cs os) i u (openM (openAt os e))) b n i a′ own′ cs′ os′ names₀ names len → Rules (midst b n i a′ cs′ os′)
-ended-rules {b} {n} {i} {a} {own} {cs} {os} {u = u} {e = e} r d t =
-    let at = ready-at r d in
-    let s : State = midst b n i a cs os in
-    let l = apply-left (r .mid .frame) at in
-    let q = settle-rules most-open (apply-midway (r .mid) at) (r .desk) (omega (arith, left-few (r .mid .frame) i (r .desk), r .mid .frame .ranges .few)) in
-    subst Rules (sym (ap (λ (x : ℕ). settle most-open (apply s i u x (openM (openAt os e))) i .state) (ap suc (here r u))) ∙ ap (λ (x : Settled). x .state) (t .same)) q
 
 -- what the cascade's code needs and does, for every state that the values are a part of --
 
@@ -475,4 +464,4 @@ Starts n i u e a own cs os = (b : State) × Running b n i a own cs os × Next n 
 abbrev pub Cascades : (n i u e : ℕ) (a own cs os names a′ : List ℕ) (len : ℕ) (cs′ os′ names′ : List ℕ) → Type 0
 Cascades n i u e a own cs os names a′ len cs′ os′ names′ =
     (b : State) → Running b n i a own cs os → Next n a os u e
-    → Ended (from most-open (midst b n i a cs os) i u (openM (openAt os e))) b n i a′ own cs′ os′ names names′ len
+    → Ended (from most-open (midst b i a cs os) i u (openM (openAt os e))) b n i a′ own cs′ os′ names names′ len

@@ -1,43 +1,42 @@
 -- Deliver: the refusals in their order, and the step as the machine's.
 use Prim.Native.Nat.{ℕ, _-_, _<_, _≤_}
-use mathlib.Core.Path.{_≡_, refl, sym, ap, subst, _∙_}
-use mathlib.Core.List.{List}
-use mathlib.Core.Bool.{true, false}
+use mathlib.Core.Path.{_≡_, refl, sym, ap, _∙_}
+use mathlib.Core.List.{List, [], _∷_}
+use mathlib.Core.Bool.{true}
 use mathlib.Core.Option.{Option, none, some}
 use native.Mathlib.Omega.{arith}
-use borrow.Author.Tests.{eqb-false, eq-eqb, ne-eqb, leb-true}
-use lib.ListN.{length}
+use lib.ListN.{set}
 use lib.Seq.{sets}
-use lib.Dec.{eqb, leb}
-use Rattle.laws.specs.Loop.{pick, cases}
 use Rattle.laws.specs.Update.{upd-is}
 use Rattle.clock.specs.Vectors.{places, place}
 use Rattle.machine.specs.Table as machine
 use Rattle.machine.specs.Table.{State, away, done, written, placeOf}
 use Rattle.machine.specs.Answer as machineAnswer
-use Rattle.machine.specs.Answer.{received, refused}
-use Rattle.machine.specs.Steps.{Out, refuse, within, failing, deliverOpen, deliverBy, Deliver, step}
-use Rattle.machine.specs.Rules.{In, Quiet}
-use Rattle.machine.specs.Proofs.Ready.{says-within}
-use Rattle.machine.specs.Refusals.{Accepted}
+use Rattle.machine.specs.Answer.{received, no-desk, own-write, no-write}
+use Rattle.machine.specs.Steps.{Out, Deliver, step}
+use Rattle.machine.specs.Rules.{In}
+use Rattle.machine.specs.Refusals.{Row, _or_, rowsOf, FirstFails, AllPass}
 use Rattle.machine.specs.Proofs.Kept.{done-counted}
-use Rattle.machine.specs.Proofs.Refusals.{not-refused}
+use Rattle.machine.specs.Proofs.Refusals.{refusal-exactly, accepted-effect, effectOf, deliverEffect}
 use Rattle.reply.specs.declared.Refusal.{Refusal}
-use Rattle.reply.specs.declared.Refusal.the-variants.{NoDesk, OwnWrite, NoWrite, Received}
-use Rattle.reply.specs.declared.Answer.the-variants.{Refused}
 use Rattle.reply.specs.Meaning.{refusalOf, answerOf, Counted}
 use Rattle.table.specs.declared.Desk.{Desk}
 use Rattle.table.specs.declared.Table.{Table}
-use Rattle.table.specs.Value.{desk0, entries, openAt}
+use Rattle.table.specs.Value.{entries, openAt}
 use Rattle.table.specs.Names.{namedAt}
-use Rattle.table.specs.Model.{appliedVec, appliedM, openM, cellsM, opensM, applied-at, applied-put, clock-keep, modelOf, tableOf}
+use Rattle.table.specs.Model.{appliedM, openM, cellsM, opensM, applied-put, clock-keep, modelOf, tableOf}
 use Rattle.table.specs.Opens.{opens-at}
 use Rattle.steps.specs.declared.Turn.{Turn}
 use Rattle.steps.specs.declared.deliver.Test.{Test}
 use Rattle.steps.specs.declared.deliver.Test.the-variants.{Passed, Failed}
-use Rattle.steps.specs.Stepped.{Placed, put-back, namesBeside, Stepped, tableAfter}
+use Rattle.steps.specs.Stepped.{Placed, namesBeside, Stepped}
 use Rattle.steps.specs.Cascade.{midst}
 use Rattle.steps.specs.DeliverReceive.{Arrival, Receives, effect}
+use mathlib.Core.Logic.{_≢_, inl, inr}
+use Rattle.laws.specs.Says.{clash}
+use Rattle.steps.specs.LookTurn.{refusedTurn}
+use Rattle.steps.specs.LookStepped.{in-desks, desk-shape, refused-stepped, taken-stepped}
+use Rattle.steps.specs.LookLink.{counts-start}
 
 -- the part of a table that a delivery is handed
 abbrev pub Part : (n : ℕ) (d : Desk) (own cs os : List ℕ) (i : ℕ) → Type 0
@@ -54,54 +53,17 @@ abbrev pub Delivers : (n : ℕ) (d : Desk) (own cs os names : List ℕ) (i u k :
 Delivers n d own cs os names i u k r cs′ os′ names′ =
     (m : ℕ) (ds : List Desk) → Placed (tableOf n m ds cs os) own i d → Meets (tableOf n m ds cs os) d names i u k r cs′ os′ names′
 
--- the refusals that no entry is looked at for: 1 (either desk), 6, 7, and 8 of what the desk has applied
-unfoldable pub testsOf : ℕ → List ℕ → List ℕ → ℕ → ℕ → ℕ → Test
-testsOf n a own i u k =
-    pick (within n i)
-    (pick (within n u)
-    (pick (eqb i u) (Failed OwnWrite)
-    (pick (within (place own u) k)
-    (pick (leb k (place a u)) (Failed Received) Passed)
-    (Failed NoWrite)))
-    (Failed NoDesk))
-    (Failed NoDesk)
+-- what is asked before an entry is looked for: the machine's rows, the last by the desk's count
+abbrev pub askedOf : ℕ → List ℕ → List ℕ → ℕ → ℕ → ℕ → List Row
+askedOf n a own i u k =
+    (In n i × In n u or no-desk) ∷
+    (i ≢ u or own-write) ∷
+    (In (place own u) k or no-write) ∷
+    (place a u < k or received) ∷ []
 
-abbrev pub turnedAway : Desk → Refusal → Turn
-turnedAway d r = record { desk = d; answer = Refused r }
-
-pub record Passes (n : ℕ) (own : List ℕ) (i u k : ℕ) : Type 0 where
-  pub desk : In n i
-  pub writer : In n u
-  pub other : i ≡ u → ⊥
-  pub number : In (place own u) k
-
-no-fail : {R : Type 0} {r : Refusal} → Failed r ≡ Passed → R
-no-fail e = absurd (let z : _≡_ {A = ℕ} 0 1 = cc in omega arith)
-
--- by the test that fails, or all pass
-test-cases : {R : Type 0} (n : ℕ) (a own : List ℕ) (i u k : ℕ) (r : Test) → testsOf n a own i u k ≡ r
-    → (within n i ≡ false → Failed NoDesk ≡ r → R)
-    → (within n i ≡ true → within n u ≡ false → Failed NoDesk ≡ r → R)
-    → (within n i ≡ true → within n u ≡ true → eqb i u ≡ true → Failed OwnWrite ≡ r → R)
-    → (within n i ≡ true → within n u ≡ true → eqb i u ≡ false → within (place own u) k ≡ false → Failed NoWrite ≡ r → R)
-    → (Passes n own i u k → leb k (place a u) ≡ true → Failed Received ≡ r → R)
-    → (Passes n own i u k → Passed ≡ r → R) → R
-unfolding testsOf
-test-cases n a own i u k r e f1 f2 f3 f4 f5 g =
-    cases (within n i) (λ p. cases (within n u) (λ q. cases (eqb i u)
-    (λ t. f3 p q t (rw (p, q, t) at e))
-    (λ t. cases (within (place own u) k)
-    (λ v. let h : Passes n own i u k = record { desk = says-within n i .to p; writer = says-within n u .to q; other = eqb-false i u t; number = says-within (place own u) k .to v } in
-    cases (leb k (place a u))
-    (λ w. f5 h w (rw (p, q, t, v, w) at e))
-    (λ w. g h (rw (p, q, t, v, w) at e)))
-    (λ v. f4 p q t v (rw (p, q, t, v) at e))))
-    (λ q. f2 p q (rw (p, q) at e)))
-    (λ p. f1 p (rw p at e))
-
-pub passes : (n : ℕ) (a own : List ℕ) (i u k : ℕ) (r : Test) → r ≡ testsOf n a own i u k → r ≡ Passed → Passes n own i u k
-passes n a own i u k r e f =
-    test-cases n a own i u k Passed (sym e ∙ f) (λ _. no-fail) (λ _ _. no-fail) (λ _ _ _. no-fail) (λ _ _ _ _. no-fail) (λ _ _. no-fail) (λ h _. h)
+abbrev pub Tested : ℕ → List ℕ → List ℕ → ℕ → ℕ → ℕ → Test → Type 0
+Tested n a own i u k (Failed r) = FirstFails (askedOf n a own i u k) (refusalOf r)
+Tested n a own i u k Passed = AllPass (askedOf n a own i u k)
 
 module _ {whole : Table} {own : List ℕ} {i : ℕ} {d : Desk} (p : Placed whole own i d) where
   abbrev n : ℕ
@@ -119,144 +81,115 @@ module _ {whole : Table} {own : List ℕ} {i : ℕ} {d : Desk} (p : Placed whole
   abbrev s : State
   s = modelOf whole
 
-  own-is : (u : ℕ) → In n u → place own u ≡ written s u
-  own-is u h = p .own-counts u (h .0, (omega (arith, h .1, p .sound .rules .frame .ranges .desks .1)))
-
   pub few-desks : n ≤ places
   few-desks = p .sound .rules .frame .ranges .desks .1
 
-  pub small-number : {u k : ℕ} → Passes n own i u k → k < 65536
-  small-number {u} h = omega (arith, h .number .1, own-is u (h .writer), p .sound .rules .frame .ranges .written u)
-
-  pub passed : (u k : ℕ) → Passes n own i u k → step s (Deliver i u k) ≡ deliverOpen s i u k (opensM os u k)
-  unfolding step
-  passed u k h =
-      rw (says-within n i .from (h .desk), says-within n u .from (h .writer), ne-eqb i u (h .other), ← own-is u (h .writer), says-within (place own u) k .from (h .number))
-
-  pub none-open : (u k : ℕ) → opensM os u k ≡ none → deliverOpen s i u k (opensM os u k) ≡ refuse received s
-  none-open u k e = rw e
-
-  module _ (u k e : ℕ) (h : e < entries) (t : namedAt os u k e ≡ true) where
-    entry-open : opensM os u k ≡ some (openM (openAt os e))
-    entry-open = opens-at os e u k (p .sound .unique) h t
-
-    pub known-open : (place (openAt os e .marks) i ≡ away → ⊥) → deliverOpen s i u k (opensM os u k) ≡ refuse received s
-    known-open ne = rw (entry-open, ne-eqb (place (openAt os e .marks) i) away ne)
-
-    effect-open : place (openAt os e .marks) i ≡ away → deliverOpen s i u k (opensM os u k) ≡ effect s i u k (openM (openAt os e))
-    effect-open q = rw (entry-open, eq-eqb (place (openAt os e .marks) i) away q)
-
   -- a refusal leaves all as it came
-  pub meets-refused : (u k : ℕ) (r : Refusal) (names : List ℕ) → step s (Deliver i u k) ≡ refuse (refusalOf r) s
-      → Meets whole d names i u k (turnedAway d r) cs os names
-  meets-refused u k r names e = record {
-    stepped = record {
-      answer-is = rw e;
-      state-is = rw (put-back n ds i d (p .desk), e);
-      sound = rw (put-back n ds i d (p .desk)) (p .sound);
-      refused-desk = λ x q. refl;
-      refused-cells = λ x q. refl;
-      refused-opens = λ x q. refl;
-    };
-    names-are = rw e;
-    counted = λ c q. let z : _≡_ {A = ℕ} 0 1 = cc in absurd (omega arith);
+  pub meets-refused : (u k : ℕ) (r : Refusal) (names : List ℕ) → FirstFails (rowsOf s (Deliver i u k)) (refusalOf r)
+      → Meets whole d names i u k (refusedTurn d r) cs os names
+  meets-refused u k r names f = record {
+    stepped = refused-stepped p (Deliver i u k) (refusalOf r) f;
+    names-are = rw (refusal-exactly s (Deliver i u k) (refusalOf r) .1 f);
+    counted = λ c q. clash (cc);
   }
 
-  -- the acting desk --
-
-  module _ (hi : In n i) where
-    in-list : In (length ds) i
-    in-list = (hi .0, (omega (arith, hi .1, p .shape .count, p .sound .rules .frame .ranges .desks .1)))
-
-    counts-here : appliedM ds i ≡ place (d .applied)
-    counts-here = applied-at ds i in-list ∙ ap appliedVec (p .desk hi)
+  module _ (u k : ℕ) where
+    own-is : In n u → place own u ≡ written s u
+    own-is h = p .own-counts u (h .0, (omega (arith, h .1, few-desks)))
 
     -- what the desk has applied it has received
-    pub old-open : {u k : ℕ} → Passes n own i u k → k ≤ place (d .applied) u → deliverOpen s i u k (opensM os u k) ≡ refuse received s
-    old-open {u} {k} h l =
-        go (opensM os u k)
-        (done-counted (p .sound .rules .frame) i u k hi (h .writer) (rw (own-is u (h .writer)) at (h .number)) .1 (omega (arith, ap (λ (v : machine.Vec). v u) counts-here)))
-      where
-        go : (o : Option machine.Open) → placeOf o i ≡ done → deliverOpen s i u k o ≡ refuse received s
-        go none e = refl
-        go (some w) e = rw e
+    old : In n i → In n u → In (written s u) k → (place (d .applied) u < k → ⊥) → machine.place s i u k ≡ away → ⊥
+    old hi hu hk l q =
+        let e = ap (λ (v : machine.Vec). v u) (counts-start p hi) in
+        omega (arith, done-counted (p .sound .rules .frame) i u k hi hu hk .1 (omega arith))
 
-    -- the model with another desk in its place --
+    -- the tests fail as the machine's do
+    pub failed : (r : machineAnswer.Refusal) → FirstFails (askedOf n (d .applied) own i u k) r → FirstFails (rowsOf s (Deliver i u k)) r
+    failed r (inl f) = inl f
+    failed r (inr (h, inl f)) = inr (h, inl f)
+    failed r (inr (h, inr (o, inl f))) = inr (h, inr (o, inl (rw (own-is (h .1)) at f)))
+    failed r (inr (h, inr (o, inr (m, inl f)))) =
+        let m′ = rw (own-is (h .1)) at m in
+        inr (h, inr (o, inr (m′, inl (old (h .0) (h .1) m′ (f .0), f .1))))
+    failed r (inr (h, inr (o, inr (m, inr (l, f))))) = absurd f
 
-    pub midst-is : midst s n i (d .applied) cs os ≡ s
-    midst-is = λ j. record {
-      setup = s .setup;
-      applied = sym (upd-is (appliedM ds) i (place (d .applied)) (appliedM ds) counts-here (λ j ne. refl)) j;
-      clock = s .clock;
-      cell = s .cell;
-      opens = s .opens;
-    }
+    module _ (a : AllPass (askedOf n (d .applied) own i u k)) where
+      hi : In n i
+      hi = a .0 .0
 
-    model-is : (d′ : Desk) (cs′ os′ : List ℕ) → d′ .clock ≡ d .clock → modelOf (tableAfter (whole .core) i d′ cs′ os′) ≡ midst s n i (d′ .applied) cs′ os′
-    model-is d′ cs′ os′ q =
-        rw (says-within n i .from hi)
-        (λ j. record {
+      number : In (written s u) k
+      number = rw (own-is (a .0 .1)) at (a .1 .1 .0)
+
+      pub small-number : k < 65536
+      small-number = omega (arith, number .1, p .sound .rules .frame .ranges .written u)
+
+      pub known : (machine.place s i u k ≡ away → ⊥) → FirstFails (rowsOf s (Deliver i u k)) machineAnswer.received
+      known f = inr (a .0, inr (a .1 .0, inr (number, inl (f, refl))))
+
+      pub none-open : opensM os u k ≡ none → machine.place s i u k ≡ away → ⊥
+      none-open e q = let z : done ≡ away = rw e at q in omega arith
+
+      module _ (e : ℕ) (h : e < entries) (t : namedAt os u k e ≡ true) where
+        entry-open : opensM os u k ≡ some (openM (openAt os e))
+        entry-open = opens-at os e u k (p .sound .unique) h t
+
+        pub known-open : (place (openAt os e .marks) i ≡ away → ⊥) → machine.place s i u k ≡ away → ⊥
+        known-open ne q = ne (rw entry-open at q)
+
+        -- the model with another desk in its place --
+
+        midst-is : midst s i (d .applied) cs os ≡ s
+        midst-is = λ j. record {
           setup = s .setup;
-          applied = applied-put ds i in-list d′ j;
-          clock = clock-keep ds i in-list d′ (rw (q, p .desk hi)) j;
-          cell = modelOf (tableOf n (whole .core .m) ds cs′ os′) .cell;
-          opens = modelOf (tableOf n (whole .core .m) ds cs′ os′) .opens;
-        })
-
-    pub arrival : (u k e : ℕ) → e < entries → namedAt os u k e ≡ true → place (openAt os e .marks) i ≡ away → Arrival s n i u k e (d .applied) own cs os
-    arrival u k e h t q = record {
-      running = record {
-        mid = rw midst-is (record { frame = p .sound .rules .frame; quiet = λ j ne. p .sound .rules .quiet j });
-        desk = hi;
-        blanks = p .sound .blanks;
-        unique = p .sound .unique;
-        own-counts = λ u hu. p .own-counts u hu ∙ sym (ap (λ (x : State). written x u) midst-is);
-        counts-size = rw (p .desk hi) at (p .shape .each (i - 1) (omega (arith, hi .0, in-list .1, p .shape .count)) .applied);
-        cells-size = p .cells-size;
-        opens-size = p .opens-size;
-      };
-      quiet = subst (λ (x : State). Quiet x i) (sym midst-is) (p .sound .rules .quiet i);
-      small = h;
-      named = t;
-      is-away = q;
-    }
-
-    pub meets-received : (u k e : ℕ) {r : Turn} {names cs′ os′ names′ : List ℕ} → Passes n own i u k → e < entries → namedAt os u k e ≡ true
-        → place (openAt os e .marks) i ≡ away → Receives s n i u k e d cs os names r cs′ os′ names′ → Meets whole d names i u k r cs′ os′ names′
-    meets-received u k e {r} {names} {cs′} {os′} {names′} ps h t q x =
-        let o : step s (Deliver i u k) ≡ effect (midst s n i (d .applied) cs os) i u k (openM (openAt os e)) =
-        passed u k ps ∙ effect-open u k e h t q ∙ sym (ap (λ (y : State). effect y i u k (openM (openAt os e))) midst-is) in
-        let z = model-is (r .desk) cs′ os′ (x .clock-is) in
-        let never : (f : machineAnswer.Refusal) → answerOf (r .answer) names′ ≡ refused f → ⊥ =
-        (λ f y. taken (failing n (midst s n i (d .applied) cs os .applied i) u (openM (openAt os e) .vector)) f (sym (x .answer-is) ∙ y)) in
-        record {
-          stepped = record {
-            answer-is = x .answer-is ∙ ap (λ (y : Out). y .answer) (sym o);
-            state-is = z ∙ x .state-is ∙ ap (λ (y : Out). y .state) (sym o);
-            sound = record { rules = rw z (x .rules); blanks = x .blanks; unique = x .unique };
-            refused-desk = λ f y. absurd (never f y);
-            refused-cells = λ f y. absurd (never f y);
-            refused-opens = λ f y. absurd (never f y);
-          };
-          names-are = x .names-are ∙ ap (λ (y : Out). sets names 0 (namesBeside (y .answer))) (sym o);
-          counted = x .counted;
+          applied = sym (upd-is (appliedM ds) i (place (d .applied)) (appliedM ds) (counts-start p hi) (λ j ne. refl)) j;
+          clock = s .clock;
+          cell = s .cell;
+          opens = s .opens;
         }
-      where
-        taken : (y : Option ℕ) → Accepted (deliverBy (midst s n i (d .applied) cs os) i u k (openM (openAt os e)) y .answer)
-        taken none = not-refused _ refl
-        taken (some t) = not-refused _ refl
 
-  -- the tests fail as the machine's do
-  pub failed : (u k : ℕ) (t : Test) (r : Refusal) → t ≡ testsOf n (d .applied) own i u k → t ≡ Failed r → step s (Deliver i u k) ≡ refuse (refusalOf r) s
-  unfolding step
-  failed u k t r e f =
-      test-cases n (d .applied) own i u k (Failed r) (sym e ∙ f)
-      (λ a q. rw (a, ← said q))
-      (λ a b q. rw (a, b, ← said q))
-      (λ a b c q. rw (a, b, c, ← said q))
-      (λ a b c t q. rw (a, b, c, ← own-is u (says-within n u .to b), t, ← said q))
-      (λ h l q. passed u k h ∙ old-open (h .desk) h (leb-true k (place (d .applied) u) l) ∙ rw (← said q))
-      (λ h q. no-fail (sym q))
-    where
-      said : {x y : Refusal} → Failed x ≡ Failed y → x ≡ y
-      said q = cc
+        model-is : (d′ : Desk) (cs′ os′ : List ℕ) → d′ .clock ≡ d .clock
+            → modelOf (tableOf n (whole .core .m) (set ds (i - 1) d′) cs′ os′) ≡ midst s i (d′ .applied) cs′ os′
+        model-is d′ cs′ os′ q = λ j. record {
+          setup = s .setup;
+          applied = applied-put ds i (in-desks p hi) d′ j;
+          clock = clock-keep ds i (in-desks p hi) d′ (rw (q, p .desk hi)) j;
+          cell = cellsM cs′;
+          opens = opensM os′;
+        }
+
+        module _ (q : place (openAt os e .marks) i ≡ away) where
+          pub arrival : Arrival s n i u k e (d .applied) own cs os
+          arrival = record {
+            running = record {
+              count = refl;
+              mid = rw midst-is (record { frame = p .sound .rules .frame; quiet = λ j ne. p .sound .rules .quiet j });
+              desk = hi;
+              blanks = p .sound .blanks;
+              unique = p .sound .unique;
+              own-counts = λ u hu. p .own-counts u hu ∙ sym (ap (λ (x : State). written x u) midst-is);
+              counts-size = desk-shape p hi .applied;
+              cells-size = p .cells-size;
+              opens-size = p .opens-size;
+            };
+            small = h;
+            named = t;
+            is-away = q;
+          }
+
+          pub meets-received : {r : Turn} {names cs′ os′ names′ : List ℕ} → Receives s n i u k e d cs os names r cs′ os′ names′
+              → Meets whole d names i u k r cs′ os′ names′
+          meets-received {r} {names} {cs′} {os′} x =
+              let w = openM (openAt os e) in
+              let rows : AllPass (rowsOf s (Deliver i u k)) =
+              (a .0, (a .1 .0, (number, (ap (λ (o : Option machine.Open). placeOf o i) entry-open ∙ q, tt)))) in
+              let o : effect (midst s i (d .applied) cs os) i u k w ≡ effectOf s (Deliver i u k) =
+              ap (λ (y : State). effect y i u k w) midst-is ∙ sym (ap (deliverEffect s i u k) entry-open) in
+              record {
+                stepped =
+                    taken-stepped p (Deliver i u k) hi rows (x .answer-is ∙ ap (λ (y : Out). y .answer) o)
+                    (model-is (r .desk) cs′ os′ (x .clock-is) ∙ x .state-is ∙ ap (λ (y : Out). y .state) o) (x .blanks) (x .unique);
+                names-are =
+                    x .names-are ∙ ap (λ (y : Out). sets names 0 (namesBeside (y .answer)))
+                    (o ∙ sym (accepted-effect s (Deliver i u k) rows));
+                counted = x .counted;
+              }

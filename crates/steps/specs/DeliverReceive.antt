@@ -6,7 +6,7 @@ use mathlib.Core.Bool.{true}
 use mathlib.Core.Option.{Option, some}
 use native.Mathlib.Omega.{arith}
 use lib.Seq.{sets}
-use Rattle.laws.specs.Update.{upd-same, same-or}
+use Rattle.laws.specs.Update.{upd-same}
 use Rattle.clock.specs.Vectors.{places, place}
 use Rattle.clock.specs.Readiness.{readyAt, failing-narrow}
 use Rattle.machine.specs.Table as machine
@@ -14,9 +14,9 @@ use Rattle.machine.specs.Table.{State, most-open, away, held}
 use Rattle.machine.specs.Answer as machineAnswer
 use Rattle.machine.specs.Answer.{holds, applies}
 use Rattle.machine.specs.Steps.{Out, Settled, failing, ready, hold, deliverBy, withOpens}
-use Rattle.machine.specs.Rules.{In, Quiet, Rules}
+use Rattle.machine.specs.Rules.{In}
 use Rattle.machine.specs.Proofs.Ready.{is-none}
-use Rattle.machine.specs.Proofs.Kept.{ReadyAt, ready-next, hold-rules}
+use Rattle.machine.specs.Proofs.Kept.{ReadyAt, ready-next}
 use Rattle.machine.specs.Proofs.Apply.{to-be-open}
 use Rattle.reply.specs.declared.Answer.the-variants.{Held, Applied}
 use Rattle.reply.specs.Meaning.{answerOf, Counted}
@@ -28,12 +28,11 @@ use Rattle.table.specs.Opens.{Unique, opens-at, opens-mark, unique-mark}
 use Rattle.table.specs.Sound.{AllZero}
 use Rattle.steps.specs.declared.Turn.{Turn}
 use Rattle.steps.specs.Stepped.{namesBeside}
-use Rattle.steps.specs.Cascade.{midst, Running, Next, Cascades, from, ended-rules, in-places, small-n, narrow, flat, here}
+use Rattle.steps.specs.Cascade.{midst, Running, Next, Cascades, from, in-places, small-n, narrow, flat, here}
 
--- entry e holds u.k, which desk i has not received; nothing held there is ready
+-- entry e holds u.k, which desk i has not received
 pub record Arrival (b : State) (n i u k e : ℕ) (a own cs os : List ℕ) : Type 0 where
   pub running : Running b n i a own cs os
-  pub quiet : Quiet (midst b n i a cs os) i
   pub small : e < entries
   pub named : namedAt os u k e ≡ true
   pub is-away : place (openAt os e .marks) i ≡ away
@@ -43,13 +42,12 @@ abbrev pub effect : State → ℕ → ℕ → ℕ → machine.Open → Out
 effect s i u k w = deliverBy s i u k w (failing (s .setup .desks) (s .applied i) u (w .vector))
 
 pub record Receives (b : State) (n i u k e : ℕ) (d : Desk) (cs os names : List ℕ) (r : Turn) (cs′ os′ names′ : List ℕ) : Type 0 where
-  pub answer-is : answerOf (r .answer) names′ ≡ effect (midst b n i (d .applied) cs os) i u k (openM (openAt os e)) .answer
-  pub state-is : midst b n i (r .desk .applied) cs′ os′ ≡ effect (midst b n i (d .applied) cs os) i u k (openM (openAt os e)) .state
+  pub answer-is : answerOf (r .answer) names′ ≡ effect (midst b i (d .applied) cs os) i u k (openM (openAt os e)) .answer
+  pub state-is : midst b i (r .desk .applied) cs′ os′ ≡ effect (midst b i (d .applied) cs os) i u k (openM (openAt os e)) .state
   pub clock-is : r .desk .clock ≡ d .clock
-  pub rules : Rules (midst b n i (r .desk .applied) cs′ os′)
   pub blanks : (s : ℕ) → s < all-cells → cellAt cs′ s .writer ≡ 0 → AllZero (cellAt cs′ s)
   pub unique : Unique os′
-  pub names-are : names′ ≡ sets names 0 (namesBeside (effect (midst b n i (d .applied) cs os) i u k (openM (openAt os e)) .answer))
+  pub names-are : names′ ≡ sets names 0 (namesBeside (effect (midst b i (d .applied) cs os) i u k (openM (openAt os e)) .answer))
   pub counted : Counted (r .answer)
 
 abbrev pub Arrives : (n i u e : ℕ) (a own cs os : List ℕ) → Type 0
@@ -65,7 +63,7 @@ withCounts d a = record { applied = a; clock = d .clock }
 
 module _ {b : State} {n i u k e : ℕ} {a own cs os : List ℕ} (r : Arrival b n i u k e a own cs os) where
   abbrev s : State
-  s = midst b n i a cs os
+  s = midst b i a cs os
 
   abbrev w : machine.Open
   w = openM (openAt os e)
@@ -74,15 +72,15 @@ module _ {b : State} {n i u k e : ℕ} {a own cs os : List ℕ} (r : Arrival b n
   is-open = opens-at os e u k (r .running .unique) (r .small) (r .named)
 
   pub writer-in : In n u
-  writer-in = to-be-open (r .running .mid .frame) u k (is-open) .writer
+  writer-in = rw (r .running .count) at (to-be-open (r .running .mid .frame) u k is-open .writer)
 
   -- ready --
 
   ready-here : readyAt a (openAt os e .vector) u ≡ true → ReadyAt s i u k w
   ready-here h = record {
-    desk = r .running .desk;
+    desk = rw (r .running .count) (r .running .desk);
     is = is-open;
-    ready = rw (upd-same (b .applied) i (place a)) (sym (narrow (r .running) u k w writer-in is-open) ∙ h);
+    ready = rw (r .running .count, upd-same (b .applied) i (place a)) (sym (narrow (r .running) u k w writer-in is-open) ∙ h);
   }
 
   next-is : readyAt a (openAt os e .vector) u ≡ true → suc (s .applied i u) ≡ k
@@ -97,13 +95,14 @@ module _ {b : State} {n i u k e : ℕ} {a own cs os : List ℕ} (r : Arrival b n
 
   effect-ready : readyAt a (openAt os e .vector) u ≡ true
       → effect s i u k w ≡ (let q : Settled = from most-open s i u w in record { answer = applies (q .names); state = q .state })
-  effect-ready h = let z = is-none (failing n (s .applied i) u (w .vector)) (ready-here h .ready) in rw (z, ← next-is h)
+  effect-ready h = let z = is-none (failing (b .setup .desks) (s .applied i) u (w .vector)) (ready-here h .ready) in rw (z, ← next-is h)
 
   -- not ready --
 
-  failing-here : (t : ℕ) → failing places (place a) u (place (openAt os e .vector)) ≡ some t → failing n (s .applied i) u (w .vector) ≡ some t
+  failing-here : (t : ℕ) → failing places (place a) u (place (openAt os e .vector)) ≡ some t
+      → failing (b .setup .desks) (s .applied i) u (w .vector) ≡ some t
   failing-here t f =
-      rw (upd-same (b .applied) i (place a))
+      rw (r .running .count, upd-same (b .applied) i (place a))
       (sym (failing-narrow n places (place a) u (w .vector) (flat (r .running) u k w is-open) (writer-in .1) (small-n (r .running))) ∙ f)
 
 -- it is applied, and the cascade runs
@@ -118,7 +117,6 @@ received-ready {b} {n} {i} {u} {k} {e} {own} {cs} {os} {names} {len = len} d r h
       answer-is = sym (ap (λ (o : Out). o .answer) x ∙ ap (λ (z : Settled). applies (z .names)) q);
       state-is = sym (ap (λ (o : Out). o .state) x ∙ ap (λ (z : Settled). z .state) q);
       clock-is = refl;
-      rules = ended-rules (r .running) (next-of-arrival r h) t;
       blanks = t .now .blanks;
       unique = t .now .unique;
       names-are = t .holds ∙ sym (ap (λ (o : Out). sets names 0 (namesBeside (o .answer))) x ∙ ap (λ (z : Settled). sets names 0 (machineAnswer.nameValues (z .names))) q);
@@ -134,7 +132,6 @@ received-held {b} {n} {i} {u} {k} {e} {own} {cs} {os} {os′} names {t} d r f p 
       answer-is = rw z;
       state-is = rw z same;
       clock-is = refl;
-      rules = rw same (hold-rules (record { frame = g .mid .frame; quiet = λ j. same-or j i (λ q. rw q (r .quiet)) (λ q. g .mid .quiet j q) }) i u k (openM (openAt os e)) (g .desk) (is-open r) (r .is-away) (rw z));
       blanks = g .blanks;
       unique = rw p (unique-mark os e u k (r .small) (g .opens-size) (g .unique) (r .named) i held (in-places g i (g .desk)));
       names-are = rw z;
@@ -144,10 +141,10 @@ received-held {b} {n} {i} {u} {k} {e} {own} {cs} {os} {os′} names {t} d r f p 
     g : Running b n i (d .applied) own cs os
     g = r .running
 
-    z : failing n (midst b n i (d .applied) cs os .applied i) u (place (openAt os e .vector)) ≡ some t
+    z : failing (b .setup .desks) (midst b i (d .applied) cs os .applied i) u (place (openAt os e .vector)) ≡ some t
     z = failing-here r t f
 
-    same : midst b n i (d .applied) cs os′ ≡ hold (midst b n i (d .applied) cs os) i u k (openM (openAt os e))
+    same : midst b i (d .applied) cs os′ ≡ hold (midst b i (d .applied) cs os) i u k (openM (openAt os e))
     same =
-        ap (λ (o : ℕ → ℕ → Option machine.Open). withOpens (midst b n i (d .applied) cs os) o)
+        ap (λ (o : ℕ → ℕ → Option machine.Open). withOpens (midst b i (d .applied) cs os) o)
         (rw p (opens-mark os e u k (r .small) (g .opens-size) (g .unique) (r .named) i held (in-places g i (g .desk))))

@@ -10,7 +10,7 @@ use Rattle.laws.specs.Loop.{cases}
 use Rattle.machine.specs.Table as states
 use Rattle.machine.specs.Answer as machine
 use Rattle.machine.specs.Rules.{In}
-use Rattle.machine.specs.Steps.{Step, Read, join, readClock, withClock}
+use Rattle.machine.specs.Steps.{Step, Read, readClock, withClock}
 use Rattle.machine.specs.Refusals.{rowsOf, AllPass}
 use Rattle.machine.specs.Proofs.Refusals.{effectOf}
 use Rattle.clock.specs.declared.Clock.{Clock}
@@ -19,7 +19,7 @@ use Rattle.table.specs.declared.Cell.{Cell}
 use Rattle.table.specs.declared.Desk.{Desk}
 use Rattle.table.specs.declared.Table.{Table}
 use Rattle.table.specs.Value.{cellAt, full-cellAt, FullCell}
-use Rattle.table.specs.Model.{cellM, slot, clockM, cellsM, opensM, clockVec, cell-in, clock-at, clock-put, applied-keep, modelOf, tableOf}
+use Rattle.table.specs.Model.{cellM, slot, clockM, cellsM, opensM, clockVec, cell-in, clock-at, clock-put, applied-keep, modelOf, tableOf, appliedM, appliedVec, applied-at}
 use Rattle.table.specs.Sound.{AllZero}
 use Rattle.reply.specs.Meaning.{answerOf}
 use Rattle.steps.specs.Stepped.{Placed, Stepped}
@@ -46,8 +46,8 @@ module _ {t : Table} {own : List ℕ} {i : ℕ} {d : Desk} (p : Placed t own i d
   abbrev cs : List ℕ
   cs = t .cells
 
-  abbrev at-start : states.State
-  at-start = modelOf t
+  pub counts-start : appliedM (t .core .desks) i ≡ place (d .applied)
+  counts-start = applied-at (t .core .desks) i (in-desks p hi) ∙ ap appliedVec (p .desk hi)
 
   pub clock-start : clockM (t .core .desks) i ≡ place (d .clock .at)
   clock-start = clock-at (t .core .desks) i (in-desks p hi) ∙ ap clockVec (p .desk hi)

@@ -6,18 +6,18 @@ use mathlib.Core.Bool.{Bool, true, false, not}
 use native.Mathlib.Omega.{arith}
 use borrow.Author.Tests.{not-true, not-false}
 use lib.ListN.{length, set}
-use Rattle.laws.specs.Loop.{pick, cases}
+use Rattle.laws.specs.Loop.{pick}
 use Rattle.laws.specs.Says.{Says, apart}
 use Rattle.machine.specs.Answer as machine
 use Rattle.machine.specs.Refusals.{rowsOf, FirstFails, AllPass, Accepted}
 use Rattle.machine.specs.Rules.{In}
-use Rattle.machine.specs.Steps.{Out, Step, within, step}
+use Rattle.machine.specs.Steps.{Out, Step, step}
 use Rattle.machine.specs.Proofs.Refusals.{says-within, refusal-exactly, refused-leaves-table, accepted-effect, accepted-exactly, effectOf}
 use Rattle.machine.specs.Proofs.Kept.{step-keeps-rules}
 use Rattle.clock.specs.Vectors.{places}
 use Rattle.table.specs.declared.Desk.{Desk}
 use Rattle.table.specs.declared.Table.{Table}
-use Rattle.table.specs.Value.{desk0, desk-cells, all-cells, cellAt}
+use Rattle.table.specs.Value.{desk-cells, all-cells, cellAt}
 use Rattle.table.specs.Shape.{DeskShape}
 use Rattle.table.specs.Opens.{Unique}
 use Rattle.table.specs.Sound.{AllZero}

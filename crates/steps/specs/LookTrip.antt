@@ -1,11 +1,10 @@
 -- A trip as a value: the cells seen one by one.
-use Prim.Native.Nat.{ℕ, zero, suc, _+_, _<_, _≤_}
-use mathlib.Core.Path.{_≡_, sym, ap, _∙_}
-use native.Mathlib.Omega.{arith}
+use Prim.Native.Nat.{ℕ, _+_, _<_, _≤_}
+use mathlib.Core.Path.{_≡_, ap}
 use lib.ListN.{length, getD, drop, drop-of-length-le}
 use Rattle.laws.specs.Lists.{drop-next}
 use mathlib.Core.List.{List, [], _∷_}
-use mathlib.Core.Bool.{Bool, true, false}
+use mathlib.Core.Bool.{true, false}
 use lib.Dec.{eqb}
 use Rattle.laws.specs.Loop.{pick}
 use Rattle.clock.specs.declared.Clock.{Clock}

@@ -3,7 +3,7 @@ use mathlib.Core.Path.{_≡_}
 use mathlib.Core.List.{List, []}
 use Prim.Native.Nat.{ℕ, _-_, _*_}
 use lib.ListN.{length, getD, set}
-use lib.Seq.{sets, set-getD}
+use lib.Seq.{set-getD}
 use Rattle.laws.specs.Loop.{pick, cases}
 use Rattle.clock.specs.Vectors.{places, place}
 use Rattle.machine.specs.Answer as machine

@@ -146,20 +146,27 @@ pub record OneOutcome (r r′ : Turn) (cs cs′ os os′ : List ℕ) : Type 0 wh
   pub opens : Among os os′
   pub refused : (x : Refusal) → r .answer ≡ Refused x → os ≡ os′
 
+one-outcome : {t : Table} {own : List ℕ} {i : ℕ} {d : Desk} (p : Placed t own i d) {a : Step}
+    (who : actor a ≡ i) {r r′ : Turn} {cs′ cs″ os′ os″ : List ℕ} (names names′ : List ℕ)
+    → LeftShape (r .desk) cs′ os′ → LeftShape (r′ .desk) cs″ os″ → Counted (r .answer) → Counted (r′ .answer)
+    → Stepped t i d a (r .desk) cs′ os′ (answerOf (r .answer) names) → Stepped t i d a (r′ .desk) cs″ os″ (answerOf (r′ .answer) names′)
+    → OneOutcome r r′ cs′ cs″ os′ os″
+one-outcome p who names names′ hf hg c c′ a b = record {
+  turn = turn-is names names′ (one-desk p who a b hf hg) c c′ (a .answer-is) (b .answer-is);
+  cells = one-cells p who a b hf hg;
+  opens = one-opens p who a b hf hg;
+  refused = λ z e. one-entries p who a b hf hg (refusalOf z) (ap (λ (y : Answer). answerOf y names) e);
+}
+
 pub one-write : {n m : ℕ} {cs os : List ℕ} {i : ℕ} {d : Desk} {x v : ℕ} {r r′ : Turn} {cs′ cs″ os′ os″ : List ℕ} → SomeTable n m cs os i d
     → LeftShape (r .desk) cs′ os′ → LeftShape (r′ .desk) cs″ os″
     → Writes n m cs os i d (Write i x v) r cs′ os′ → Writes n m cs os i d (Write i x v) r′ cs″ os″ → OneOutcome r r′ cs′ cs″ os′ os″
 one-write {n} {m} {cs} {os} {i} {d} {x} {v} {r} {r′} w hf hg f g =
-    let p = w .placed in
-    let a = f (w .desks) (w .own) p in
-    let b = g (w .desks) (w .own) p in
+    let a = f (w .desks) (w .own) (w .placed) in
+    let b = g (w .desks) (w .own) (w .placed) in
     let q = write-silent (modelOf (tableOf n m (w .desks) cs os)) i x v in
-    record {
-      turn = turn-is [] [] (one-desk p refl a b hf hg) (silent-counted (r .answer) [] q (a .answer-is)) (silent-counted (r′ .answer) [] q (b .answer-is)) (a .answer-is) (b .answer-is);
-      cells = one-cells p refl a b hf hg;
-      opens = one-opens p refl a b hf hg;
-      refused = λ z e. one-entries p refl a b hf hg (refusalOf z) (ap (λ (y : Answer). answerOf y []) e);
-    }
+    one-outcome (w .placed) refl [] [] hf hg (silent-counted (r .answer) [] q (a .answer-is))
+    (silent-counted (r′ .answer) [] q (b .answer-is)) a b
 
 -- and the names beside the answer
 pub record OneDelivery (r r′ : Turn) (cs cs′ os os′ names names′ : List ℕ) : Type 0 where
@@ -170,15 +177,7 @@ pub one-deliver : {n : ℕ} {d : Desk} {own cs os names : List ℕ} {i u k : ℕ
     → LeftShape (r .desk) cs′ os′ → LeftShape (r′ .desk) cs″ os″
     → Delivers n d own cs os names i u k r cs′ os′ names′ → Delivers n d own cs os names i u k r′ cs″ os″ names″ → OneDelivery r r′ cs′ cs″ os′ os″ names′ names″
 one-deliver {names′ = names′} {names″ = names″} w hf hg f g =
-    let p = w .2 in
-    let a = f (w .0) (w .1) p in
-    let b = g (w .0) (w .1) p in
-    record {
-      outcome = record {
-        turn = turn-is names′ names″ (one-desk p refl (a .stepped) (b .stepped) hf hg) (a .counted) (b .counted) (a .stepped .answer-is) (b .stepped .answer-is);
-        cells = one-cells p refl (a .stepped) (b .stepped) hf hg;
-        opens = one-opens p refl (a .stepped) (b .stepped) hf hg;
-        refused = λ z e. one-entries p refl (a .stepped) (b .stepped) hf hg (refusalOf z) (ap (λ (y : Answer). answerOf y names′) e);
-      };
-      beside = a .names-are ∙ sym (b .names-are);
-    }
+    let a = f (w .0) (w .1) (w .2) in
+    let b = g (w .0) (w .1) (w .2) in
+    let o = one-outcome (w .2) refl names′ names″ hf hg (a .counted) (b .counted) (a .stepped) (b .stepped) in
+    record { outcome = o; beside = a .names-are ∙ sym (b .names-are) }

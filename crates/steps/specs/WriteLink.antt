@@ -2,18 +2,18 @@
 use Prim.Native.Nat.{ℕ, zero, suc, _+_, _-_, _<_, _≤_}
 use mathlib.Core.Path.{_≡_, refl, sym, ap, _∙_, fun-ext}
 use mathlib.Core.List.{List, []}
-use mathlib.Core.Option.{Option, none, some}
+use mathlib.Core.Option.{none, some}
 use native.Mathlib.Omega.{arith}
 use native.Mathlib.Numerals.{add-one}
 use borrow.Author.Tests.{lt-ltb, ne-eqb}
 use lib.Dec.{eqb}
 use lib.ListN.{length, set, replicate, length-set, length-replicate}
-use Rattle.laws.specs.All.{all-true, all-fails-at}
-use Rattle.laws.specs.Update.{upd, upd-same, upd-other, upd2, upd2-is, same-or}
+use Rattle.laws.specs.All.{all-true}
+use Rattle.laws.specs.Update.{upd, upd-same, upd2, upd2-is, same-or}
 use Rattle.machine.specs.Table as states
 use Rattle.machine.specs.Answer as machine
 use Rattle.machine.specs.Rules.{In}
-use Rattle.machine.specs.Steps.{Write, write, openCount, everywhere, stillOpen, mark, newWrite, nextNumber, nextVector}
+use Rattle.machine.specs.Steps.{Write, openCount, everywhere, stillOpen, mark, newWrite, nextNumber, nextVector}
 use Rattle.machine.specs.Proofs.Alone.{alone-none-open}
 use Rattle.clock.specs.declared.Clock.{Clock}
 use Rattle.clock.specs.Vectors.{places, place, place-set, place-raised, raised, raiseClock}
@@ -23,7 +23,7 @@ use Rattle.table.specs.declared.Open.{Open}
 use Rattle.table.specs.declared.Table.{Table}
 use Rattle.table.specs.Value.{all-cells, cellAt, putCell, FullOpen, cellAt-put, cellAt-other}
 use Rattle.table.specs.Names.{number}
-use Rattle.table.specs.Model.{openM, slot, opensM, appliedM, clockM, cellsM, appliedVec, applied-at, applied-put, clock-put, cell-put, modelOf}
+use Rattle.table.specs.Model.{openM, slot, opensM, appliedM, clockM, cellsM, applied-put, clock-put, cell-put, modelOf}
 use Rattle.table.specs.Opens.{Unique, opens-store, unique-store}
 use Rattle.table.specs.Sound.{AllZero}
 use Rattle.reply.specs.Meaning.{answerOf}
@@ -31,9 +31,11 @@ use Rattle.steps.specs.declared.write.Spot.{Spot}
 use Rattle.steps.specs.declared.write.Spot.the-variants.{Entry, Alone, Full}
 use Rattle.steps.specs.Stepped.{Placed, Stepped}
 use Rattle.steps.specs.LookStepped.{in-places, in-cells, in-desks, desk-shape, taken-stepped}
-use Rattle.steps.specs.LookLink.{clock-start}
+use Rattle.steps.specs.LookLink.{clock-start, counts-start}
 use Rattle.steps.specs.WriteTurn.{Spotted, newMarks, enterAt, wroteDesk, wroteCell, wroteOpen, wroteTurn}
 use Rattle.steps.specs.WriteCount.{free-few}
+use Rattle.machine.specs.Proofs.Paper.{new-number, new-somewhere}
+use Rattle.laws.specs.Loop.{cases}
 
 -- no mark but the writer's
 place-zeros : (n t : ℕ) → place (replicate n 0) t ≡ 0
@@ -61,14 +63,8 @@ module _ {whole : Table} {own : List ℕ} {i : ℕ} {d : Desk} (p : Placed whole
   abbrev os : List ℕ
   os = whole .opens
 
-  abbrev s0 : states.State
-  s0 = modelOf whole
-
-  applied-start : appliedM ds i ≡ place (d .applied)
-  applied-start = applied-at ds i (in-desks p hi) ∙ ap appliedVec (p .desk hi)
-
   pub written-start : appliedM ds i i ≡ place (d .applied) i
-  written-start = ap (λ (v : ℕ → ℕ). v i) applied-start
+  written-start = ap (λ (v : ℕ → ℕ). v i) (counts-start p hi)
 
   own-same : place (d .clock .at) i ≡ place (d .applied) i
   own-same = ap (λ (v : ℕ → ℕ). v i) (sym (clock-start p hi)) ∙ p .sound .rules .frame .clocks .own i ∙ written-start
@@ -98,20 +94,10 @@ module _ {whole : Table} {own : List ℕ} {i : ℕ} {d : Desk} (p : Placed whole
         applied-put ds i (in-desks p hi) (wroteDesk d i)
         ∙ ap (λ (v : ℕ → ℕ). upd (appliedM ds) i v)
         (place-raised (d .applied) i (hi .0) (omega (arith, in-places p hi, desk-shape p hi .applied))
-        ∙ ap (λ (v : ℕ → ℕ). upd v i (suc (v i))) (sym applied-start))
+        ∙ ap (λ (v : ℕ → ℕ). upd v i (suc (v i))) (sym (counts-start p hi)))
 
     clock-new : clockM (set ds (i - 1) (wroteDesk d i)) ≡ upd (clockM ds) i (nextVector (modelOf whole) i)
     clock-new = clock-put ds i (in-desks p hi) (wroteDesk d i) ∙ ap (λ (v : ℕ → ℕ). upd (clockM ds) i v) vector-new
-
-    -- no entry holds the next number
-    fresh-number : opensM os i (nextNumber (modelOf whole) i) ≡ none
-    fresh-number = go (opensM os i (nextNumber (modelOf whole) i)) refl
-      where
-        go : (o : Option states.Open) → opensM os i (nextNumber (modelOf whole) i) ≡ o → o ≡ none
-        go none e = refl
-        go (some w) e =
-            let b = p .sound .rules .frame .open-exactly i (nextNumber (modelOf whole) i) .0 (rw e) in
-            absurd (omega (arith, b .number .1, p .sound .rules .frame .clocks .own i))
 
     module _ (x v : ℕ) (hx : In (whole .core .m) x) where
       cell-new : cellsM (putCell cs (slot i x) (wroteCell d i v)) ≡ upd2 (cellsM cs) i x (states.set v i (nextVector (modelOf whole) i))
@@ -141,13 +127,9 @@ module _ {whole : Table} {own : List ℕ} {i : ℕ} {d : Desk} (p : Placed whole
 
       -- with another desk it stays open
       stays-open : (n ≡ 1 → ⊥) → stillOpen n done-here ≡ some done-here
-      unfolding everywhere
-      stays-open ne = same-or i 1 (λ q. other 2 (omega arith) (omega (arith, hi .1)) (λ r. (omega arith))) (λ q. other 1 (omega arith) (omega (arith, hi)) (λ r. q (sym r)))
-        where
-          other : (t : ℕ) → 1 ≤ t → t ≤ n → (t ≡ i → ⊥) → stillOpen n done-here ≡ some done-here
-          other t a b nt =
-              let f = all-fails-at (λ k. eqb (done-here .marks k) states.done) n 1 t a (omega arith) (rw (upd-other (λ (k : ℕ). states.away) i states.done t nt)) in
-              rw (f, stillOpen)
+      stays-open ne =
+          cases (everywhere n done-here) (λ t. absurd (new-somewhere (modelOf whole) i x v (omega (arith, hi, ne)) t))
+          (λ t. rw (t, stillOpen))
 
       -- alone it is applied everywhere at once
       goes-alone : n ≡ 1 → stillOpen n done-here ≡ none
@@ -160,12 +142,13 @@ module _ {whole : Table} {own : List ℕ} {i : ℕ} {d : Desk} (p : Placed whole
       opens-new (Entry e) h ne =
           let o = wroteOpen d i x v in
           let inuse = ne-eqb i 0 (λ q. (omega (arith, hi .0))) in
-          let fresh : opensM os (o .writer) (number o) ≡ none = rw name-new fresh-number in (
+          let fresh : opensM os (o .writer) (number o) ≡ none = rw name-new (new-number i (p .sound .rules .frame)) in (
             opens-store os e o (h .1 .0) (p .opens-size) full-new (h .1 .1) inuse fresh ∙ rw (name-new, open-new, stays-open (h .0)),
             unique-store os e o (h .1 .0) (p .opens-size) full-new (h .1 .1) inuse fresh (p .sound .unique),
           )
       opens-new Alone h ne =
-          (rw (goes-alone h) (upd2-is (opensM os) i (nextNumber (modelOf whole) i) none (opensM os) fresh-number (λ j y nj. refl)), p .sound .unique)
+          let new = new-number i (p .sound .rules .frame) in
+          (rw (goes-alone h) (upd2-is (opensM os) i (nextNumber (modelOf whole) i) none (opensM os) new (λ j y nj. refl)), p .sound .unique)
       opens-new Full h ne = absurd (ne refl)
 
       few-open : (s : Spot) → Spotted n os s → (s ≡ Full → ⊥) → openCount (modelOf whole) < states.most-open

@@ -12,8 +12,9 @@ ghost use Rattle.table.specs.Value.{desk-cells, entries, openAt};
 ghost use Rattle.table.specs.Opens.{Unique};
 ghost use Rattle.steps.specs.Cascade.{AppliedAt, DueSays, NamePut, Starts, Cascades};
 ghost use Rattle.steps.specs.DeliverReceive.{Arrives, Received};
-ghost use Rattle.steps.specs.Deliver.{Part, Delivers, testsOf, turnedAway};
+ghost use Rattle.steps.specs.Deliver.{Part, Delivers, Tested};
 use crate::Turn;
+use crate::common::refused;
 use crate::common::small;
 use clock::PLACES;
 use clock::Wait;
@@ -221,19 +222,10 @@ fn receive(
     }
 }
 
-fn turned_away(d: Desk, r: Refusal) -> Turn
-    ensures { λ t. ⌜ t ≡ turnedAway d r ⌝ }
-{
-    Turn {
-        desk: d,
-        answer: Answer::Refused(r),
-    }
-}
-
 // Refusals 1, 6, 7, and 8 of a write that is applied at the desk: no entry is looked at.
 fn tests(n: usize, d: Desk, own: [u16; PLACES], i: usize, u: usize, k: usize) -> Test
     requires { ⌜ n ≤ places ⌝ }
-    ensures { λ r. ⌜ r ≡ testsOf n (d .applied) own i u k ⌝ }
+    ensures { λ r. ⌜ Tested n (d .applied) own i u k r ⌝ }
 {
     let a = d.applied;
     if !table::inside(n, i) {
@@ -271,13 +263,13 @@ pub fn deliver_at(
 {
     let test = tests(n, d, own, i, u, k);
     if let Test::Failed(r) = test {
-        return turned_away(d, r);
+        return refused(d, r);
     }
     let Found::At(e) = table::find(opens, u, small(k)) else {
-        return turned_away(d, Refusal::Received);
+        return refused(d, Refusal::Received);
     };
     if table::mark_at(opens, e, i - 1) != 0 {
-        return turned_away(d, Refusal::Received);
+        return refused(d, Refusal::Received);
     }
     receive(n, d, own, cells, opens, names, i, u, e)
 }

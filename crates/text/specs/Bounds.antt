@@ -1,16 +1,13 @@
--- How many numbers bytes can hold, and how large they are.
-use Prim.Native.Nat.{ℕ, zero, suc, _+_, _*_, _≤_}
+-- How many numbers bytes can hold.
+use Prim.Native.Nat.{ℕ, suc, _+_, _*_, _≤_}
 use mathlib.Core.Path.{_≡_, refl}
 use mathlib.Core.List.{List, [], _∷_}
-use mathlib.Core.Bool.{Bool, true, false, and-false}
 use mathlib.Core.Option.{Option, none, some}
 use native.Mathlib.Omega.{arith}
-use borrow.Author.Tests.{leb-true}
-use lib.Dec.{eqb, leb}
+use lib.Dec.{eqb}
 use lib.ListN.{length, getD}
-use Rattle.laws.specs.Lists.{every}
 use Rattle.laws.specs.Loop.{cases}
-use Rattle.text.specs.Number.{most-number, isDigit, readOn, unpadded, isNumber, when, number}
+use Rattle.text.specs.Number.{most-number, number}
 use Rattle.text.specs.Words.{space, onto, words, join, numbers}
 use Rattle.text.specs.Fields.{rest}
 
@@ -23,11 +20,10 @@ weight (w ∷ ws) = length w + 1 + weight ws
 weight-words : (l : List ℕ) → weight (words l) ≡ length l + 1
 unfolding words weight
 weight-words [] = refl
-weight-words (b ∷ l) = cases (eqb b space) (λ e. rw e (omega (arith, weight-words l))) (λ e. rw e (go (words l) (weight-words l)))
-  where
-    go : (ws : List (List ℕ)) → weight ws ≡ length l + 1 → weight (onto b ws) ≡ suc (length l) + 1
-    go [] h = absurd (omega arith)
-    go (w ∷ ws) h = omega arith
+weight-words (b ∷ l) =
+    cases (eqb b space) (λ e. rw e (omega (arith, weight-words l)))
+    (λ e. rw e ((elim (words l) as (λ ws. weight ws ≡ length l + 1 → weight (onto b ws) ≡ suc (length l) + 1)
+    [ [] ↦ (λ h. absurd (omega arith)) | w ∷ ws ↦ (λ h. omega arith) ]) (weight-words l)))
 
 abbrev pub listOf : Option (List ℕ) → List ℕ
 listOf none = []
@@ -49,41 +45,6 @@ unfolding rest
 rest-count [] = omega arith
 rest-count (b ∷ l) = cases (eqb b space) (λ e. rw e (omega (arith, numbers-count (words l), weight-words l))) (λ e. rw e (omega arith))
 
--- no number above the largest --
-
+-- no number above the largest
 abbrev pub Small : List ℕ → Type 0
 Small l = (k : ℕ) → getD l k 0 ≤ most-number
-
-pub small-nil : Small []
-small-nil k = omega arith
-
-small-cons : (x : ℕ) (l : List ℕ) → x ≤ most-number → Small l → Small (x ∷ l)
-small-cons x l h g zero = h
-small-cons x l h g (suc k) = g k
-
-abbrev valueOf : Option ℕ → ℕ
-valueOf none = 0
-valueOf (some x) = x
-
-number-small : (w : List ℕ) → valueOf (number w) ≤ most-number
-unfolding number
-number-small w = cases (leb (readOn 0 w) most-number) (λ e. fits (isNumber w) (leb-true _ _ e)) (λ e. rw (e, and-false (every isDigit w), and-false (unpadded w)) (omega arith))
-  where
-    fits : (b : Bool) → readOn 0 w ≤ most-number → valueOf (when b (readOn 0 w)) ≤ most-number
-    fits true h = h
-    fits false h = omega arith
-
-numbers-small : (ws : List (List ℕ)) → Small (listOf (numbers ws))
-unfolding numbers
-numbers-small [] = small-nil
-numbers-small (w ∷ ws) = go (number w) (numbers ws) (number-small w) (numbers-small ws)
-  where
-    go : (o : Option ℕ) (ns : Option (List ℕ)) → valueOf o ≤ most-number → Small (listOf ns) → Small (listOf (join o ns))
-    go none ns h g = small-nil
-    go (some x) none h g = small-nil
-    go (some x) (some l) h g = small-cons x l h g
-
-pub rest-small : (l : List ℕ) → Small (listOf (rest l))
-unfolding rest
-rest-small [] = small-nil
-rest-small (b ∷ l) = cases (eqb b space) (λ e. rw e (numbers-small (words l))) (λ e. rw e small-nil)

@@ -64,20 +64,15 @@ number-large v w h = rw (lt-leb (readOn v w) most-number (omega (arith, read-gro
 -- too large already
 pub digits-large : (v : ℕ) (l : List ℕ) → most-number < v → digitsOn v l ≡ none
 unfolding digitsOn
-digits-large v l h = go (words l)
-  where
-    go : (ws : List (List ℕ)) → wordsOn v ws ≡ none
-    go [] = rw (number-large v [] h)
-    go (w ∷ ws) = rw (number-large v w h)
+digits-large v l h = elim (words l) as (λ ws. wordsOn v ws ≡ none) [ [] ↦ rw (number-large v [] h) | w ∷ ws ↦ rw (number-large v w h) ]
 
 -- one digit more
 pub digits-more : (v b : ℕ) (l : List ℕ) → 48 ≤ b → b ≤ 57 → digitsOn v (b ∷ l) ≡ digitsOn (10 * v + (b - 48)) l
 unfolding digitsOn words numbers every readOn
-digits-more v b l low high = rw (ne-eqb b 32 (λ e. (omega arith))) (go (words l))
-  where
-    go : (ws : List (List ℕ)) → wordsOn v (onto b ws) ≡ wordsOn (10 * v + (b - 48)) ws
-    go [] = rw (every-first isDigit b [] (is-digit b low high))
-    go (w ∷ ws) = rw (every-first isDigit b w (is-digit b low high))
+digits-more v b l low high =
+    let d = is-digit b low high in
+    rw (ne-eqb b 32 (λ e. (omega arith))) (elim (words l) as (λ ws. wordsOn v (onto b ws) ≡ wordsOn (10 * v + (b - 48)) ws)
+    [ [] ↦ rw (every-first isDigit b [] d) | w ∷ ws ↦ rw (every-first isDigit b w d) ])
 
 -- the number ends, at the end or at another byte
 pub digits-end : (v : ℕ) → v ≤ most-number → digitsOn v [] ≡ join (some v) (rest [])
@@ -86,11 +81,10 @@ digits-end v h = rw (le-leb v most-number h)
 
 pub digits-stop : (v b : ℕ) (l : List ℕ) → v ≤ most-number → NoDigit b → digitsOn v (b ∷ l) ≡ join (some v) (rest (b ∷ l))
 unfolding digitsOn words rest every readOn
-digits-stop v b l h n = cases (eqb b 32) (λ e. rw (e, le-leb v most-number h)) (λ e. rw e (go (words l)))
-  where
-    go : (ws : List (List ℕ)) → wordsOn v (onto b ws) ≡ none
-    go [] = rw (every-fails isDigit b [] (no-digit b n))
-    go (w ∷ ws) = rw (every-fails isDigit b w (no-digit b n))
+digits-stop v b l h n =
+    cases (eqb b 32) (λ e. rw (e, le-leb v most-number h))
+    (λ e. rw e (elim (words l) as (λ ws. wordsOn v (onto b ws) ≡ none)
+    [ [] ↦ rw (every-fails isDigit b [] (no-digit b n)) | w ∷ ws ↦ rw (every-fails isDigit b w (no-digit b n)) ]))
 
 -- the first digit, after a space --
 
@@ -98,11 +92,8 @@ digits-stop v b l h n = cases (eqb b 32) (λ e. rw (e, le-leb v most-number h)) 
 pub digit-zero : (l : List ℕ) → rest (32 ∷ 48 ∷ l) ≡ join (some 0) (rest l)
 unfolding rest words numbers number every isDigit readOn
 digit-zero [] = refl
-digit-zero (b ∷ l) = cases (eqb b 32) (λ e. rw e) (λ e. rw e (go (words l)))
-  where
-    go : (ws : List (List ℕ)) → numbers (onto 48 (onto b ws)) ≡ none
-    go [] = refl
-    go (w ∷ ws) = refl
+digit-zero (b ∷ l) =
+    cases (eqb b 32) (λ e. rw e) (λ e. rw e (elim (words l) as (λ ws. numbers (onto 48 (onto b ws)) ≡ none) [ [] ↦ refl | w ∷ ws ↦ refl ]))
 
 -- 1 to 9
 pub digit-first : (d : ℕ) (l : List ℕ) → 48 < d → d ≤ 57 → rest (32 ∷ d ∷ l) ≡ digitsOn (d - 48) l
@@ -117,14 +108,10 @@ digit-first d l low high = rw (ne-eqb d 32 (λ e. (omega arith))) (go (words l) 
 -- none
 pub digit-none : (d : ℕ) (l : List ℕ) → NoDigit d → rest (32 ∷ d ∷ l) ≡ none
 unfolding rest words numbers number every
-digit-none d l n = cases (eqb d 32) (λ e. rw e) (λ e. rw e (go (words l)))
-  where
-    fails : (w : List ℕ) → number (d ∷ w) ≡ none
-    fails w = rw (every-fails isDigit d w (no-digit d n), and-false (unpadded (d ∷ w)))
-
-    go : (ws : List (List ℕ)) → numbers (onto d ws) ≡ none
-    go [] = rw (fails [])
-    go (w ∷ ws) = rw (fails w)
+digit-none d l n =
+    let fails : (w : List ℕ) → number (d ∷ w) ≡ none = (λ w. rw (every-fails isDigit d w (no-digit d n), and-false (unpadded (d ∷ w)))) in
+    cases (eqb d 32) (λ e. rw e) (λ e. rw e (elim (words l) as
+    (λ ws. numbers (onto d ws) ≡ none) [ [] ↦ rw (fails []) | w ∷ ws ↦ rw (fails w) ]))
 
 -- fields at places of the line --
 

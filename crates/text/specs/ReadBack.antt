@@ -12,7 +12,7 @@ use lib.ListN.{getD}
 use Rattle.laws.specs.Lists.{every, every-first, every-cons}
 use Rattle.laws.specs.Loop.{cases}
 use Rattle.laws.specs.Says.{clash}
-use Rattle.text.specs.Number.{most-number, digits, decimal, isDigit, readOn, unpadded, isNumber, when, number}
+use Rattle.text.specs.Number.{most-number, digits, decimal, isDigit, readOn, unpadded, isNumber, number}
 use Rattle.text.specs.Decimal.{digits-zero, decimal-one, decimal-more, read-decimal}
 use Rattle.text.specs.Fields.{is-digit}
 
@@ -110,12 +110,9 @@ write-read (b ∷ c ∷ l) u e =
 
 pub written-read : (w : List ℕ) (n : ℕ) → number w ≡ some n → decimal n ≡ w
 unfolding number
-written-read w n = go (isNumber w) refl
-  where
-    go : (r : Bool) → isNumber w ≡ r → when r (readOn 0 w) ≡ some n → decimal n ≡ w
-    go true e q =
-        let m : readOn 0 w ≡ n = cc in
-        let a = both (unpadded w) (every isDigit w && leb (readOn 0 w) most-number) e in
-        let b = both (every isDigit w) (leb (readOn 0 w) most-number) (a .1) in
-        rw (← m) (write-read w (a .0) (b .0))
-    go false e q = absurd (let z : _≡_ {A = ℕ} 0 1 = cc in omega arith)
+written-read w n q =
+    cases (isNumber w)
+    (λ e. let m : readOn 0 w ≡ n = cc in
+    let a = both (unpadded w) (every isDigit w && leb (readOn 0 w) most-number) e in
+    rw (← m) (write-read w (a .0) (both (every isDigit w) (leb (readOn 0 w) most-number) (a .1) .0)))
+    (λ e. clash (cc))

@@ -11,15 +11,6 @@ use Rattle.access.proofs.acting.Tie as tie
 within-places : (c : tie.Then1) → In places (c .before .before .args .i)
 within-places c = says-within _ _ .to (sym (c .before .inside .ensures) ∙ c .if1 .taken)
 
-sub-result : tie.Need-sub-result
-sub-result c = omega (arith, within-places c)
-
-mul-result : tie.Need-mul-result
-mul-result c = omega (arith, within-places c)
-
-array-copy-out-result : tie.Need-array-copy-out-result
-array-copy-out-result c = omega (arith, within-places c)
-
 returns-2 : tie.Need-returns-2
 returns-2 c = λ h. apart _ (says-within _ _ .from h) (sym (c .before .before .inside .ensures) ∙ c .before .if1 .left)
 
@@ -28,9 +19,9 @@ acting-spec =
     tie.close
     (tie.spec
     (λ c κs. search needs)
-    sub-result
-    mul-result
-    array-copy-out-result
+    (λ c. omega (arith, within-places c))
+    (λ c. omega (arith, within-places c))
+    (λ c. omega (arith, within-places c))
     (λ c. search needs)
     (λ c. search needs)
     returns-2)

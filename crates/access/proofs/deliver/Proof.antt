@@ -20,9 +20,6 @@ returns c = record { met = met-broken (c .before .table-keeps-rules .ensures) _ 
 deliver-at-requires : tie.Need-deliver-at-requires
 deliver-at-requires c κs = (_, _, here (c .before .before .before))
 
-together-requires : tie.Need-together-requires
-together-requires c κs = few-desks (here (c .before .before .before .before .before) .sound)
-
 returns-2 : tie.Need-returns-2
 returns-2 c = let p = here (c .before .before .before .before .before .before) in rw (c .together .ensures) (brought p (c .before .before .deliver-at .ensures _ _ p))
 
@@ -36,5 +33,5 @@ deliver-spec =
     (λ c κs. search needs)
     (λ c κs. search needs)
     deliver-at-requires
-    together-requires
+    (λ c κs. few-desks (here (c .before .before .before .before .before) .sound))
     returns-2)

@@ -12,18 +12,6 @@ inside-n c =
     let h = says-within _ _ .to (sym (c .before .inside .ensures) ∙ c .if1 .taken) in
     (h .0, omega (arith, h .1, c .before .before .before .pre))
 
-inside-requires : tie.Need-inside-requires
-inside-requires c κs = search needs
-
-sub-desks : tie.Need-sub-desks
-sub-desks c = omega (arith, inside-n c)
-
-mul-desks : tie.Need-mul-desks
-mul-desks c = omega (arith, inside-n c)
-
-array-set-from-desks : tie.Need-array-set-from-desks
-array-set-from-desks c = omega (arith, inside-n c)
-
 returns : tie.Need-returns
 returns c = rw (sym (c .before .inside .ensures) ∙ c .if1 .taken)
 
@@ -32,4 +20,11 @@ returns-2 c = rw (sym (c .before .inside .ensures) ∙ c .if1 .left)
 
 pub together-spec : {M : Type 1} → statement M
 together-spec =
-    tie.close (tie.spec inside-requires sub-desks mul-desks array-set-from-desks returns returns-2)
+    tie.close
+    (tie.spec
+    (λ c κs. search needs)
+    (λ c. omega (arith, inside-n c))
+    (λ c. omega (arith, inside-n c))
+    (λ c. omega (arith, inside-n c))
+    returns
+    returns-2)

@@ -19,9 +19,6 @@ returns c = rw (c .broken .ensures) (met-broken (c .before .before .table-keeps-
 trip-at-requires : tie.Need-trip-at-requires
 trip-at-requires c κs = record { desks = _; opens = _; own = _; placed = here (c .before) }
 
-together-requires : tie.Need-together-requires
-together-requires c κs = few-desks (here (c .before .before .before) .sound)
-
 returns-2 : tie.Need-returns-2
 returns-2 c = let p = here (c .before .before .before .before) in rw (c .together .ensures) (met-stepped p (c .before .before .trip-at .ensures _ _ _ p))
 
@@ -35,5 +32,5 @@ trip-spec =
     returns
     (λ c κs. search needs)
     trip-at-requires
-    together-requires
+    (λ c κs. few-desks (here (c .before .before .before) .sound))
     returns-2)

@@ -19,9 +19,6 @@ returns c = rw (c .broken .ensures) (met-broken (c .before .before .table-keeps-
 write-at-requires : tie.Need-write-at-requires
 write-at-requires c κs = record { desks = _; own = _; placed = here (c .before .before) }
 
-together-requires : tie.Need-together-requires
-together-requires c κs = few-desks (here (c .before .before .before .before) .sound)
-
 returns-2 : tie.Need-returns-2
 returns-2 c = let p = here (c .before .before .before .before .before) in rw (c .together .ensures) (met-stepped p (c .before .before .write-at .ensures _ _ p))
 
@@ -35,5 +32,5 @@ write-spec =
     returns
     (λ c κs. search needs)
     write-at-requires
-    together-requires
+    (λ c κs. few-desks (here (c .before .before .before .before) .sound))
     returns-2)

@@ -12,7 +12,7 @@ use Rattle.laws.specs.Update.{upd, upd-same, upd-other, upd-all, upd2-same, upd
 use Rattle.machine.specs.Table.{most-open, most-writes, most-status, Vec, Cell, set, held, done, Open, State, written}
 use Rattle.machine.specs.Steps.{fails, ready, isNone, everywhere, stillOpen, mark, apply, raise, nextNumber, nextVector, newWrite, write, isOpen, openCount}
 use Rattle.machine.specs.Rules.{In, Below, Issued, Ranges, Counts, Clocks, SetCell, ToBeOpen, OpenWrite, Quiet, Frame, Rules}
-use Rattle.machine.specs.Proofs.Ready.{ready-at, passes-own, passes-rest, still, done-everywhere, not-everywhere, none-still, still-open}
+use Rattle.machine.specs.Proofs.Ready.{ready-at, passes-own, passes-rest, still, done-everywhere, not-everywhere, none-still, still-is}
 use Rattle.machine.specs.Proofs.Grown.{Waits, MarkAt, marks-of, open-of, Grown, cell-grown, mark-grown, open-grown, exactly-grown, clocked, Clock}
 
 -- a write that may be applied at i: u's next there, sent before or written at i now
@@ -96,13 +96,10 @@ module _ {s : State} (f : Frame s) (c : ℕ → Vec) {i u k : ℕ} {w : Open} (a
       (λ p. rw p (record { small = omega arith; flat = λ h. a .desk; marked = λ h. (λ e. omega (arith, here), λ l. refl); below = λ e. vector-below }))
       (λ p. mark-grown grown (λ l. omega (arith, same j u (λ q r. p q))) (a .marks j p))
 
-  is-this : (z : Open) → stillOpen (s .setup .desks) (mark w i done) ≡ some z → mark w i done ≡ z
-  is-this z e = still-open (s .setup .desks) (mark w i done) z e .1
-
   open-kept : (b d : ℕ) (z : Open) → after .opens b d ≡ some z → OpenWrite after b d z
   open-kept =
       upd2-some (OpenWrite after) (s .opens) u k (stillOpen (s .setup .desks) (mark w i done))
-      (λ z e. rw (← is-this z e) (open-of (a .cell) (a .status-in) (a .number) vector-issued mark-here))
+      (λ z e. rw (← still-is (s .setup .desks) (mark w i done) z e) (open-of (a .cell) (a .status-in) (a .number) vector-issued mark-here))
       (λ b d z ne e. open-grown grown b d (down b d ne) (f .open-write b d z e))
 
   -- freed exactly if no desk lacks it
@@ -133,7 +130,7 @@ module _ {s : State} (f : Frame s) (c : ℕ → Vec) {i u k : ℕ} {w : Open} (a
   pub quiet-kept : (j : ℕ) → j ≢ i → Quiet s j → Waits s j u w → Quiet after j
   quiet-kept j ne q h =
       upd2-some (λ b d z. Waits after j b z) (s .opens) u k (stillOpen (s .setup .desks) (mark w i done))
-      (λ z e m. let n = is-this z e in
+      (λ z e m. let n = still-is (s .setup .desks) (mark w i done) z e in
       let o : upd (w .marks) i done j ≡ held = rw (← n) at m in
       rw (← n, row j ne) (h (sym (upd-other (w .marks) i done j ne) ∙ o)))
       (λ b d z nz e m. rw (row j ne) (q b d z e m))
@@ -298,7 +295,7 @@ module _ {s : State} (f : Frame s) (i x v : ℕ) (hi : In (s .setup .desks) i) (
   own-quiet : Quiet s i → Quiet (write s i x v) i
   own-quiet q =
       upd2-some (λ b d z. Waits (write s i x v) i b z) (s .opens) i (nextNumber s i) (stillOpen (s .setup .desks) (mark (newWrite s i x v) i done))
-      (λ z e m. let n = is-this f rose issues z e in
+      (λ z e m. let n = still-is (s .setup .desks) (mark (newWrite s i x v) i done) z e in
       let o : upd (newWrite s i x v .marks) i done i ≡ held = rw (← n) at m in
       absurd (omega (arith, upd-same (newWrite s i x v .marks) i done)))
       (λ b d z ne e m. rw (upd2-here (s .applied) i i (suc (s .applied i i)))

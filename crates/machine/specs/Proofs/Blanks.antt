@@ -19,7 +19,7 @@ use Rattle.machine.specs.Refusals.{Accepted}
 use Rattle.machine.specs.History.{write-at, eventsOf, Act, take-step, save-and-load, run, history}
 use Rattle.machine.specs.Blanks.{Unwritten, HasStatus, ShowsStatus, AllShow, SomeShows, TripIsReads}
 use Rattle.machine.specs.Proofs.Kept.{fresh-rules, step-keeps-rules}
-use Rattle.machine.specs.Proofs.Refusals.{not-refused, accepted-exactly, accepted-effect, step-cases}
+use Rattle.machine.specs.Proofs.Refusals.{accepted-exactly, accepted-effect, step-cases}
 use Rattle.machine.specs.Proofs.Cases.{deliver-cases, still-cases, settle-keeps, reads-keep}
 
 -- Never written --
@@ -143,9 +143,9 @@ module _ (s : State) (i : ℕ) (xs : List ℕ) where
 
   trip-means : (v : Verdict) → Judges v (step s (Trip i xs))
   trip-means v =
-      step-cases s (Trip i xs) (Judges v) (λ r. (λ e. absurd (not-refused (judged v) refl r (sym e)), λ h. absurd (h .0 r refl)))
+      step-cases s (Trip i xs) (Judges v) (λ r. (λ e. clash (cc), λ h. absurd (h .0 r refl)))
       (λ ok. (
-        λ e. (not-refused _ refl, let same : verdict (reads s i xs .shown) ≡ v = cc in rw same at meaning),
+        λ e. (λ r q. clash (cc), let same : verdict (reads s i xs .shown) ≡ v = cc in rw same at meaning),
         λ h. ap judged (means-one not-both _ v meaning (h .1)),
       ))
 

@@ -2,6 +2,7 @@
 use mathlib.Core.Path.{_≡_, refl, sym}
 use mathlib.Core.Bool.{true}
 use mathlib.Core.Option.{Option, none, some}
+use mathlib.Core.List.{_∷_, []}
 use Prim.Native.Nat.{ℕ, zero, suc, _-_, _≤_}
 use native.Mathlib.Omega.{arith}
 use lib.ListN.{length}
@@ -9,9 +10,10 @@ use Rattle.laws.specs.Loop.{cases, scan-found, scan-none}
 use Rattle.laws.specs.Says.{apart, says-both, says-eqb}
 use Rattle.laws.specs.Sum.{sum, sum-le, sum-one, tally-above}
 use Rattle.laws.specs.Update.{same-or}
-use Rattle.machine.specs.Table.{held, Open, State, written}
+use Rattle.machine.specs.Table.{name, held, Open, State, written}
 use Rattle.machine.specs.Steps.{ready, apply, isOpen, openCount, dueOpen, due, firstDue, Settled, settleBy, settle}
 use Rattle.machine.specs.Rules.{In, Quiet, Frame, Rules}
+use Rattle.machine.specs.Proofs.Ready.{option-all}
 use Rattle.machine.specs.Proofs.Apply.{Midway, ReadyAt, ready-next, arrives, here, same, apply-written, apply-midway}
 
 -- the writes that desk i has yet to apply
@@ -66,28 +68,37 @@ none-due {s} {i} f hi e u k w is m =
 quiet-rules : {s : State} {i : ℕ} → Midway s i → Quiet s i → Rules s
 quiet-rules {s} {i} m q = record { frame = m .frame; quiet = λ j. same-or j i (λ e. rw e q) (λ e. m .quiet j e) }
 
+-- what holds where the turns end, and of a turn if it holds of those after it, holds of the cascade
+module _ {i : ℕ} (P : ℕ → State → Settled → Type 0) (none-left : (s : State) → Midway s i → P zero s (record { names = []; state = s }))
+    (ends : (f : ℕ) (s : State) → Midway s i → firstDue s i ≡ none → P (suc f) s (record { names = []; state = s }))
+    (turn : (f : ℕ) (s : State) (u : ℕ) (m : Midway s i) (d : Found s i u) (r : Settled)
+    → P f (apply s i u (suc (s .applied i u)) (d .entry)) r
+    → P (suc f) s (record { names = name u (suc (s .applied i u)) ∷ r .names; state = r .state })) where
+  pub settle-all : (f : ℕ) {s : State} → Midway s i → In (s .setup .desks) i → P f s (settle f s i)
+  unfolding settle
+  settle-all zero m hi = none-left _ m
+  settle-all (suc f) {s} m hi =
+      option-all (λ o. P (suc f) s (settleBy (λ s′. settle f s′ i) s i o)) (firstDue s i) (ends f s m)
+      (λ u e. let d = first-due hi e .1 in rw (d .at .is) (turn f s u m d _ (settle-all f (apply-midway m (d .at)) hi)))
+
 -- f turns from s on
-record Ends (f : ℕ) (s : State) (i : ℕ) (r : Settled) : Type 0 where
+record Ends (i f : ℕ) (s : State) (r : Settled) : Type 0 where
   pub rules : left s i ≤ f → Rules (r .state)
   pub names : length (r .names) ≤ left s i
 
-settle-ends : (f : ℕ) {s : State} {i : ℕ} → Midway s i → In (s .setup .desks) i → Ends f s i (settle f s i)
-unfolding settle
-settle-ends zero {s} {i} m hi = record {
-  rules = λ l. quiet-rules m (λ u k w is h.
-      cases (ready (s .setup .desks) (s .applied i) u (w .vector)) (λ y. absurd (omega (arith, apply-left (m .frame) (record { desk = hi; is = is; ready = y })))) (λ y. y));
-  names = omega arith;
-}
-settle-ends (suc f) {s} {i} m hi = go (λ s′ m′ h′. settle-ends f {s = s′} m′ h′) (firstDue s i) refl
-  where
-    go : ((s′ : State) → Midway s′ i → In (s′ .setup .desks) i → Ends f s′ i (settle f s′ i))
-        → (r : Option ℕ) → firstDue s i ≡ r → Ends (suc f) s i (settleBy (λ s′. settle f s′ i) s i r)
-    go ih none e = record { rules = λ l. quiet-rules m (none-due (m .frame) hi e); names = omega arith }
-    go ih (some u) e =
-        let d = first-due hi e .1 .at in
-        let t = ih _ (apply-midway m d) hi in
-        let a = apply-left (m .frame) d in
-        rw (d .is) (record { rules = λ l. t .rules (omega arith); names = omega (arith, t .names) })
+settle-ends : (f : ℕ) {s : State} {i : ℕ} → Midway s i → In (s .setup .desks) i → Ends i f s (settle f s i)
+settle-ends f {s} {i} m hi =
+    settle-all (λ f s r. In (s .setup .desks) i → Ends i f s r)
+    (λ s m hi. record {
+      rules = λ l. quiet-rules m (λ u k w is h.
+          cases (ready (s .setup .desks) (s .applied i) u (w .vector))
+          (λ y. absurd (omega (arith, apply-left (m .frame) (record { desk = hi; is = is; ready = y })))) (λ y. y));
+      names = omega arith;
+    })
+    (λ f s m e hi. record { rules = λ l. quiet-rules m (none-due (m .frame) hi e); names = omega arith })
+    (λ f s u m d r t hi. let a = apply-left (m .frame) (d .at) in
+    record { rules = λ l. t hi .rules (omega arith); names = omega (arith, t hi .names) })
+    f m hi hi
 
 pub settle-rules : (f : ℕ) {s : State} {i : ℕ} → Midway s i → In (s .setup .desks) i → left s i ≤ f → Rules (settle f s i .state)
 settle-rules f m hi l = settle-ends f m hi .rules l

@@ -7,11 +7,12 @@ use mathlib.Core.Option.{Option, none, some}
 use Prim.Native.Nat.{ℕ, zero, suc}
 use native.Mathlib.Omega.{arith}
 use Rattle.laws.specs.Loop.{cases}
-use Rattle.machine.specs.Table.{most-open, Vec, name, placeOf, away, Open, Setup, State, written}
+use Rattle.machine.specs.Table.{most-open, Vec, name, placeOf, away, Open, State, written}
 use Rattle.machine.specs.Answer.{Refusal, holds, applies}
 use Rattle.machine.specs.Steps.{Out, refuse, failing, read, everywhere, stillOpen, apply, hold, firstDue, Settled, applyNext, settleBy, settle, deliverBy, reads, Step, Read, Write, Deliver, Trip, step}
 use Rattle.machine.specs.Rules.{In}
 use Rattle.machine.specs.Proofs.Refusals.{deliverEffect, step-cases}
+use Rattle.machine.specs.Proofs.Ready.{option-all}
 
 -- a delivery that is accepted
 pub record Delivery (s : State) (i u k : ℕ) (w : Open) : Type 0 where
@@ -28,16 +29,13 @@ pub deliver-cases : (s : State) (i u k : ℕ) (Q : Out → Type 0) → ((r : Ref
     → ((w : Open) → Delivery s i u k w → failing (s .setup .desks) (s .applied i) u (w .vector) ≡ none
     → Q (let r : Settled = settle most-open (apply s i u k w) i in record { answer = applies (name u k ∷ r .names); state = r .state }))
     → Q (step s (Deliver i u k))
-deliver-cases s i u k Q refusal f g = step-cases s (Deliver i u k) Q refusal (λ h. at-open (h .0) (h .1 .0) (h .1 .1 .0) (s .opens u k) refl (h .1 .1 .1 .0))
-  where
-    by : (w : Open) → Delivery s i u k w → (o : Option ℕ) → failing (s .setup .desks) (s .applied i) u (w .vector) ≡ o → Q (deliverBy s i u k w o)
-    by w d none e = g w d e
-    by w d (some t) e = f w d t e
-
-    at-open : In (s .setup .desks) i × In (s .setup .desks) u → i ≢ u → In (written s u) k → (o : Option Open) → s .opens u k ≡ o → placeOf o i ≡ away → Q (deliverEffect s i u k o)
-    at-open hd ho hk none e ha = absurd (omega arith)
-    at-open hd ho hk (some w) e ha =
-        by w (record { desk = hd .0; writer = hd .1; other = ho; number = hk; is = e; is-away = ha }) (failing (s .setup .desks) (s .applied i) u (w .vector)) refl
+deliver-cases s i u k Q refusal f g =
+    step-cases s (Deliver i u k) Q refusal (λ h.
+    option-all (λ o. placeOf o i ≡ away → Q (deliverEffect s i u k o)) (s .opens u k) (λ e ha. absurd (omega arith))
+    (λ w e ha. let d : Delivery s i u k w =
+    record { desk = h .0 .0; writer = h .0 .1; other = h .1 .0; number = h .1 .1 .0; is = e; is-away = ha } in
+    option-all (λ o. Q (deliverBy s i u k w o)) (failing (s .setup .desks) (s .applied i) u (w .vector)) (g w d) (f w d))
+    (h .1 .1 .1 .0))
 
 -- a write closes or stays open
 pub still-cases : (P : Option Open → Type 0) (n : ℕ) (w : Open) → (everywhere n w ≡ true → P none) → (everywhere n w ≡ false → P (some w)) → P (stillOpen n w)
@@ -48,16 +46,10 @@ pub settle-keeps : (P : State → Type 0) (i : ℕ) → ((s : State) (u k : ℕ)
     → (f : ℕ) (s : State) → P s → P (settle f s i .state)
 unfolding settle
 settle-keeps P i h zero s p = p
-settle-keeps P i h (suc f) s p = by (settle-keeps P i h f) (firstDue s i)
-  where
-    at-open : ((s : State) → P s → P (settle f s i .state)) → (u : ℕ) (o : Option Open) → s .opens u (suc (s .applied i u)) ≡ o
-        → P (applyNext (λ s′. settle f s′ i) s i u o .state)
-    at-open again u none e = p
-    at-open again u (some w) e = again (apply s i u (suc (s .applied i u)) w) (h s u (suc (s .applied i u)) w e p)
-
-    by : ((s : State) → P s → P (settle f s i .state)) → (o : Option ℕ) → P (settleBy (λ s′. settle f s′ i) s i o .state)
-    by again none = p
-    by again (some u) = at-open again u (s .opens u (suc (s .applied i u))) refl
+settle-keeps P i h (suc f) s p =
+    option-all (λ o. P (settleBy (λ s′. settle f s′ i) s i o .state)) (firstDue s i) (λ _. p)
+    (λ u _. option-all (λ o. P (applyNext (λ s′. settle f s′ i) s i u o .state)) (s .opens u (suc (s .applied i u))) (λ _. p)
+    (λ w e. settle-keeps P i h f _ (h s u (suc (s .applied i u)) w e p)))
 
 -- what each read keeps, the trip keeps
 pub reads-keep : (P : State → Type 0) (i : ℕ) → ((s : State) (x : ℕ) → P s → P (read s i x)) → (xs : List ℕ) (s : State) → P s → P (reads s i xs .state)

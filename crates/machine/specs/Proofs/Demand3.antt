@@ -1,12 +1,11 @@
 -- Demand 3, of every schedule with saves and reloads anywhere.
-use mathlib.Core.Path.{_≡_, refl, sym, _∙_}
-use mathlib.Core.Logic.{_≢_, _⊎_, inl, inr, _↔_, Iff·trans}
+use mathlib.Core.Path.{_≡_, sym, _∙_}
+use mathlib.Core.Logic.{_≢_, inl, inr, _↔_, Iff·trans}
 use mathlib.Core.Bool.{Bool, true, false}
 use mathlib.Core.List.{List, _∷_, Memᴰ·append-left}
-use mathlib.Core.Option.{Option, none, some}
+use mathlib.Core.Option.{none, some}
 use Prim.Native.Nat.{ℕ, suc, _≤_, _<_}
 use native.Mathlib.Omega.{arith}
-use native.Mathlib.Decide.{ℕ-discrete, decLe}
 use borrow.Author.Tests.{eqb-false, ltb-true, eq-eqb, ne-eqb, not-true}
 use lib.Dec.{eqb}
 use Rattle.laws.specs.Ends.{cut-at}
@@ -16,15 +15,15 @@ use Rattle.laws.specs.Says.{clash}
 use Rattle.machine.specs.Table.{most-desks, most-cells, Vec, name, away, held, done, Open, State, fresh, written, place}
 use Rattle.machine.specs.Steps.{fails, failing, isNone, ready}
 use Rattle.machine.specs.Rules.{In, Rules}
-use Rattle.machine.specs.History.{Event, write-at, applied, deskList, Precedes, Act, run, history}
+use Rattle.machine.specs.History.{Event, write-at, applied, deskList, Act, run, history}
 use Rattle.machine.specs.Demand3.{WriteAt, of-write, Has, CauseMissing, Received, HeldIffCauseMissing, UpTo, Demand3}
 use Rattle.machine.specs.Proofs.Kept.{fresh-rules, one-place, done-counted}
 use Rattle.machine.specs.Proofs.Order.{at-one, Ordered, forward}
 use Rattle.machine.specs.Proofs.Traced.{Origin, origin-write}
-use Rattle.machine.specs.Proofs.Marked.{Mark}
 use Rattle.machine.specs.Proofs.Observed.{Observed, observed-fresh}
 use Rattle.machine.specs.Proofs.Runs.{rules-kept, observed-run}
 use Rattle.machine.specs.Proofs.Counted.{write-in, names-observed, open-observed}
+use Rattle.machine.specs.Proofs.Ready.{option-cases}
 
 -- a write that is not ready: its own number is not next, or another desk's place fails
 data Unready (a : Vec) (u : ℕ) (w : Vec) : Type 0 where
@@ -54,20 +53,13 @@ module _ {s : State} {h : List Event} (r : Rules s) (b : Observed s h) where
       Iff·trans (done-counted (r .frame) i u k hi (c .0) (c .1)) (λ le. b .traced .counts i u k .1 (c .1 .0, le), λ m. b .traced .counts i u k .0 m .1)
 
   unreceived : (i u k q : ℕ) → In (s .setup .desks) i → WriteAt h q u k → (place s i u k ≡ away) ↔ (Received h i u k → ⊥)
-  unreceived i u k q hi w = go (s .opens u k) refl
-    where
-      go : (o : Option Open) → s .opens u k ≡ o → (place s i u k ≡ away) ↔ (Received h i u k → ⊥)
-      go none e =
-          let d : place s i u k ≡ done = rw e in
-          (λ z. absurd (omega arith), λ n. absurd (n (b .marked .got i u k (applied-observed i u k q hi w .0 d))))
-      go (some x) e =
-          let m = b .marked .marks u k x e i in
-          let d : place s i u k ≡ x .marks i = rw e in
-          (λ z. m .not-yet (sym d ∙ z), λ n. d ∙ fin m n (ℕ-discrete (x .marks i) away))
-        where
-          fin : Mark h i u k (x .marks i) → (Received h i u k → ⊥) → Dec (x .marks i ≡ away) → x .marks i ≡ away
-          fin m n (yes z) = z
-          fin m n (no z) = absurd (n (m .came z))
+  unreceived i u k q hi w =
+      option-cases (s .opens u k)
+      (λ e. let d : place s i u k ≡ done = rw e in
+      (λ z. absurd (omega arith), λ n. absurd (n (b .marked .got i u k (applied-observed i u k q hi w .0 d)))))
+      (λ x e. let m = b .marked .marks u k x e i in
+      let d : place s i u k ≡ x .marks i = rw e in
+      (λ z. m .not-yet (sym d ∙ z), λ n. d ∙ same-or (x .marks i) away (λ z. z) (λ z. absurd (n (m .came z)))))
 
   -- the vector of u.k, wherever u.k stands
   tells-at : {u k x v q : ℕ} {w : Vec} → Origin h u k x v w → WriteAt h q u k → (t j : ℕ) → 1 ≤ j → (j ≤ w t) ↔ UpTo h q t j
@@ -75,58 +67,43 @@ module _ {s : State} {h : List Event} (r : Rules s) (b : Observed s h) where
 
   -- what a write counts that its desk has yet to apply
   missing : (i u k q t j : ℕ) → WriteAt h q u k → UpTo h q t j → (t ≡ u → j ≡ k → ⊥) → s .applied i t < j → CauseMissing h i q
-  missing i u k q t j w c ne lt = go (c .order)
-    where
-      go : (c .place ≡ q) ⊎ Precedes h (c .place) q → CauseMissing h i q
-      go (inl z) =
-          let e : write-at t (c .write .cell) (c .write .status) j ≡ write-at u (w .cell) (w .status) k = at-one h q (rw z at (c .write .at)) (w .at) in
-          absurd (ne (cc) (cc))
-      go (inr p) = record {
-        place = c .place;
-        writer = t;
-        number = j;
-        write = c .write;
-        precedes = p;
-        unapplied = λ m. let y = b .traced .counts i t j .0 m .1 in omega arith;
-      }
+  missing i u k q t j w c ne lt = elim (c .order) [
+    | inl z ↦ (let e : write-at t (c .write .cell) (c .write .status) j ≡ write-at u (w .cell) (w .status) k =
+        at-one h q (rw z at (c .write .at)) (w .at) in
+        absurd (ne (cc) (cc)))
+    | inr p ↦ (let un : Has (deskList i h) t j → ⊥ = (λ m. omega (arith, b .traced .counts i t j .0 m .1)) in
+        record { place = c .place; writer = t; number = j; write = c .write; precedes = p; unapplied = un })
+  ]
 
   held-lacks : (i u k q : ℕ) (x : Open) → In (s .setup .desks) i → WriteAt h q u k → s .opens u k ≡ some x → x .marks i ≡ held → CauseMissing h i q
-  held-lacks i u k q x hi w e m = go (unready (s .setup .desks) (s .applied i) u (x .vector) (r .quiet i u k x e m))
-    where
-      number : x .vector u ≡ k
-      number = r .frame .open-write u k x e .number
-
-      late : Dec (k ≤ s .applied i u) → s .applied i u < k
-      late (no z) = omega arith
-      late (yes z) = let d = r .frame .open-write u k x e .marked i hi .1 z in absurd (omega arith)
-
-      tells : (t j : ℕ) → 1 ≤ j → (j ≤ x .vector t) ↔ UpTo h q t j
-      tells = tells-at (b .traced .opens u k x e) w
-
-      go : Unready (s .applied i) u (x .vector) → CauseMissing h i q
-      go (lacks t ne lt) = missing i u k q t (x .vector t) w (tells t (x .vector t) (omega arith) .0 (omega arith)) (λ z _. ne z) lt
-      go (early ne) =
-          let lt = late (decLe k (s .applied i u)) in
-          let j = suc (s .applied i u) in
-          missing i u k q u j w (tells u j (omega arith) .0 (omega (arith, number))) (λ _ z. ne (z ∙ sym number)) (omega arith)
+  held-lacks i u k q x hi w e m =
+      let o = r .frame .open-write u k x e in
+      let tells : (t j : ℕ) → 1 ≤ j → (j ≤ x .vector t) ↔ UpTo h q t j = tells-at (b .traced .opens u k x e) w in
+      let late : ¬ (k ≤ s .applied i u) = (λ z. omega (arith, o .marked i hi .1 z)) in
+      elim (unready (s .setup .desks) (s .applied i) u (x .vector) (r .quiet i u k x e m)) [
+        | lacks t ne lt ↦ missing i u k q t (x .vector t) w (tells t (x .vector t) (omega arith) .0 (omega arith)) (λ z _. ne z) lt
+        | early ne ↦ (let j = suc (s .applied i u) in
+            missing i u k q u j w (tells u j (omega arith) .0 (omega (arith, o .number))) (λ _ z. ne (z ∙ sym (o .number))) (omega arith))
+      ]
 
   held-iff : HeldIffCauseMissing s h
-  held-iff i u k q hi w got = (λ z. to (s .opens u k) refl z, from)
+  held-iff i u k q hi w got = (to, from)
     where
-      to : (o : Option Open) → s .opens u k ≡ o → place s i u k ≡ held → CauseMissing h i q
-      to none e z = let d : place s i u k ≡ done = rw e in absurd (omega arith)
-      to (some x) e z = let d : place s i u k ≡ x .marks i = rw e in held-lacks i u k q x hi w e (sym d ∙ z)
+      to : place s i u k ≡ held → CauseMissing h i q
+      to z =
+          option-cases (s .opens u k) (λ e. let d : place s i u k ≡ done = rw e in absurd (omega arith))
+          (λ x e. let d : place s i u k ≡ x .marks i = rw e in held-lacks i u k q x hi w e (sym d ∙ z))
 
       from : CauseMissing h i q → place s i u k ≡ held
-      from c = let c = write-in r (b .traced) w in go (one-place r i u k hi (c .0) (c .1))
-        where
-          go : (place s i u k ≡ away) ⊎ ((place s i u k ≡ held) ⊎ (place s i u k ≡ done)) → place s i u k ≡ held
-          go (inl z) = absurd (unreceived i u k q hi w .0 z got)
-          go (inr (inl z)) = z
-          go (inr (inr z)) =
-              let p = cut-at (applied-observed i u k q hi w .0 z) in
+      from c = let n = write-in r (b .traced) w in elim (one-place r i u k hi (n .0) (n .1)) [
+        | inl z ↦ absurd (unreceived i u k q hi w .0 z got)
+        | inr o ↦ elim o [
+          | inl z ↦ z
+          | inr z ↦ (let p = cut-at (applied-observed i u k q hi w .0 z) in
               let m = b .traced .story .causes .writes i (applied (name u k)) (p .earlier) (p .later) (p .is) q (of-write w) (c .place) (c .writer) (c .number) (c .write) (c .precedes) in
-              absurd (c .unapplied (rw (p .is) (Memᴰ·append-left (applied (name u k) ∷ p .later) m)))
+              absurd (c .unapplied (rw (p .is) (Memᴰ·append-left (applied (name u k) ∷ p .later) m))))
+        ]
+      ]
 
   pub demand-of : Demand3 s h
   demand-of = record {

@@ -8,14 +8,14 @@ use native.Mathlib.Omega.{arith}
 use borrow.Author.Tests.{eqb-true, eq-eqb, ne-eqb, le-ltb}
 use lib.Dec.{eqb}
 use Rattle.laws.specs.Loop.{cases, scan-empty}
-use Rattle.laws.specs.All.{all-at}
 use Rattle.laws.specs.Says.{apart}
 use Rattle.laws.specs.Update.{upd, upd2, same-or, upd-same, upd-other, upd-map, upd2-same, upd2-row, upd2-here, upd2-other, upd2-all, upd2-is}
 use Rattle.machine.specs.Table.{Vec, Cell, blank, set, held, done, Open, State}
-use Rattle.machine.specs.Steps.{fails, failing, ready, isNone, readClock, read, everywhere, stillOpen, mark, apply, hold, nextNumber, raise, newWrite, write}
+use Rattle.machine.specs.Steps.{fails, failing, ready, isNone, readClock, read, stillOpen, mark, apply, hold, nextNumber, raise, newWrite, write}
 use Rattle.machine.specs.Rules.{In, Flat, Quiet}
 use Rattle.machine.specs.Paper.{Message, Process, WRITE, READ, receipt, resume, Idle, vectorOf, valueOf, messageOf, markedOf, waitingOf, desk}
 use Rattle.machine.specs.Proofs.Cases.{still-cases}
+use Rattle.machine.specs.Proofs.Ready.{done-everywhere}
 
 -- processes are the same if their parts are
 process-is : {p q : Process} → p .Apply ≡ q .Apply → p .Write-co ≡ q .Write-co → p .LastWriteOn ≡ q .LastWriteOn → p .memory ≡ q .memory
@@ -50,10 +50,6 @@ marked-is p i u w h = rw (eq-eqb (w .marks i) p h, markedOf)
 pub marked-not : (p i u : ℕ) (w : Open) → w .marks i ≢ p → markedOf p i u (some w) ≡ none
 marked-not p i u w h = rw (ne-eqb (w .marks i) p h, markedOf)
 
-pub everywhere-at : (n : ℕ) (w : Open) → everywhere n w ≡ true → (t : ℕ) → In n t → w .marks t ≡ done
-unfolding everywhere
-everywhere-at n w e t h = eqb-true (w .marks t) done (all-at _ n 1 e t (h .0) (omega arith))
-
 module _ (p i u : ℕ) (w : Open) where
   -- another mark at i
   pub marked-here : (q : ℕ) → q ≢ p → markedOf p i u (some (mark w i q)) ≡ none
@@ -75,7 +71,7 @@ module _ (n p i u : ℕ) (w : Open) (before : p < done) where
   applied-there j inside ne =
       still-cases (λ o. markedOf p j u o ≡ markedOf p j u (some w)) n (mark w i done)
       (λ e. sym (marked-not p j u w (λ h.
-      let d = everywhere-at n (mark w i done) e j (inside h) in
+      let d = done-everywhere n (mark w i done) e j (inside h) in
       omega (arith, before, d, upd-other (w .marks) i done j ne))))
       (λ e. marked-there p i u w done j ne)
 

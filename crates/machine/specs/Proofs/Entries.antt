@@ -12,7 +12,7 @@ use lib.ListN.{length}
 use Rattle.laws.specs.Loop.{cases}
 use Rattle.laws.specs.Says.{clash, apart}
 use Rattle.laws.specs.Update.{same-or}
-use Rattle.laws.specs.Ends.{CutEnd, inside, outside, cut-end}
+use Rattle.laws.specs.Ends.{inside, outside, cut-end}
 use Rattle.machine.specs.Table.{Name, name}
 use Rattle.machine.specs.Answer.{Shown, unset}
 use Rattle.machine.specs.History.{Event, read-at, write-at, receive-at, apply-at, Entry, own-read, applied, entryOf, listFrom, deskList, Written, isName, writtenAs, afterWrite, afterEntry, latestFrom, latest, At}
@@ -60,15 +60,15 @@ pub data DeskCut (i : ℕ) (h : List Event) (e : Event) (earlier : List Entry) (
 
 pub desk-cut : (i : ℕ) (h : List Event) (e : Event) (earlier : List Entry) (b : Entry) (later : List Entry)
     → deskList i (add h e) ≡ earlier ++ b ∷ later → DeskCut i h e earlier b
-desk-cut i h e earlier b later eq = go (entryOf i (length h) e) (entries i (length h) e) (sym (desk-add i h e) ∙ eq)
-  where
-    cut : (b′ : Entry) → OwnEntry i (length h) e b′ → CutEnd (deskList i h) b′ earlier b → DeskCut i h e earlier b
-    cut b′ o (inside m q) = in-old m q
-    cut b′ o (outside q r) = in-new q (subst (OwnEntry i (length h) e) r o)
-
-    go : (l : List Entry) → Entries i (length h) e l → deskList i h ++ l ≡ earlier ++ b ∷ later → DeskCut i h e earlier b
-    go l (nothing z _) q = in-old later (rw (z, append-nil) at q)
-    go l (one b′ z o) q = cut b′ o (cut-end (deskList i h) b′ earlier b later (rw z at q))
+desk-cut i h e earlier b later eq =
+    let q = sym (desk-add i h e) ∙ eq in
+    elim (entries i (length h) e) [
+      | nothing z _ ↦ in-old later (rw (z, append-nil) at q)
+      | one b′ z o ↦ elim (cut-end (deskList i h) b′ earlier b later (rw z at q)) [
+        | inside m q ↦ in-old m q
+        | outside q r ↦ in-new q (subst (OwnEntry i (length h) e) r o)
+      ]
+    ]
 
 -- members of the longer list
 pub mem-old : (i : ℕ) (h : List Event) (e : Event) {b : Entry} → List·Memᴰ b (deskList i h) → List·Memᴰ b (deskList i (add h e))
@@ -88,12 +88,19 @@ mem-new i h e {b} o = rw (desk-add i h e) (Memᴰ·append-right (deskList i h) (
     go l (one b′ z o′) o = rw z (List·Memᴰ·head (same b′ o′ o))
 
 pub mem-cases : (i : ℕ) (h : List Event) (e : Event) {b : Entry} → List·Memᴰ b (deskList i (add h e)) → List·Memᴰ b (deskList i h) ⊎ OwnEntry i (length h) e b
-mem-cases i h e {b} m = go (entryOf i (length h) e) (entries i (length h) e) (List·Memᴰ·append-cases (deskList i h) (rw (desk-add i h e) at m))
-  where
-    go : (l : List Entry) → Entries i (length h) e l → List·Memᴰ b (deskList i h) ⊎ List·Memᴰ b l → List·Memᴰ b (deskList i h) ⊎ OwnEntry i (length h) e b
-    go l en (inl m) = inl m
-    go l (nothing z _) (inr m) = absurd (List·Memᴰ·not-nil (rw z at m))
-    go l (one b′ z o) (inr m) = inr (subst (OwnEntry i (length h) e) (sym (List·Memᴰ·eq-of-singleton (rw z at m))) o)
+mem-cases i h e {b} m = elim (List·Memᴰ·append-cases (deskList i h) (rw (desk-add i h e) at m)) [
+  | inl m ↦ inl m
+  | inr m ↦ elim (entries i (length h) e) [
+    | nothing z _ ↦ absurd (List·Memᴰ·not-nil (rw z at m))
+    | one b′ z o ↦ inr (subst (OwnEntry i (length h) e) (sym (List·Memᴰ·eq-of-singleton (rw z at m))) o)
+  ]
+]
+
+-- of a write: it was there, or the event applies it
+pub applied-cases : {R : Type 0} (i : ℕ) (h : List Event) (e : Event) {w : Name} → List·Memᴰ (applied w) (deskList i (add h e))
+    → (List·Memᴰ (applied w) (deskList i h) → R) → (e ≡ apply-at i w → R) → R
+applied-cases i h e m f g =
+    elim (mem-cases i h e m) [ inl m ↦ f m | inr o ↦ elim o [ reads x v q r ↦ clash (cc) | applies w q r ↦ g (cc) ] ]
 
 -- own reads --
 
@@ -116,17 +123,14 @@ listed-from : (i q : ℕ) (h : List Event) (p x : ℕ) (v : Shown) → List·Mem
 unfolding listFrom
 listed-from i q [] p x v m = absurd (List·Memᴰ·not-nil m)
 listed-from i q (e ∷ h) p x v m =
-    go (entryOf i q e) (entries i q e) (λ r. let k = listed-from i (suc q) h p x v r in omega arith) (List·Memᴰ·append-cases (entryOf i q e) m)
-  where
-    own : (b : Entry) → own-read p x v ≡ b → OwnEntry i q e b → p < q + suc (length h)
-    own b z (reads x v _ r) = let y : p ≡ q = cc in omega arith
-    own b z (applies w _ r) = clash (cc)
-
-    go : (l : List Entry) → Entries i q e l → (List·Memᴰ (own-read p x v) (listFrom i (suc q) h) → p < q + suc (length h))
-        → List·Memᴰ (own-read p x v) l ⊎ List·Memᴰ (own-read p x v) (listFrom i (suc q) h) → p < q + suc (length h)
-    go l en rest (inr m) = rest m
-    go l (nothing z _) rest (inl m) = absurd (List·Memᴰ·not-nil (rw z at m))
-    go l (one b z o) rest (inl m) = own b (List·Memᴰ·eq-of-singleton (rw z at m)) o
+    elim (List·Memᴰ·append-cases (entryOf i q e) m) [
+      | inr r ↦ (let k = listed-from i (suc q) h p x v r in omega arith)
+      | inl m ↦ elim (entries i q e) [
+        | nothing z _ ↦ absurd (List·Memᴰ·not-nil (rw z at m))
+        | one b z o ↦ (let y = List·Memᴰ·eq-of-singleton (rw z at m) in
+            elim o [ reads x v _ r ↦ (let y : p ≡ q = cc in omega arith) | applies w _ r ↦ clash (cc) ])
+      ]
+    ]
 
 pub listed-inside : (i : ℕ) (h : List Event) (p x : ℕ) (v : Shown) → List·Memᴰ (own-read p x v) (deskList i h) → p < length h
 listed-inside i h p x v m = let k = listed-from i 0 h p x v m in omega arith
@@ -202,33 +206,22 @@ latest-stable h e x old (applied w ∷ l) f =
 -- what a desk has and shows, after an event that applies nothing there
 module _ (i : ℕ) (h : List Event) (e : Event) (idle : (w : Name) → e ≡ apply-at i w → ⊥) where
   pub has-keep : (w : Name) → List·Memᴰ (applied w) (deskList i (add h e)) ↔ List·Memᴰ (applied w) (deskList i h)
-  has-keep w = (λ m. go (mem-cases i h e m), λ m. mem-old i h e m)
-    where
-      go : List·Memᴰ (applied w) (deskList i h) ⊎ OwnEntry i (length h) e (applied w) → List·Memᴰ (applied w) (deskList i h)
-      go (inl m) = m
-      go (inr (reads x v q r)) = clash (cc)
-      go (inr (applies w q r)) = absurd (idle w q)
+  has-keep w = (λ m. applied-cases i h e m (λ m. m) (λ q. absurd (idle w q)), λ m. mem-old i h e m)
 
   pub latest-keep : (x : ℕ) → AllWritten h (deskList i h) → latest (add h e) x (deskList i (add h e)) ≡ latest h x (deskList i h)
   unfolding latestFrom
   latest-keep x f =
       ap (latest (add h e) x) (desk-add i h e) ∙ latest-append (add h e) x unset (deskList i h) (entryOf i (length h) e)
-      ∙ go (entryOf i (length h) e) (entries i (length h) e) ∙ latest-stable h e x unset (deskList i h) f
-    where
-      go : (l : List Entry) → Entries i (length h) e l → latestFrom (add h e) x (latest (add h e) x (deskList i h)) l ≡ latest (add h e) x (deskList i h)
-      go l (nothing z _) = rw z
-      go l (one b z (reads y v q r)) = rw (z, r)
-      go l (one b z (applies w q r)) = absurd (idle w q)
+      ∙ elim (entries i (length h) e) [
+        | nothing z _ ↦ rw z
+        | one b z o ↦ elim o [ reads y v q r ↦ rw (z, r) | applies w q r ↦ absurd (idle w q) ]
+      ]
+      ∙ latest-stable h e x unset (deskList i h) f
 
 -- and after one that applies w there
 module _ (i : ℕ) (h : List Event) (w : Name) where
   pub has-apply : (w′ : Name) → List·Memᴰ (applied w′) (deskList i (add h (apply-at i w))) → List·Memᴰ (applied w′) (deskList i h) ⊎ (w ≡ w′)
-  has-apply w′ m = go (mem-cases i h (apply-at i w) m)
-    where
-      go : List·Memᴰ (applied w′) (deskList i h) ⊎ OwnEntry i (length h) (apply-at i w) (applied w′) → List·Memᴰ (applied w′) (deskList i h) ⊎ (w ≡ w′)
-      go (inl m) = inl m
-      go (inr (reads x v q r)) = clash (cc)
-      go (inr (applies v q r)) = inr (cc)
+  has-apply w′ m = applied-cases i h (apply-at i w) m inl (λ q. inr (cc))
 
   pub has-applied : List·Memᴰ (applied w) (deskList i (add h (apply-at i w)))
   has-applied = mem-new i h (apply-at i w) (applies w refl refl)

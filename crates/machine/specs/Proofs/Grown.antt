@@ -2,7 +2,7 @@
 use mathlib.Core.Path.{_≡_, refl, sym, ap, fun-ext}
 use mathlib.Core.Logic.{_↔_, Iff·trans}
 use mathlib.Core.Bool.{Bool, true, false, not}
-use mathlib.Core.Option.{some}
+use mathlib.Core.Option.{some, Option}
 use Prim.Native.Nat.{ℕ, _≤_, _<_}
 use native.Mathlib.Omega.{arith}
 use Rattle.laws.specs.Says.{apart}
@@ -109,18 +109,31 @@ fresh-rules n m hn hm = record {
 abbrev pub clocked : State → (ℕ → Vec) → State
 clocked s c = record { setup = s .setup; applied = s .applied; clock = c; cell = s .cell; opens = s .opens }
 
-clocked-frame : {s : State} → Frame s → (c : ℕ → Vec) → Clocks (clocked s c) → Frame (clocked s c)
-unfolding openCount
-clocked-frame {s} f c h =
-    let g : Grown s (clocked s c) = record { setup = refl; more = λ j t. omega arith } in
-    record {
-      ranges = record { desks = f .ranges .desks; cells = f .ranges .cells; written = f .ranges .written; few = f .ranges .few };
-      counts = record { inside = f .counts .inside; most = f .counts .most };
-      clocks = h;
-      cell = λ i x v u w e. cell-grown g (f .cell i x v u w e);
-      open-exactly = λ u k. Iff·trans (f .open-exactly u k) (exactly-grown g u k (λ j l. l));
-      open-write = λ u k w e. open-grown g u k (λ j l. l) (f .open-write u k w e);
-    }
+-- with other clocks, and other open writes where there were some, it keeps the rules but the last
+module _ {s : State} (f : Frame s) (c : ℕ → Vec) (o : ℕ → ℕ → Option Open) where
+  abbrev changed : State
+  changed = record { setup = s .setup; applied = s .applied; clock = c; cell = s .cell; opens = o }
+
+  changed-frame : ((u k : ℕ) → isOpen changed u k ≡ isOpen s u k) → Clocks changed
+      → ((u k : ℕ) (w : Open) → o u k ≡ some w → OpenWrite s u k w) → Frame changed
+  unfolding openCount
+  changed-frame same h each =
+      let g : Grown s changed = record { setup = refl; more = λ j t. omega arith } in
+      record {
+        ranges = record {
+          desks = f .ranges .desks;
+          cells = f .ranges .cells;
+          written = f .ranges .written;
+          few =
+              rw (ap (λ (p : ℕ → ℕ → Bool). sum (s .setup .desks) (λ u. tally (written s u) (p u))) (fun-ext (λ a. fun-ext (same a))))
+              (f .ranges .few);
+        };
+        counts = record { inside = f .counts .inside; most = f .counts .most };
+        clocks = h;
+        cell = λ i x v u w e. cell-grown g (f .cell i x v u w e);
+        open-exactly = λ u k. rw (same u k) (Iff·trans (f .open-exactly u k) (exactly-grown g u k (λ j l. l)));
+        open-write = λ u k w e. open-grown g u k (λ j l. l) (each u k w e);
+      }
 
 -- the clock is within the counts, and knows the desk's own writes
 pub record Clock (s : State) (i : ℕ) (c : Vec) : Type 0 where
@@ -135,7 +148,9 @@ read-clock {s} f i x (set v u w) e =
 
 pub read-rules : {s : State} → Rules s → (i x : ℕ) → Rules (read s i x)
 read-rules {s} r i x = record {
-  frame = clocked-frame (r .frame) _ (record { below = λ j. each j .below; own = λ j. each j .own });
+  frame =
+      changed-frame (r .frame) _ (s .opens) (λ u k. refl) (record { below = λ j. each j .below; own = λ j. each j .own })
+      (r .frame .open-write);
   quiet = r .quiet;
 }
   where
@@ -149,24 +164,14 @@ read-rules {s} r i x = record {
 
 pub hold-rules : {s : State} → Rules s → (i u k : ℕ) (w : Open) → In (s .setup .desks) i → s .opens u k ≡ some w → w .marks i ≡ away
     → ready (s .setup .desks) (s .applied i) u (w .vector) ≡ false → Rules (hold s i u k w)
-unfolding openCount
 hold-rules {s} r i u k w hi e ma nr = record {
-  frame = record {
-    ranges = record {
-      desks = f .ranges .desks;
-      cells = f .ranges .cells;
-      written = f .ranges .written;
-      few = rw (ap (λ (p : ℕ → ℕ → Bool). sum (s .setup .desks) (λ u. tally (written s u) (p u))) (fun-ext (λ a. fun-ext (same-open a)))) (f .ranges .few);
-    };
-    counts = record { inside = f .counts .inside; most = f .counts .most };
-    clocks = record { below = f .clocks .below; own = f .clocks .own };
-    cell = λ i x v u w e. cell-grown g (f .cell i x v u w e);
-    open-exactly = λ a c. rw (same-open a c) (Iff·trans (f .open-exactly a c) (exactly-grown g a c (λ j l. l)));
-    open-write =
-        upd2-some (OpenWrite (hold s i u k w)) (s .opens) u k (some (mark w i held))
-        (λ z q. let n : mark w i held ≡ z = cc in rw (← n) this)
-        (λ a c z ne q. open-grown g a c (λ j l. l) (f .open-write a c z q));
-  };
+  frame =
+      changed-frame f (s .clock) _
+      (λ a c. upd2-all (s .opens) u k (some (mark w i held)) (λ a c z. not (isNone z) ≡ isOpen s a c) a c (λ p q. rw (p, q, e))
+      (λ ne. refl))
+      (record { below = f .clocks .below; own = f .clocks .own })
+      (upd2-some (OpenWrite s) (s .opens) u k (some (mark w i held)) (λ z q. let n : mark w i held ≡ z = cc in rw (← n) this)
+      (λ a c z ne q. f .open-write a c z q));
   quiet = λ j.
       upd2-some (λ a c z. Waits s j a z) (s .opens) u k (some (mark w i held))
       (λ z q. let n : mark w i held ≡ z = cc in rw (← n) (quiet-this j))
@@ -176,27 +181,20 @@ hold-rules {s} r i u k w hi e ma nr = record {
     f : Frame s
     f = r .frame
 
-    g : Grown s (hold s i u k w)
-    g = record { setup = refl; more = λ j t. omega arith }
-
-    same-open : (a c : ℕ) → isOpen (hold s i u k w) a c ≡ isOpen s a c
-    same-open a c =
-        upd2-all (s .opens) u k (some (mark w i held)) (λ a c z. not (isNone z) ≡ isOpen s a c) a c (λ p q. rw (p, q, e)) (λ ne. refl)
-
     o : OpenWrite s u k w
     o = f .open-write u k w e
 
-    this : OpenWrite (hold s i u k w) u k (mark w i held)
+    this : OpenWrite s u k (mark w i held)
     this =
         open-of (o .cell) (o .status-in) (o .number) (o .issued)
-        (λ j. upd-all (w .marks) i held (MarkAt (hold s i u k w) u k (w .vector)) j
+        (λ j. upd-all (w .marks) i held (MarkAt s u k (w .vector)) j
         (λ p. rw p (record {
           small = omega arith;
           flat = λ h. hi;
           marked = λ h. (λ q. absurd (omega arith), λ l. absurd (omega (arith, o .marked i hi .1 l)));
           below = λ q. absurd (omega arith);
         }))
-        (λ p. mark-grown g (λ l. l) (marks-of o j)))
+        (λ p. marks-of o j))
 
     quiet-this : (j : ℕ) → Waits s j u (mark w i held)
     quiet-this j =

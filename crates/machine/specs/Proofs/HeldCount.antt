@@ -2,8 +2,8 @@
 use mathlib.Core.Path.{_≡_, refl, sym, ap, _∙_}
 use mathlib.Core.Logic.{_≢_}
 use mathlib.Core.List.{List}
-use mathlib.Core.Option.{Option, none, some}
-use Prim.Native.Nat.{ℕ, zero, suc, _+_, _-_, _*_, _≤_}
+use mathlib.Core.Option.{Option, some}
+use Prim.Native.Nat.{ℕ, suc, _+_, _-_, _*_, _≤_}
 use native.Mathlib.Omega.{arith}
 use borrow.Author.Tests.{ne-eqb}
 use lib.Dec.{eqb}
@@ -13,13 +13,14 @@ use Rattle.laws.specs.Sum.{sum, one, tally, sum-le, sum-same, sum-zero, sum-mor
 use Rattle.laws.specs.Update.{upd, upd-same, upd-other, upd2-same, upd2-other, same-or}
 use Rattle.machine.specs.Table.{most-desks, most-open, most-status, Name, name, Cell, blank, set, held, done, Open, State, fresh, written, placeOf, place}
 use Rattle.machine.specs.Answer.{Answer, unset, shown, shownOf, began, shows, wrote, holds, applies, judged, refused}
-use Rattle.machine.specs.Steps.{stillOpen, mark, apply, hold, read, reads, raise, nextNumber, newWrite, write, isOpen, openCount, firstDue, Settled, settleBy, settle, Step, Read, Write, Deliver, Trip, step}
+use Rattle.machine.specs.Steps.{stillOpen, mark, apply, hold, read, reads, raise, nextNumber, newWrite, write, isOpen, openCount, Settled, settle, Step, Read, Write, Deliver, Trip, step}
 use Rattle.machine.specs.Rules.{In, Frame, Rules}
-use Rattle.machine.specs.Proofs.Ready.{failing-at, done-everywhere}
-use Rattle.machine.specs.Proofs.Apply.{Midway, ReadyAt, apply-written, apply-midway, to-be-open, issues, here, same}
-use Rattle.machine.specs.Proofs.Cascade.{first-due}
+use Rattle.machine.specs.Proofs.Ready.{failing-at, done-everywhere, option-cases}
+use Rattle.machine.specs.Proofs.Apply.{Midway, ReadyAt, apply-written, to-be-open, issues, here, same}
+use Rattle.machine.specs.Proofs.Cascade.{settle-all}
 use Rattle.machine.specs.Proofs.Cases.{Delivery, deliver-cases, still-cases, reads-keep}
 use Rattle.machine.specs.Proofs.Refusals.{step-cases}
+use Rattle.machine.specs.Proofs.Kept.{delivered-at, delivered-midway}
 
 -- at how many desks u.k is held
 abbrev pub heldAt : State → ℕ → ℕ → ℕ
@@ -32,13 +33,11 @@ heldCount s = sum (s .setup .desks) (λ u. sum (written s u) (heldAt s u))
 -- a write is held at most where it is open, and not at its writer --
 
 held-open : {s : State} → Frame s → (u k : ℕ) → In (s .setup .desks) u → In (written s u) k → heldAt s u k ≤ (most-desks - 1) * one (isOpen s u k)
-held-open {s} f u k hu hk = go (s .opens u k) refl
-  where
-    go : (o : Option Open) → s .opens u k ≡ o → heldAt s u k ≤ (most-desks - 1) * one (isOpen s u k)
-    go none e = rw (e, tally-none (s .setup .desks) (λ i. eqb done held) (λ i. refl)) (omega arith)
-    go (some w) e =
-        let m : w .marks u ≡ done = f .open-write u k w e .marked u hu .1 (hk .1) in
-        rw e (omega (arith, tally-miss (s .setup .desks) (λ i. eqb (w .marks i) held) u (hu .0) (hu .1) (rw m), f .ranges .desks .1))
+held-open {s} f u k hu hk =
+    option-cases (s .opens u k)
+    (λ e. rw (e, tally-none (s .setup .desks) (λ i. eqb done held) (λ i. refl)) (omega arith))
+    (λ w e. let m : w .marks u ≡ done = f .open-write u k w e .marked u hu .1 (hk .1) in
+    rw e (omega (arith, tally-miss (s .setup .desks) (λ i. eqb (w .marks i) held) u (hu .0) (hu .1) (rw m), f .ranges .desks .1)))
 
 pub held-few : {s : State} → Frame s → heldCount s ≤ (most-desks - 1) * most-open
 unfolding heldCount openCount
@@ -151,21 +150,18 @@ record Freed (s : State) (r : Settled) : Type 0 where
   count : heldCount s ≡ length (r .names) + heldCount (r .state)
 
 settle-held : (f : ℕ) {s : State} {i : ℕ} → Midway s i → In (s .setup .desks) i → Freed s (settle f s i)
-unfolding settle
-settle-held zero m hi = record { names = no; count = omega arith }
-settle-held (suc f) {s} {i} m hi = go (λ s′ m′ h′. settle-held f {s = s′} m′ h′) (firstDue s i) refl
-  where
-    go : ((s′ : State) → Midway s′ i → In (s′ .setup .desks) i → Freed s′ (settle f s′ i)) → (r : Option ℕ) → firstDue s i ≡ r → Freed s (settleBy (λ s′. settle f s′ i) s i r)
-    go ih none e = record { names = no; count = omega arith }
-    go ih (some u) e =
-        let d = first-due hi e .1 in
-        let t = ih _ (apply-midway m (d .at)) hi in
-        let b = to-be-open (m .frame) u (suc (s .applied i u)) (d .at .is) in
-        let a : heldCount s ≡ 1 + heldCount (apply s i u (suc (s .applied i u)) (d .entry)) = rw (d .is-held) at (apply-held (m .frame) (d .at)) in
-        rw (d .at .is) (record {
-          names = and (b .writer, b .number) (each-then (λ w a. (a .0, rw (apply-written (m .frame) (d .at) (w .writer)) at (a .1))) (t .names));
-          count = omega (arith, t .count);
-        })
+settle-held f {i = i} m hi =
+    settle-all (λ f s r. Freed s r) (λ s m. record { names = no; count = omega arith })
+    (λ f s m e. record { names = no; count = omega arith })
+    (λ f s u m d r t.
+    let b = to-be-open (m .frame) u (suc (s .applied i u)) (d .at .is) in
+    let a : heldCount s ≡ 1 + heldCount (apply s i u (suc (s .applied i u)) (d .entry)) =
+    rw (d .is-held) at (apply-held (m .frame) (d .at)) in
+    record {
+      names =
+          and (b .writer, b .number) (each-then (λ w a. (a .0, rw (apply-written (m .frame) (d .at) (w .writer)) at (a .1))) (t .names));
+      count = omega (arith, t .count);
+    }) f m hi
 
 -- the writes that an answer names, and what is held, of the table s before and s′ after: a hold adds one, and of the writes that are applied
 -- together the first had not been received and the others were held
@@ -194,8 +190,8 @@ step-counted {s} r (Write i x v) =
 step-counted {s} r (Deliver i u k) =
     deliver-cases s i u k (λ o. Counted s (o .answer) (o .state)) (λ _. refl)
     (λ w d t e. (failing-at (s .setup .desks) (s .applied i) u (w .vector) t e .0, hold-held d))
-    (λ w d e. let at : ReadyAt s i u k w = record { desk = d .desk; is = d .is; ready = rw e } in
-    let t = settle-held most-open (apply-midway (record { frame = r .frame; quiet = λ j _. r .quiet j }) at) (d .desk) in
+    (λ w d e. let at = delivered-at r d e in
+    let t = settle-held most-open (delivered-midway r d e) (d .desk) in
     let a : heldCount s ≡ 0 + heldCount (apply s i u k w) = rw (d .is-away) at (apply-held (r .frame) at) in (
       and (d .writer, d .number) (each-then (λ n q. (q .0, rw (apply-written (r .frame) at (n .writer)) at (q .1))) (t .names)),
       omega (arith, t .count),

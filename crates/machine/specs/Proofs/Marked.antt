@@ -1,19 +1,18 @@
 -- The marks of open writes against the receipts of the history.
 use mathlib.Core.Path.{_≡_, sym, ap, subst}
-use mathlib.Core.Logic.{_⊎_, inl, inr}
-use mathlib.Core.List.{List, List·Memᴰ}
+use mathlib.Core.List.{List}
 use mathlib.Core.Option.{Option, some}
 use Prim.Native.Nat.{ℕ}
 use lib.ListN.{length}
-use Rattle.laws.specs.Ends.{AtEnd, before, last, at-either}
+use Rattle.laws.specs.Ends.{before, last, at-either}
 use Rattle.laws.specs.Update.{upd2, upd-all, upd2-all}
 use Rattle.laws.specs.Says.{clash}
 use Rattle.machine.specs.Table.{Name, name, away, Open}
 use Rattle.machine.specs.Steps.{mark}
-use Rattle.machine.specs.History.{Event, receive-at, apply-at, applied, deskList, At}
+use Rattle.machine.specs.History.{Event, receive-at, apply-at, deskList, At}
 use Rattle.machine.specs.Demand3.{WriteAt, Has, Received, its-own, delivered}
 use Rattle.machine.specs.Proofs.Order.{add, at-old, at-new, write-old}
-use Rattle.machine.specs.Proofs.Entries.{OwnEntry, reads, applies, mem-cases}
+use Rattle.machine.specs.Proofs.Entries.{applied-cases}
 
 -- the mark m of u.k at i: away exactly if it was not received
 pub record Mark (h : List Event) (i u k m : ℕ) : Type 0 where
@@ -32,11 +31,8 @@ module _ (h : List Event) (e : Event) where
 
   pub received-less : {i u k : ℕ} → (e ≡ receive-at i (name u k) → ⊥) → Received (add h e) i u k → Received h i u k
   received-less n (its-own q) = its-own q
-  received-less {i} {u} {k} n (delivered p a) = go (at-either h e p (receive-at i (name u k)) a)
-    where
-      go : AtEnd h e p (receive-at i (name u k)) → Received h i u k
-      go (before b) = delivered p b
-      go (last _ q) = absurd (n q)
+  received-less {i} {u} {k} n (delivered p a) =
+      elim (at-either h e p (receive-at i (name u k)) a) [ before b ↦ delivered p b | last _ q ↦ absurd (n q) ]
 
   mark-same : {i u k m : ℕ} → (e ≡ receive-at i (name u k) → ⊥) → Mark h i u k m → Mark (add h e) i u k m
   mark-same n r = record { not-yet = λ z a. r .not-yet z (received-less n a); came = λ z. received-old (r .came z) }
@@ -44,20 +40,14 @@ module _ (h : List Event) (e : Event) where
   -- a new receipt is of an accepted write; what is applied was received
   more-sent : {opens : ℕ → ℕ → Option Open} → Marked opens h → ((i u k : ℕ) → e ≡ receive-at i (name u k) → (q : ℕ) × WriteAt h q u k)
       → (p i u k : ℕ) → At (add h e) p (receive-at i (name u k)) → (q : ℕ) × WriteAt (add h e) q u k
-  more-sent r f p i u k a = go (at-either h e p (receive-at i (name u k)) a)
-    where
-      go : AtEnd h e p (receive-at i (name u k)) → (q : ℕ) × WriteAt (add h e) q u k
-      go (before b) = let z = r .sent p i u k b in (z .0, write-old h e (z .1))
-      go (last _ q) = let z = f i u k q in (z .0, write-old h e (z .1))
+  more-sent r f p i u k a =
+      let z : (q : ℕ) × WriteAt h q u k = elim (at-either h e p
+      (receive-at i (name u k)) a) [ before b ↦ r .sent p i u k b | last _ q ↦ f i u k q ] in
+      (z .0, write-old h e (z .1))
 
   more-got : {opens : ℕ → ℕ → Option Open} → Marked opens h → ((i u k : ℕ) → e ≡ apply-at i (name u k) → Received h i u k)
       → (i u k : ℕ) → Has (deskList i (add h e)) u k → Received (add h e) i u k
-  more-got r f i u k m = go (mem-cases i h e m)
-    where
-      go : List·Memᴰ (applied (name u k)) (deskList i h) ⊎ OwnEntry i (length h) e (applied (name u k)) → Received (add h e) i u k
-      go (inl m) = received-old (r .got i u k m)
-      go (inr (reads x v q z)) = clash (cc)
-      go (inr (applies w q z)) = let y : e ≡ apply-at i (name u k) = cc in received-old (f i u k y)
+  more-got r f i u k m = received-old (applied-cases i h e m (r .got i u k) (f i u k))
 
   -- an event that is no receipt
   pub marked-add : {opens : ℕ → ℕ → Option Open} → Marked opens h → ((i u k : ℕ) → e ≡ receive-at i (name u k) → ⊥)

@@ -16,8 +16,9 @@ use Rattle.machine.specs.Demand3.{Received, its-own, delivered}
 use Rattle.machine.specs.Proofs.Kept.{ReadyAt, read-rules, ready-next}
 use Rattle.machine.specs.Proofs.Order.{add, at-new}
 use Rattle.machine.specs.Proofs.Traced.{Traced, origin-write, own-known}
-use Rattle.machine.specs.Proofs.Small.{readOf, writeOf, traced-read, traced-raise, new-origin, traced-receive, Due, still-is, traced-apply, traced-hold}
+use Rattle.machine.specs.Proofs.Small.{readOf, writeOf, traced-read, traced-raise, new-origin, traced-receive, Due, traced-apply, traced-hold}
 use Rattle.machine.specs.Proofs.Marked.{Marked, received-less, marked-add, marks-put, marked-put, marked-receive}
+use Rattle.machine.specs.Proofs.Ready.{still-is}
 
 pub record Observed (s : State) (h : List Event) : Type 0 where
   pub traced : Traced s h

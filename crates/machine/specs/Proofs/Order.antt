@@ -9,7 +9,7 @@ use native.Mathlib.Decide.{decLe}
 use borrow.Author.Tests.{eq-eqb, ne-eqb}
 use lib.Dec.{eqb}
 use lib.ListN.{length}
-use Rattle.laws.specs.Ends.{AtEnd, before, last, at-inside, at-before, at-end, at-either, CutEnd, inside, outside, cut-end, by-parts}
+use Rattle.laws.specs.Ends.{AtEnd, before, last, at-inside, at-before, at-end, at-either, inside, outside, cut-end, by-parts}
 use Rattle.laws.specs.Count.{count, count-end}
 use Rattle.laws.specs.Says.{clash}
 use Rattle.laws.specs.Update.{same-or}
@@ -45,11 +45,7 @@ forward {p = p} {q = q} o (shown-by {i = i} {u = u} {x = x} {v = v} {k = k} a b)
 forward o (chained c d) = let y = forward o c in let z = forward o d in omega arith
 
 pub upto-then : {h : List Event} {q r t j : ℕ} → UpTo h q t j → Precedes h q r → UpTo h r t j
-upto-then {h} {q} {r} b c = record { place = b .place; write = b .write; order = go (b .order) }
-  where
-    go : (b .place ≡ q) ⊎ Precedes h (b .place) q → (b .place ≡ r) ⊎ Precedes h (b .place) r
-    go (inl e) = inr (subst (λ (p : ℕ). Precedes h p r) (sym e) c)
-    go (inr d) = inr (chained d c)
+upto-then b c = record { place = b .place; write = b .write; order = elim (b .order) [ inl e ↦ inr (rw e c) | inr d ↦ inr (chained d c) ] }
 
 -- t.j precedes or is an operation of the desk i
 pub record Knows (h : List Event) (i t j : ℕ) : Type 0 where
@@ -83,11 +79,7 @@ module _ (h : List Event) (e : Event) where
   at-new = at-end h e
 
   pub at-less : (p : ℕ) {f : Event} → At (add h e) p f → p < length h → At h p f
-  at-less p {f} a lt = go (at-either h e p f a)
-    where
-      go : AtEnd h e p f → At h p f
-      go (before b) = b
-      go (last q r) = absurd (omega arith)
+  at-less p {f} a lt = elim (at-either h e p f a) [ before b ↦ b | last q r ↦ absurd (omega arith) ]
 
   pub at-last : (p : ℕ) {f : Event} → At (add h e) p f → p ≡ length h → f ≡ e
   at-last p a q = at-one (add h e) (length h) (rw q at a) at-new
@@ -104,11 +96,8 @@ module _ (h : List Event) (e : Event) where
   prec-old (chained c d) = chained (prec-old c) (prec-old d)
 
   pub upto-old : {q t j : ℕ} → UpTo h q t j → UpTo (add h e) q t j
-  upto-old {q} b = record { place = b .place; write = write-old (b .write); order = go (b .order) }
-    where
-      go : (b .place ≡ q) ⊎ Precedes h (b .place) q → (b .place ≡ q) ⊎ Precedes (add h e) (b .place) q
-      go (inl z) = inl z
-      go (inr c) = inr (prec-old c)
+  upto-old b =
+      record { place = b .place; write = write-old (b .write); order = elim (b .order) [ inl z ↦ inl z | inr c ↦ inr (prec-old c) ] }
 
   module _ (o : Ordered (add h e)) where
     pub prec-less : {p q : ℕ} → Precedes (add h e) p q → q < length h → Precedes h p q
@@ -117,11 +106,11 @@ module _ (h : List Event) (e : Event) where
     prec-less (chained c d) k = let lt = forward o d in chained (prec-less c (omega arith)) (prec-less d k)
 
     pub upto-less : {q t j : ℕ} → UpTo (add h e) q t j → q < length h → UpTo h q t j
-    upto-less {q} {t} {j} b k = go (b .order)
-      where
-        go : (b .place ≡ q) ⊎ Precedes (add h e) (b .place) q → UpTo h q t j
-        go (inl z) = record { place = b .place; write = write-less (b .write) (omega arith); order = inl z }
-        go (inr c) = let lt = forward o c in record { place = b .place; write = write-less (b .write) (omega arith); order = inr (prec-less c k) }
+    upto-less b k = elim (b .order) [
+      | inl z ↦ record { place = b .place; write = write-less (b .write) (omega arith); order = inl z }
+      | inr c ↦ let lt = forward o c in
+          record { place = b .place; write = write-less (b .write) (omega arith); order = inr (prec-less c k) }
+    ]
 
     pub prec-last : {p q : ℕ} → Precedes (add h e) p q → q ≡ length h → LastLink h e p
     prec-last {p} {q} (same-desk {i = i} {e = f} a b x y lt) z =
@@ -132,40 +121,37 @@ module _ (h : List Event) (e : Event) where
     prec-last {p} (chained {q = r} c d) z =
         let lt = forward o d in
         let s = prec-last d z in
-        record { place = s .place; order = inr (go s (prec-less c (omega arith)) (s .order)); link = s .link }
-      where
-        go : (s : LastLink h e r) → Precedes h p r → (r ≡ s .place) ⊎ Precedes h r (s .place) → Precedes h p (s .place)
-        go s c (inl y) = subst (λ (q : ℕ). Precedes h p q) y c
-        go s c (inr d) = chained c d
+        let b = prec-less c (omega arith) in
+        let a : Precedes h p (s .place) = elim (s .order) [ inl y ↦ subst (λ (q : ℕ). Precedes h p q) y b | inr d ↦ chained b d ] in
+        record { place = s .place; order = inr a; link = s .link }
 
     -- what precedes or is the new event
     pub upto-last : {t j : ℕ} → UpTo (add h e) (length h) t j → LastUp h e t j
-    upto-last {t} {j} b = go (b .order)
-      where
-        step : (c : b .place < length h) (l : LastLink h e (b .place)) → (b .place ≡ l .place) ⊎ Precedes h (b .place) (l .place) → LastUp h e t j
-        step c l d = through (l .place) (record { place = b .place; write = write-less (b .write) c; order = d }) (l .link)
-
-        go : (b .place ≡ length h) ⊎ Precedes (add h e) (b .place) (length h) → LastUp h e t j
-        go (inl z) = itself (b .write .cell) (b .write .status) (sym (at-last (b .place) (b .write .at) z))
-        go (inr c) = let l = prec-last c refl in step (forward o c) l (l .order)
+    upto-last b = elim (b .order) [
+      | inl z ↦ itself (b .write .cell) (b .write .status) (sym (at-last (b .place) (b .write .at) z))
+      | inr c ↦ let l = prec-last c refl in through (l .place)
+          (record { place = b .place; write = write-less (b .write) (forward o c); order = l .order }) (l .link)
+    ]
 
     -- what a desk knows that did the new operation, and what the others know
     pub knows-new : {i t j : ℕ} → OpOf i e → Knows (add h e) i t j ↔ UpTo (add h e) (length h) t j
-    knows-new {i} {t} {j} op = (λ k. to k (at-either h e (k .place) (k .event) (k .at)), λ b. record { place = length h; event = e; at = at-new; op = op; upto = b })
-      where
-        to : (k : Knows (add h e) i t j) → AtEnd h e (k .place) (k .event) → UpTo (add h e) (length h) t j
-        to k (before a) = upto-then (k .upto) (same-desk (k .at) at-new (k .op) op (at-inside h (k .place) (k .event) a))
-        to k (last z _) = subst (λ (q : ℕ). UpTo (add h e) q t j) z (k .upto)
+    knows-new {i} {t} {j} op = (
+      λ k. elim (at-either h e (k .place) (k .event) (k .at)) [
+        | before a ↦ upto-then (k .upto) (same-desk (k .at) at-new (k .op) op (at-inside h (k .place) (k .event) a))
+        | last z y ↦ subst (λ (q : ℕ). UpTo (add h e) q t j) z (k .upto)
+      ],
+      λ b. record { place = length h; event = e; at = at-new; op = op; upto = b },
+    )
 
     pub knows-other : {i t j : ℕ} → (OpOf i e → ⊥) → Knows (add h e) i t j ↔ Knows h i t j
     knows-other {i} {t} {j} op = (
-      λ k. to k (at-either h e (k .place) (k .event) (k .at)),
+      λ k. elim (at-either h e (k .place) (k .event) (k .at)) [
+        | before a ↦
+            record { place = k .place; event = k .event; at = a; op = k .op; upto = upto-less (k .upto) (at-inside h _ _ a) }
+        | last _ z ↦ absurd (op (subst (OpOf i) (sym z) (k .op)))
+      ],
       λ k. record { place = k .place; event = k .event; at = at-old (k .place) (k .at); op = k .op; upto = upto-old (k .upto) },
     )
-      where
-        to : (k : Knows (add h e) i t j) → AtEnd h e (k .place) (k .event) → Knows h i t j
-        to k (before a) = record { place = k .place; event = k .event; at = a; op = k .op; upto = upto-less (k .upto) (at-inside h (k .place) (k .event) a) }
-        to k (last _ z) = absurd (op (subst (OpOf i) (sym z) (k .op)))
 
 -- the numbers of a desk's writes --
 
@@ -242,25 +228,20 @@ not-op n = record {
 
 pub ordered-add : {h : List Event} {e : Event} → Ordered h → NewEvent h e → Ordered (add h e)
 ordered-add {h} {e} o n = record {
-  source = λ q i x v u k a. source′ q i x v u k (at-either h e q (read-at i x (shown v u k)) a);
+  source = λ q i x v u k a. elim (at-either h e q (read-at i x (shown v u k)) a) [
+    | before a ↦ (let r = o .source q i x v u k a in (r .0, r .1, write-old h e (r .2)))
+    | last z w ↦ (let r = n .source i x v u k w in (r .0, (let lt = at-inside h (r .0) _ (r .1 .at) in omega arith), write-old h e (r .1)))
+  ];
   once = λ p q u k a b. once′ p q u k a b (at-either h e p (write-at u (a .cell) (a .status) k) (a .at)) (at-either h e q (write-at u (b .cell) (b .status) k) (b .at));
-  numbered = λ u x v k earlier later q. numbered′ u x v k earlier (cut-end h e earlier (write-at u x v k) later q);
+  numbered = λ u x v k earlier later q. elim (cut-end h e earlier (write-at u x v k) later q) [
+    | inside later z ↦ o .numbered u x v k earlier later z
+    | outside z y ↦ rw (← z) (n .next u x v k y)
+  ];
 }
   where
-    numbered′ : (u x v k : ℕ) (earlier : List Event) → CutEnd h e earlier (write-at u x v k) → k ≡ suc (writesOf u earlier)
-    numbered′ u x v k earlier (inside later z) = o .numbered u x v k earlier later z
-    numbered′ u x v k earlier (outside z y) = rw (← z) (n .next u x v k y)
-
     -- a new write's number is above those of the writes before it
     unwritten : (u x v k p : ℕ) → e ≡ write-at u x v k → WriteAt h p u k → ⊥
     unwritten u x v k p y w = let a = n .next u x v k y in let b = number-in (o .numbered) u k w in omega arith
-
-    source′ : (q i x v u k : ℕ) → AtEnd h e q (read-at i x (shown v u k)) → (p : ℕ) × (p < q) × WriteAt (add h e) p u k
-    source′ q i x v u k (before a) = let r = o .source q i x v u k a in (r .0, r .1, write-old h e (r .2))
-    source′ q i x v u k (last z w) =
-        let r = n .source i x v u k w in
-        let lt = at-inside h (r .0) (write-at u (r .1 .cell) (r .1 .status) k) (r .1 .at) in
-        (r .0, omega arith, write-old h e (r .1))
 
     once′ : (p q u k : ℕ) (a : WriteAt (add h e) p u k) (b : WriteAt (add h e) q u k) → AtEnd h e p (write-at u (a .cell) (a .status) k)
         → AtEnd h e q (write-at u (b .cell) (b .status) k) → p ≡ q

@@ -2,21 +2,23 @@
 use mathlib.Core.Path.{_≡_, refl, sym, ap, subst, _∙_}
 use mathlib.Core.Logic.{_≢_}
 use mathlib.Core.Bool.{true}
-use mathlib.Core.List.{List, [], _∷_, map}
+use mathlib.Core.List.{List, _∷_, map, []}
 use mathlib.Core.Option.{Option, none, some}
-use Prim.Native.Nat.{ℕ, zero, suc, _≤_}
+use Prim.Native.Nat.{ℕ, _≤_}
 use native.Mathlib.Omega.{arith}
 use Rattle.laws.specs.Update.{upd2, same-or, upd-other, upd2-same, upd2-other, upd2-all}
-use Rattle.machine.specs.Table.{most-open, Vec, Name, name, Cell, blank, set, held, done, Open, Setup, State}
-use Rattle.machine.specs.Answer.{Shown, unset, shown, shownOf, shows, wrote}
-use Rattle.machine.specs.Steps.{Out, failing, ready, isNone, read, everywhere, mark, apply, hold, nextNumber, newWrite, raise, write, firstDue, Settled, applyNext, settleBy, settle, reads, Step, Read, Write, Deliver, Trip, step}
+use Rattle.machine.specs.Table.{most-open, Name, name, Cell, blank, set, held, done, Open, Setup, State}
+use Rattle.machine.specs.Answer.{shownOf, shows, wrote}
+use Rattle.machine.specs.Steps.{Out, failing, read, everywhere, mark, apply, hold, nextNumber, newWrite, raise, write, Settled, settle, reads, Step, Read, Write, Deliver, Trip, step}
 use Rattle.machine.specs.Rules.{In, Frame, Rules}
 use Rattle.machine.specs.Refusals.{Accepted}
-use Rattle.machine.specs.Paper.{Value, Message, Process, READ, sent, returned, a-write, a-read, a-receipt, a-thread, Action, Does, does-write, does-read, does-receipt, does-thread, Runs, ends, then, Idle, vectorOf, valueOf, messageOf, waitingOf, desk, receiptOf, actionsOf, actor, PaperRun, KeepsMessage, OpenAs, shownBy}
-use Rattle.machine.specs.Proofs.Kept.{Midway, ReadyAt, ready-next, apply-midway, first-due, step-keeps-rules}
-use Rattle.machine.specs.Proofs.Refusals.{not-refused, step-cases}
+use Rattle.machine.specs.Paper.{Message, Process, READ, sent, returned, a-write, a-read, a-receipt, a-thread, Action, Does, does-write, does-read, does-receipt, does-thread, Runs, ends, then, Idle, vectorOf, valueOf, messageOf, waitingOf, desk, receiptOf, actionsOf, actor, PaperRun, KeepsMessage, OpenAs, shownBy}
+use Rattle.machine.specs.Proofs.Kept.{Midway, ReadyAt, ready-next, step-keeps-rules, settle-all, delivered-at, delivered-midway}
+use Rattle.machine.specs.Proofs.Refusals.{step-cases}
 use Rattle.machine.specs.Proofs.Cases.{Delivery, deliver-cases, still-cases, settle-keeps, reads-keep, setup-stays}
-use Rattle.machine.specs.Proofs.Desks.{Waiting, waitingAt, set-all, marked-is, everywhere-at, quiet-idle, read-here, read-there, receipt-here, hold-there, resume-here, apply-there, write-here, write-there}
+use Rattle.machine.specs.Proofs.Desks.{Waiting, waitingAt, set-all, marked-is, quiet-idle, read-here, read-there, receipt-here, hold-there, resume-here, apply-there, write-here, write-there}
+use Rattle.machine.specs.Proofs.Ready.{option-cases, done-everywhere, not-both}
+use Rattle.laws.specs.Says.{clash}
 
 -- a waiting message that is ready goes on, whatever else waits
 thread : {s : State} {i u k : ℕ} {w : Open} → Frame s → ReadyAt s i u k w → (q : Waiting)
@@ -53,18 +55,9 @@ abbrev pub Cascades : State → ℕ → Settled → Type 0
 Cascades s i r = Moves s i (map a-thread (r .names)) (r .state)
 
 pub cascade : (f : ℕ) {s : State} {i : ℕ} → Midway s i → In (s .setup .desks) i → Cascades s i (settle f s i)
-unfolding settle
-cascade zero m hi = stays
-cascade (suc f) {s} {i} m hi = by (λ s m hi. cascade f m hi) (firstDue s i) refl
-  where
-    by : ((s : State) → Midway s i → In (s .setup .desks) i → Cascades s i (settle f s i)) → (o : Option ℕ) → firstDue s i ≡ o
-        → Cascades s i (settleBy (λ s′. settle f s′ i) s i o)
-    by again none e = stays
-    by again (some u) e =
-        let d = first-due hi e .1 in
-        let k : ℕ = suc (s .applied i u) in
-        subst (λ (o : Option Open). Cascades s i (applyNext (λ s′. settle f s′ i) s i u o)) (sym (d .at .is))
-        (apply-then (m .frame) (d .at) (d .is-held) (again (apply s i u k (d .entry)) (apply-midway m (d .at)) hi))
+cascade f {i = i} m hi =
+    settle-all (λ f s r. Cascades s i r) (λ s m. stays) (λ f s m e. stays)
+    (λ f s u m d r t. apply-then (m .frame) (d .at) (d .is-held) t) f m hi
 
 -- Read and trip --
 
@@ -85,13 +78,9 @@ trip-reads i (x ∷ xs) s =
 
 -- the next number of i is not open yet
 pub new-number : {s : State} (i : ℕ) → Frame s → s .opens i (nextNumber s i) ≡ none
-new-number {s} i f = by (s .opens i (nextNumber s i)) refl
-  where
-    by : (o : Option Open) → s .opens i (nextNumber s i) ≡ o → s .opens i (nextNumber s i) ≡ none
-    by none e = e
-    by (some w) e =
-        let t = f .open-exactly i (nextNumber s i) .0 (rw e) in
-        absurd (omega (arith, t .number .1, f .clocks .own i))
+new-number {s} i f =
+    option-cases (s .opens i (nextNumber s i)) (λ e. e)
+    (λ w e. let t = f .open-exactly i (nextNumber s i) .0 (rw e) in absurd (omega (arith, t .number .1, f .clocks .own i)))
 
 -- an outcome that, if accepted, is its actions
 abbrev IsRun : State → Step → Out → Type 0
@@ -121,9 +110,8 @@ module _ {s : State} (r : Rules s) where
         → Moves s i (a-receipt u (messageOf u w) ∷ a-thread (name u k) ∷ map a-thread (settle most-open (apply s i u k w) i .names)) (settle most-open (apply s i u k w) i .state)
     apply-moves e =
         let o = r .frame .open-write u k w (d .is) in
-        let at : ReadyAt s i u k w = record { desk = d .desk; is = d .is; ready = ap isNone e } in
-        let midway : Midway s i = record { frame = r .frame; quiet = λ j ne. r .quiet j } in
-        let rest = cascade most-open (apply-midway midway at) (d .desk) in
+        let at = delivered-at r d e in
+        let rest = cascade most-open (delivered-midway r d e) (d .desk) in
         record {
           runs =
               then does-receipt
@@ -156,9 +144,6 @@ paper-run {s} r a ok =
 
 -- Messages --
 
-pub none-some : {A R : Type 0} {a : A} → none ≡ some a → R
-none-some e = absurd (let z : _≡_ {A = ℕ} 0 1 = cc in omega arith)
-
 keeps-self : (u : ℕ) (o : Option Open) → KeepsMessage u o o
 keeps-self u o w w′ e e′ = let same : w′ ≡ w = cc in ap (messageOf u) same
 
@@ -177,7 +162,8 @@ module _ (s₀ : State) where
   apply-keeps : (i : ℕ) (s : State) (u k : ℕ) (w : Open) → KeepsMessage u (s₀ .opens u k) (some w) → KeepsAll s → KeepsAll (apply s i u k w)
   apply-keeps i s u k w h f =
       one-keeps s u k _
-      (still-cases (KeepsMessage u (s₀ .opens u k)) (s .setup .desks) (mark w i done) (λ t w w′ e e′. none-some e′) (λ t. keeps-mark u i done h)) f
+      (still-cases (KeepsMessage u (s₀ .opens u k)) (s .setup .desks) (mark w i done) (λ t w w′ e e′. not-both refl e′)
+      (λ t. keeps-mark u i done h)) f
 
 pub message-kept : {s : State} → Rules s → (a : Step) (u k : ℕ) → KeepsMessage u (s .opens u k) (step s a .state .opens u k)
 message-kept {s} r a = by a
@@ -192,7 +178,7 @@ message-kept {s} r a = by a
     by (Read i x) = step-cases s (Read i x) (λ o. KeepsAll s (o .state)) (λ r. same) (λ h. same)
     by (Write i x v) =
         step-cases s (Write i x v) (λ o. KeepsAll s (o .state)) (λ r. same)
-        (λ h. apply-keeps s i (raise s i) i (nextNumber s i) (newWrite s i x v) (λ w w′ e e′. none-some (sym (new-number i (r .frame)) ∙ e)) same)
+        (λ h. apply-keeps s i (raise s i) i (nextNumber s i) (newWrite s i x v) (λ w w′ e e′. not-both (new-number i (r .frame)) e) same)
     by (Deliver i u k) =
         deliver-cases s i u k (λ o. KeepsAll s (o .state)) (λ r. same)
         (λ w d t e. one-keeps s s u k (some (mark w i held)) (keeps-mark u i held (is s u k w (d .is) same)) same)
@@ -201,23 +187,25 @@ message-kept {s} r a = by a
     by (Trip i xs) = step-cases s (Trip i xs) (λ o. KeepsAll s (o .state)) (λ r. same) (λ h. reads-keep (KeepsAll s) i (λ s′ x f. f) xs s same)
 
 -- where there is another desk, a new write is not yet applied everywhere
-not-everywhere : (s : State) (i x v : ℕ) → 2 ≤ s .setup .desks → everywhere (s .setup .desks) (mark (newWrite s i x v) i done) ≡ true → ⊥
-not-everywhere s i x v two e = same-or i 1 (λ p. lacks 2 (omega arith) (λ q. omega arith)) (λ p. lacks 1 (omega arith) (λ q. p (sym q)))
+pub new-somewhere : (s : State) (i x v : ℕ) → 2 ≤ s .setup .desks → everywhere (s .setup .desks) (mark (newWrite s i x v) i done) ≡ true → ⊥
+new-somewhere s i x v two e = same-or i 1 (λ p. lacks 2 (omega arith) (λ q. omega arith)) (λ p. lacks 1 (omega arith) (λ q. p (sym q)))
   where
     lacks : (t : ℕ) → In (s .setup .desks) t → t ≢ i → ⊥
     lacks t h ne =
-        omega (arith, everywhere-at (s .setup .desks) (mark (newWrite s i x v) i done) e t h, upd-other (newWrite s i x v .marks) i done t ne)
+        let d = done-everywhere (s .setup .desks) (mark (newWrite s i x v) i done) e t h in
+        omega (arith, upd-other (newWrite s i x v .marks) i done t ne)
 
 -- where there is a desk to send it to, the new open write has the message that figure 4, line 2 sends
 pub message-sent : (s : State) (i x v k : ℕ) → 2 ≤ s .setup .desks → step s (Write i x v) .answer ≡ wrote (name i k)
     → OpenAs i (sent i x (record { status = v; writer = i }) (desk s i)) (step s (Write i x v) .state .opens i k)
 message-sent s i x v k two =
     step-cases s (Write i x v) (λ o. o .answer ≡ wrote (name i k) → OpenAs i m (o .state .opens i k))
-    (λ r e. absurd (not-refused (wrote (name i k)) refl r (sym e)))
+    (λ r e. clash (cc))
     (λ h e. (
     let same : name i (nextNumber s i) ≡ name i k = cc in
     rw (← ap (λ (n : Name). n .number) same, upd2-same)
-    (still-cases (OpenAs i m) (s .setup .desks) (mark (newWrite s i x v) i done) (λ e. absurd (not-everywhere s i x v two e)) (λ e. record { entry = mark (newWrite s i x v) i done; is = refl; message = refl }))))
+    (still-cases (OpenAs i m) (s .setup .desks) (mark (newWrite s i x v) i done) (λ e. absurd (new-somewhere s i x v two e))
+    (λ e. record { entry = mark (newWrite s i x v) i done; is = refl; message = refl }))))
   where
     m : Message
     m = sent i x (record { status = v; writer = i }) (desk s i)

@@ -1,16 +1,16 @@
 -- A schedule of the machine, with saves and reloads, is a run of the paper's n processes and the messages between them.
 use mathlib.Core.Path.{_≡_, refl, sym, ap, subst, _∙_}
 use mathlib.Core.Bool.{not}
-use mathlib.Core.List.{List, [], _∷_, _++_, map}
+use mathlib.Core.List.{List, _∷_, _++_, map, []}
 use mathlib.Core.Option.{Option, none, some, Option·some-injective}
-use Prim.Native.Nat.{ℕ, zero, suc, _≤_, _<_}
+use Prim.Native.Nat.{ℕ, suc, _≤_, _<_}
 use native.Mathlib.Omega.{arith}
 use native.Mathlib.Decide.{decLe}
 use Rattle.laws.specs.Says.{apart}
 use Rattle.laws.specs.Update.{upd, same-or, upd-same, upd-other, upd-is, upd2-all, upd2-same, upd2-other}
-use Rattle.machine.specs.Table.{most-desks, most-cells, most-open, Vec, Name, name, held, Open, Setup, State, fresh, written}
+use Rattle.machine.specs.Table.{most-desks, most-cells, most-open, Name, name, held, Open, Setup, State, fresh, written}
 use Rattle.machine.specs.Answer.{wrote}
-use Rattle.machine.specs.Steps.{Out, isNone, isOpen, failing, apply, hold, nextNumber, raise, newWrite, write, firstDue, applyNext, settleBy, settle, Step, Read, Write, Deliver, Trip, step}
+use Rattle.machine.specs.Steps.{Out, isNone, isOpen, failing, apply, hold, nextNumber, write, settle, Step, Read, Write, Deliver, Trip, step}
 use Rattle.machine.specs.Rules.{In, Frame, Rules}
 use Rattle.machine.specs.Refusals.{Accepted}
 use Rattle.machine.specs.Paper.{Message, Process, start, sent, Action, a-write, a-read, a-receipt, a-thread, Does, Runs, ends, then, messageOf, desk, actionsOf, receiptOf}
@@ -18,12 +18,13 @@ use Rattle.machine.specs.History.{Act, take-step, save-and-load, run}
 use Rattle.machine.specs.PaperRuns.{Ways, System, take, Carries, sends, takes, none-by-read, none-by-thread, Deed, deed, Acts, acts, SystemRun, over, and-then, waysOf, system, deedsOf, deeds, RunsAsPaper, SentIn, Receives, ReceivedIsSent}
 use Rattle.machine.specs.Proofs.Grown.{Grown}
 use Rattle.machine.specs.Proofs.Apply.{to-be-open, apply-written}
-use Rattle.machine.specs.Proofs.Kept.{Midway, ReadyAt, apply-midway, first-due, fresh-rules, step-keeps-rules}
+use Rattle.machine.specs.Proofs.Kept.{Midway, ReadyAt, fresh-rules, step-keeps-rules, settle-all, delivered-at, delivered-midway}
 use Rattle.machine.specs.Proofs.Refusals.{accepted-exactly, step-cases}
-use Rattle.machine.specs.Proofs.Cases.{Delivery, deliver-cases, settle-keeps, reads-keep, step-keeps, setup-stays}
-use Rattle.machine.specs.Proofs.Paper.{Moves, trip-reads, new-number, read-moves, write-moves, hold-moves, apply-moves, none-some, message-kept, message-sent}
+use Rattle.machine.specs.Proofs.Cases.{Delivery, deliver-cases, reads-keep, step-keeps, setup-stays}
+use Rattle.machine.specs.Proofs.Paper.{Moves, trip-reads, new-number, read-moves, write-moves, hold-moves, apply-moves, message-kept, message-sent}
 use Rattle.machine.specs.Proofs.Ways.{ways-fresh, hold-takes, apply-takes, on-its-way, held-off, write-sends, nothing-under}
 use Rattle.machine.specs.Proofs.Runs.{rules-kept}
+use Rattle.machine.specs.Proofs.Ready.{option-all, option-cases, not-both}
 
 pub desk-starts : (n m i : ℕ) → desk (fresh n m) i ≡ start
 desk-starts n m i = refl
@@ -88,18 +89,9 @@ by-first {s} {i} hi m c u = between hi m (first (s .setup .desks) i hi (desk s) 
 -- what each application of a held write keeps, the cascade keeps
 module _ (i : ℕ) (P : State → Type 0) (h : (s : State) (u k : ℕ) (w : Open) → Midway s i → ReadyAt s i u k w → w .marks i ≡ held → P s → P (apply s i u k w)) where
   cascade-keeps : (f : ℕ) {s : State} → Midway s i → In (s .setup .desks) i → P s → P (settle f s i .state)
-  unfolding settle
-  cascade-keeps zero m hi p = p
-  cascade-keeps (suc f) {s} m hi p = by (λ s m hi p. cascade-keeps f m hi p) (firstDue s i) refl
-    where
-      by : ((s : State) → Midway s i → In (s .setup .desks) i → P s → P (settle f s i .state)) → (o : Option ℕ) → firstDue s i ≡ o
-          → P (settleBy (λ s′. settle f s′ i) s i o .state)
-      by again none e = p
-      by again (some u) e =
-          let d = first-due hi e .1 in
-          let k : ℕ = suc (s .applied i u) in
-          subst (λ (o : Option Open). P (applyNext (λ s′. settle f s′ i) s i u o .state)) (sym (d .at .is))
-          (again (apply s i u k (d .entry)) (apply-midway m (d .at)) hi (h s u k (d .entry) m (d .at) (d .is-held) p))
+  cascade-keeps =
+      settle-all (λ f s r. P s → P (r .state)) (λ s m p. p) (λ f s m e p. p)
+      (λ f s u m d r t p. t (h s u (suc (s .applied i u)) (d .entry) m (d .at) (d .is-held) p))
 
 -- the messages
 settle-ways : (f : ℕ) {s : State} {i : ℕ} → Midway s i → In (s .setup .desks) i → waysOf (settle f s i .state) ≡ waysOf s
@@ -141,10 +133,9 @@ module _ {s : State} (r : Rules s) where
     of-apply : failing (s .setup .desks) (s .applied i) u (w .vector) ≡ none
         → Receipt (a-thread (name u k) ∷ map a-thread (settle most-open (apply s i u k w) i .names)) (settle most-open (apply s i u k w) i .state)
     of-apply e =
-        let at : ReadyAt s i u k w = record { desk = d .desk; is = d .is; ready = ap isNone e } in
-        let midway : Midway s i = record { frame = r .frame; quiet = λ j ne. r .quiet j } in
         of-receipt (apply-moves r d e)
-        (settle-ways most-open (apply-midway midway at) (d .desk) ∙ apply-takes s i u k w (d .desk) (d .is) (r .frame .open-write u k w (d .is) .number))
+        (settle-ways most-open (delivered-midway r d e) (d .desk)
+        ∙ apply-takes s i u k w (d .desk) (d .is) (r .frame .open-write u k w (d .is) .number))
         (threads-leave (s .setup .desks) i (d .desk) (desk s) (name u k ∷ settle most-open (apply s i u k w) i .names))
 
   of-step : (a : Step) → AsPaper s a (step s a)
@@ -186,19 +177,20 @@ module _ (reload : State → State) (same : (s : State) → Rules s → reload s
 
 -- an accepted write that is applied everywhere is not open again
 never-again : {s s′ : State} → Frame s → Frame s′ → Grown s s′ → (u k : ℕ) → In (written s u) k → s .opens u k ≡ none → s′ .opens u k ≡ none
-never-again {s} {s′} f f′ g u k h e = by (s′ .opens u k) refl
-  where
-    by : (o : Option Open) → s′ .opens u k ≡ o → o ≡ none
-    by none q = refl
-    by (some w) q =
-        let t = to-be-open f′ u k q in
-        let l = t .lacks in
-        let still = f .open-exactly u k .1 (record {
-          writer = subst (λ (z : Setup). In (z .desks) u) (g .setup) (t .writer);
-          number = h;
-          lacks = record { desk = l .desk; desk-in = subst (λ (z : Setup). In (z .desks) (l .desk)) (g .setup) (l .desk-in); lower = omega (arith, l .lower, g .more (l .desk) u) };
-        }) in
-        apart (isOpen s u k) still (ap (λ (o : Option Open). not (isNone o)) e)
+never-again {s} {s′} f f′ g u k h e =
+    option-all (λ o. o ≡ none) (s′ .opens u k) (λ q. refl)
+    (λ w q. let t = to-be-open f′ u k q in
+    let l = t .lacks in
+    let still = f .open-exactly u k .1 (record {
+      writer = subst (λ (z : Setup). In (z .desks) u) (g .setup) (t .writer);
+      number = h;
+      lacks = record {
+        desk = l .desk;
+        desk-in = subst (λ (z : Setup). In (z .desks) (l .desk)) (g .setup) (l .desk-in);
+        lower = omega (arith, l .lower, g .more (l .desk) u);
+      };
+    }) in
+    apart (isOpen s u k) still (ap (λ (o : Option Open). not (isNone o)) e))
 
 -- u.k was written, and if it is open it has the message m
 record Carries-on (u k : ℕ) (m : Message) (s : State) : Type 0 where
@@ -208,12 +200,10 @@ record Carries-on (u k : ℕ) (m : Message) (s : State) : Type 0 where
 step-carries : {u k : ℕ} {m : Message} {s : State} → Rules s → (a : Step) → Carries-on u k m s → Carries-on u k m (step s a .state)
 step-carries {u} {k} {m} {s} r a c = record {
   number = (c .number .0, omega (arith, c .number, step-grown s a .more u u));
-  message = λ w e. by w e (s .opens u k) refl;
+  message = λ w e. option-cases (s .opens u k)
+      (λ q. not-both (never-again (r .frame) (step-keeps-rules r a .frame) (step-grown s a) u k (c .number) q) e)
+      (λ w₀ q. message-kept r a u k w₀ w q e ∙ c .message w₀ q);
 }
-  where
-    by : (w : Open) → step s a .state .opens u k ≡ some w → (o : Option Open) → s .opens u k ≡ o → messageOf u w ≡ m
-    by w e none q = none-some (sym (never-again (r .frame) (step-keeps-rules r a .frame) (step-grown s a) u k (c .number) q) ∙ e)
-    by w e (some w₀) q = message-kept r a u k w₀ w q e ∙ c .message w₀ q
 
 -- the write that is answered u.k
 write-carries : {s : State} → Rules s → (u x v k : ℕ) → 2 ≤ s .setup .desks → step s (Write u x v) .answer ≡ wrote (name u k)
@@ -246,10 +236,9 @@ written-kept : {s : State} → Rules s → (i u k t : ℕ) → written (step s (
 written-kept {s} r i u k t =
     deliver-cases s i u k (λ o. written (o .state) t ≡ written s t) (λ r. refl) (λ w d t e. refl)
     (λ w d e.
-    let at : ReadyAt s i u k w = record { desk = d .desk; is = d .is; ready = ap isNone e } in
-    let midway : Midway s i = record { frame = r .frame; quiet = λ j ne. r .quiet j } in
-    cascade-keeps i (λ s′. written s′ t ≡ written s t) (λ s′ u k w m y h e. apply-written (m .frame) y t ∙ e) most-open (apply-midway midway at) (d .desk)
-    (apply-written (r .frame) at t))
+    cascade-keeps i (λ s′. written s′ t ≡ written s t) (λ s′ u k w m y h e. apply-written (m .frame) y t ∙ e) most-open
+    (delivered-midway r d e) (d .desk)
+    (apply-written (r .frame) (delivered-at r d e) t))
 
 wrote-step : {s : State} → Rules s → (u k : ℕ) (a : Step) → written s u < k → k ≤ written (step s a .state) u → Wrote s u k a
 wrote-step {s} r u k (Read i x) low high =
@@ -304,26 +293,27 @@ module _ (reload : State → State) (same : (s : State) → Rules s → reload s
       rw (d .is, run-append s (d .before) (take-step a ∷ d .after), ← d .message)
       (run-carries (step-keeps-rules r′ a) (d .after) (write-carries r′ u (d .cell) (d .status) k (omega (arith, two, run-desks r (d .before))) (d .answered)))
 
+  -- what was sent from s′ on was sent from s, if the act b leads there
+  later : {s s′ : State} {l : List Act} {u k : ℕ} (b : Act) → ((l : List Act) → run reload s (b ∷ l) ≡ run reload s′ l)
+      → (m : Message) × SentIn reload s′ l u k m → (m : Message) × SentIn reload s (b ∷ l) u k m
+  later b e (m, d) = (
+    m,
+    record {
+      before = b ∷ d .before;
+      cell = d .cell;
+      status = d .status;
+      after = d .after;
+      is = ap (_∷_ b) (d .is);
+      answered = rw (e (d .before)) (d .answered);
+      message = rw (e (d .before)) (d .message);
+    },
+  )
+
   -- some write of the schedule is answered u.k
   finds : {s : State} → Rules s → (u k : ℕ) (l : List Act) → written s u < k → k ≤ written (run reload s l) u → (m : Message) × SentIn reload s l u k m
   unfolding run
   finds r u k [] low high = absurd (omega (arith, low, high))
-  finds {s} r u k (save-and-load ∷ l) low high =
-      later (finds r u k l low (subst (λ (z : State). k ≤ written (run reload z l) u) (same s r) high))
-    where
-      later : (m : Message) × SentIn reload s l u k m → (m : Message) × SentIn reload s (save-and-load ∷ l) u k m
-      later (m, d) = (
-        m,
-        record {
-          before = save-and-load ∷ d .before;
-          cell = d .cell;
-          status = d .status;
-          after = d .after;
-          is = ap (_∷_ save-and-load) (d .is);
-          answered = subst (λ (z : State). step (run reload z (d .before)) (Write u (d .cell) (d .status)) .answer ≡ wrote (name u k)) (sym (same s r)) (d .answered);
-          message = subst (λ (z : State). sent u (d .cell) (record { status = d .status; writer = u }) (desk (run reload z (d .before)) u) ≡ m) (sym (same s r)) (d .message);
-        },
-      )
+  finds {s} r u k (save-and-load ∷ l) low high = later save-and-load (λ l. refl) (finds (rw (same s r) r) u k l (rw (same s r) low) high)
   finds {s} r u k (take-step a ∷ l) low high = by (finds (step-keeps-rules r a) u k l) (decLe k (written (step s a .state) u))
     where
       here : (a : Step) → Wrote s u k a → (m : Message) × SentIn reload s (take-step a ∷ l) u k m
@@ -332,24 +322,10 @@ module _ (reload : State → State) (same : (s : State) → Rules s → reload s
         record { before = []; cell = x; status = v; after = l; is = refl; answered = e; message = refl },
       )
 
-      later : (m : Message) × SentIn reload (step s a .state) l u k m → (m : Message) × SentIn reload s (take-step a ∷ l) u k m
-      later (m, d) = (
-        m,
-        record {
-          before = take-step a ∷ d .before;
-          cell = d .cell;
-          status = d .status;
-          after = d .after;
-          is = ap (_∷_ (take-step a)) (d .is);
-          answered = d .answered;
-          message = d .message;
-        },
-      )
-
       by : (written (step s a .state) u < k → k ≤ written (run reload (step s a .state) l) u → (m : Message) × SentIn reload (step s a .state) l u k m)
           → Dec (k ≤ written (step s a .state) u) → (m : Message) × SentIn reload s (take-step a ∷ l) u k m
       by again (yes h) = here a (wrote-step r u k a low h)
-      by again (no h) = later (again (omega arith) high)
+      by again (no h) = later (take-step a) (λ l. refl) (again (omega arith) high)
 
   pub received-is-sent : (n m : ℕ) → In most-desks n → In most-cells m → (l : List Act) (i u k : ℕ)
       → Accepted (step (run reload (fresh n m) l) (Deliver i u k) .answer) → ReceivedIsSent reload (fresh n m) l i u k

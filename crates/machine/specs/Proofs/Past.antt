@@ -1,6 +1,6 @@
 -- The causal order as it is computed is the causal order.
 use mathlib.Core.Path.{_≡_, refl}
-use mathlib.Core.Logic.{_⊎_, inl, inr, _↔_}
+use mathlib.Core.Logic.{inl, inr, _↔_}
 use mathlib.Core.Bool.{Bool, true, false, _&&_, _||_}
 use mathlib.Core.List.{List, [], _∷_, List·Memᴰ, List·Memᴰ·head, List·Memᴰ·tail, List·Memᴰ·not-nil, List·Memᴰ·cases-cons}
 use mathlib.Core.Option.{Option, none, some}
@@ -23,6 +23,7 @@ use Rattle.machine.specs.Proofs.Kept.{fresh-rules}
 use Rattle.machine.specs.Proofs.Order.{forward}
 use Rattle.machine.specs.Proofs.Observed.{observed-fresh}
 use Rattle.machine.specs.Proofs.Runs.{observed-run}
+use Rattle.machine.specs.Proofs.Ready.{option-cases}
 
 -- some number below n passes
 below-some : (n : ℕ) (g : ℕ → Bool) → someBelow n g ≡ true → (r : ℕ) × (g r ≡ true)
@@ -93,31 +94,18 @@ link-either p q e f z =
 
 of-either : {p q : ℕ} {e f : Event} → Linked p q e f → linkOf p q (some e) (some f) ≡ true
 of-either {p} {q} {f = f} (by-desk a b l) = rw (lt-ltb p q l, of-order f a b)
-of-either {p} {q} (by-read {i} {u} {x} {v} {k}) = rw (of-read-from i u x v k) (or-true (ltb p q && eqb i u))
-  where
-    or-true : (a : Bool) → (a || true) ≡ true
-    or-true true = refl
-    or-true false = refl
+of-either {p} {q} (by-read {i} {u} {x} {v} {k}) =
+    rw (of-read-from i u x v k) (elim (ltb p q && eqb i u) as (λ a. (a || true) ≡ true) [ true ↦ refl | false ↦ refl ])
 
 module _ (h : List Event) where
-  record LinkAt (p q : ℕ) : Type 0 where
-    first : Event
-    second : Event
-    at-first : At h p first
-    at-second : At h q second
-    link : Linked p q first second
-
-  link-at : (p q : ℕ) → linked h p q ≡ true → LinkAt p q
+  link-at : {R : Type 0} (p q : ℕ) → linked h p q ≡ true → ((e f : Event) → At h p e → At h q f → Linked p q e f → R) → R
   unfolding linked
-  link-at p q z = by (getElem? h p) refl (getElem? h q) refl z
-    where
-      by : (a : Option Event) → getElem? h p ≡ a → (b : Option Event) → getElem? h q ≡ b → linkOf p q a b ≡ true → LinkAt p q
-      by none d b e z = clash (cc)
-      by (some a) d none e z = clash (cc)
-      by (some a) d (some b) e z = record { first = a; second = b; at-first = d; at-second = e; link = link-either p q a b z }
+  link-at p q z k =
+      option-cases (getElem? h p) (λ d. clash (rw d at z))
+      (λ e d. option-cases (getElem? h q) (λ g. clash (rw (d, g) at z)) (λ f g. k e f d g (link-either p q e f (rw (d, g) at z))))
 
   link-precedes : (p q : ℕ) → linked h p q ≡ true → Precedes h p q
-  link-precedes p q z = let l = link-at p q z in by (l .at-first) (l .at-second) (l .link)
+  link-precedes p q z = link-at p q z (λ e f. by)
     where
       by : {e f : Event} → At h p e → At h q f → Linked p q e f → Precedes h p q
       by a b (by-desk x y l) = same-desk a b x y l
@@ -129,7 +117,7 @@ module _ (h : List Event) where
 
   -- a link ends inside the history
   link-inside : (p q : ℕ) → linked h p q ≡ true → q < length h
-  link-inside p q z = let l = link-at p q z in at-inside h q (l .second) (l .at-second)
+  link-inside p q z = link-at p q z (λ e f a b l. at-inside h q f b)
 
   -- Chains --
 
@@ -166,11 +154,10 @@ module _ (h : List Event) where
 
   before-precedes : (f p q : ℕ) → beforeBy f h p q ≡ true → Precedes h p q
   before-precedes zero p q z = unfold beforeBy in clash (cc)
-  before-precedes (suc f) p q z = by (before-precedes f) (chain f p q z)
-    where
-      by : ((p q : ℕ) → beforeBy f h p q ≡ true → Precedes h p q) → Chain f p q → Precedes h p q
-      by again (last-link t) = link-precedes p q t
-      by again (more-links r t e) = chained (link-precedes p r t) (again r q e)
+  before-precedes (suc f) p q z = elim (chain f p q z) [
+    | last-link t ↦ link-precedes p q t
+    | more-links r t e ↦ chained (link-precedes p r t) (before-precedes f r q e)
+  ]
 
   -- where causes come first, as many links as places are enough
   module _ (forward : (p q : ℕ) → Precedes h p q → p < q) where
@@ -183,11 +170,10 @@ module _ (h : List Event) where
 
     go-on : (f p q r : ℕ) → beforeBy f h p q ≡ true → q < r → Reaches q r → Reaches p r
     go-on zero p q r z l e = unfold beforeBy in clash (cc)
-    go-on (suc f) p q r z l e = by (go-on f) (chain f p q z)
-      where
-        by : ((p q r : ℕ) → beforeBy f h p q ≡ true → q < r → Reaches q r → Reaches p r) → Chain f p q → Reaches p r
-        by again (last-link t) = one-more p q r t l e
-        by again (more-links s t b) = one-more p s r t (let z = forward s q (before-precedes f s q b) in omega arith) (again s q r b l e)
+    go-on (suc f) p q r z l e = elim (chain f p q z) [
+      | last-link t ↦ one-more p q r t l e
+      | more-links s t b ↦ one-more p s r t (let z = forward s q (before-precedes f s q b) in omega arith) (go-on f s q r b l e)
+    ]
 
     one-link : (p q : ℕ) → linked h p q ≡ true → Reaches p q
     one-link p q t zero d = let z = forward p q (link-precedes p q t) in absurd (omega arith)
@@ -215,21 +201,19 @@ unfolding those
 those-in g [] e m = absurd (List·Memᴰ·not-nil m)
 those-in g (a ∷ l) e m =
     cases (g a)
-    (λ t. by (those-in g l e) t (List·Memᴰ·cases-cons (rw (t, those) at m)))
+    (λ t. elim (List·Memᴰ·cases-cons (rw (t, those) at m)) [
+      | inl q ↦ (List·Memᴰ·head q, rw q t)
+      | inr r ↦ (let z = those-in g l e r in (List·Memᴰ·tail (z .0), z .1))
+    ])
     (λ n. let r = those-in g l e (rw (n, those) at m) in (List·Memᴰ·tail (r .0), r .1))
-  where
-    by : (List·Memᴰ e (those g l) → List·Memᴰ e l × (g e ≡ true)) → g a ≡ true → (e ≡ a) ⊎ List·Memᴰ e (those g l) → List·Memᴰ e (a ∷ l) × (g e ≡ true)
-    by again t (inl q) = (List·Memᴰ·head q, rw q t)
-    by again t (inr r) = let z = again r in (List·Memᴰ·tail (z .0), z .1)
 
 in-those : (g : Event → Bool) (l : List Event) (e : Event) → List·Memᴰ e l → g e ≡ true → List·Memᴰ e (those g l)
 unfolding those
 in-those g [] e m z = absurd (List·Memᴰ·not-nil m)
-in-those g (a ∷ l) e m z = by (in-those g l e) (List·Memᴰ·cases-cons m)
-  where
-    by : (List·Memᴰ e l → g e ≡ true → List·Memᴰ e (those g l)) → (e ≡ a) ⊎ List·Memᴰ e l → List·Memᴰ e (those g (a ∷ l))
-    by again (inl q) = let t : g a ≡ true = rw q at z in rw (t, those) (List·Memᴰ·head q)
-    by again (inr r) = cases (g a) (λ t. rw (t, those) (List·Memᴰ·tail (again r z))) (λ n. rw (n, those) (again r z))
+in-those g (a ∷ l) e m z = elim (List·Memᴰ·cases-cons m) [
+  | inl q ↦ (let t : g a ≡ true = rw q at z in rw (t, those) (List·Memᴰ·head q))
+  | inr r ↦ cases (g a) (λ t. rw (t, those) (List·Memᴰ·tail (in-those g l e r z))) (λ n. rw (n, those) (in-those g l e r z))
+]
 
 module _ (h : List Event) where
   -- the write of a name at a place

@@ -18,9 +18,13 @@ use Rattle.machine.specs.Rules.{In}
 pub says-within : (n i : ℕ) → Says (within n i) (In n i)
 says-within n i = says-both (leb 1 i) (leb i n) (says-leb 1 i) (says-leb i n)
 
+-- an option's two cases, with the equation at hand: of what speaks of it, and of what does not
+pub option-all : {A : Type 0} (P : Option A → Type 0) (x : Option A) → (x ≡ none → P none) → ((a : A) → x ≡ some a → P (some a)) → P x
+option-all P none f g = f refl
+option-all P (some a) f g = g a refl
+
 pub option-cases : {A R : Type 0} (x : Option A) → (x ≡ none → R) → ((a : A) → x ≡ some a → R) → R
-option-cases none f g = f refl
-option-cases (some a) f g = g a refl
+option-cases {R = R} = option-all (λ _. R)
 
 pub is-none : {A : Type 0} (x : Option A) → isNone x ≡ true → x ≡ none
 is-none none e = refl
@@ -76,8 +80,9 @@ not-everywhere n w e = let r = all-not (λ t. eqb (w .marks t) done) n 1 e in (r
 pub none-still : (n : ℕ) (w : Open) → isNone (stillOpen n w) ≡ everywhere n w
 none-still n w = cases (everywhere n w) (λ e. rw (e, stillOpen)) (λ e. rw (e, stillOpen))
 
-pub still-open : (n : ℕ) (w z : Open) → stillOpen n w ≡ some z → (everywhere n w ≡ false) × (w ≡ z)
-still-open n w z e =
+-- what is still open is the write as marked
+pub still-is : (n : ℕ) (w z : Open) → stillOpen n w ≡ some z → w ≡ z
+still-is n w z e =
     cases (everywhere n w)
     (λ t. not-both {A = Open} (rw (t, stillOpen)) e)
-    (λ t. (t, (let q : some w ≡ some z = sym (rw (t, stillOpen)) ∙ e in cc)))
+    (λ t. let q : some w ≡ some z = sym (rw (t, stillOpen)) ∙ e in cc)

@@ -1,8 +1,8 @@
 -- Each refusal is given in its condition and at no other time, and leaves the table as found.
-use mathlib.Core.Path.{_≡_, refl, sym, ap, subst, _∙_}
+use mathlib.Core.Path.{_≡_, refl, sym, ap, subst}
 use mathlib.Core.Logic.{_⊎_, inl, inr, ⊎-elim, _↔_}
 use mathlib.Core.Bool.{Bool, true, false, not, _&&_}
-use mathlib.Core.List.{List, [], _∷_}
+use mathlib.Core.List.{List, _∷_, []}
 use mathlib.Core.Option.{Option, none, some}
 use Prim.Native.Nat.{ℕ}
 use lib.Dec.{eqb, leb, ltb}
@@ -11,13 +11,12 @@ use Rattle.laws.specs.Loop.{cases}
 use Rattle.laws.specs.Says.{Says, says-leb, says-ltb, says-eqb, says-not, says-both, clash, apart}
 use Rattle.laws.specs.Lists.{every, says-every}
 use Rattle.machine.specs.Table.{most-desks, most-cells, most-open, most-trip, most-writes, most-status, name, away, done, Open, State, fresh, written, placeOf}
-use Rattle.machine.specs.Answer.{Refusal, no-desk, no-cell, no-status, spent, full, own-write, no-write, received, trip-size, no-size, Answer, began, shows, wrote, holds, applies, judged, refused}
+use Rattle.machine.specs.Answer.{Refusal, no-desk, no-cell, no-status, spent, full, own-write, no-write, received, trip-size, no-size, began, shows, wrote, applies, judged, refused}
 use Rattle.machine.specs.Steps.{Out, refuse, need, within, failing, shownAt, read, nextNumber, write, openCount, reads, verdict, deliverBy, deliverOpen, Step, Read, Write, Deliver, Trip, step, begins, Begun, begin}
 use Rattle.machine.specs.Rules.{In}
+pub use Rattle.machine.specs.Proofs.Ready.{says-within}
+use Rattle.machine.specs.Proofs.Ready.{option-all}
 use Rattle.machine.specs.Refusals.{Row, _or_, rowsOf, rowsOfBegin, FirstFails, AllPass, Accepted}
-
-pub says-within : (n i : ℕ) → Says (within n i) (In n i)
-says-within n i = says-both (leb 1 i) (leb i n) (says-leb 1 i) (says-leb i n)
 
 -- an outcome by the rows: refused by the first that fails, or what is done if all pass
 record ByRows (s : State) (l : List Row) (effect o : Out) : Type 0 where
@@ -63,18 +62,6 @@ end-rows a =
       either = inl tt;
     }
 
-abbrev isRefused : Answer → Bool
-isRefused began = false
-isRefused (shows v) = false
-isRefused (wrote w) = false
-isRefused (holds t) = false
-isRefused (applies l) = false
-isRefused (judged v) = false
-isRefused (refused r) = true
-
-pub not-refused : (a : Answer) → isRefused a ≡ false → Accepted a
-not-refused a e r q = clash (sym e ∙ ap isRefused q)
-
 -- what each step does if every test has passed --
 
 -- of a delivery; none is refused before
@@ -90,24 +77,23 @@ effectOf s (Trip i xs) = record { answer = judged (verdict (reads s i xs .shown)
 
 -- the last row of a delivery
 open-rows : (s : State) (i u k : ℕ) (o : Option Open) → ByRows s ((placeOf o i ≡ away or received) ∷ []) (deliverEffect s i u k o) (deliverOpen s i u k o)
-open-rows s i u k none = need-rows false received (says-eqb done away) (end-rows (not-refused _ refl))
-open-rows s i u k (some w) = need-rows (eqb (w .marks i) away) received (says-eqb (w .marks i) away) (end-rows (answered (failing (s .setup .desks) (s .applied i) u (w .vector))))
-  where
-    answered : (f : Option ℕ) → Accepted (deliverBy s i u k w f .answer)
-    answered none = not-refused _ refl
-    answered (some t) = not-refused _ refl
+open-rows s i u k none = need-rows false received (says-eqb done away) (end-rows (λ r e. clash (cc)))
+open-rows s i u k (some w) =
+    need-rows (eqb (w .marks i) away) received (says-eqb (w .marks i) away)
+    (end-rows (option-all (λ f. Accepted (deliverBy s i u k w f .answer)) (failing (s .setup .desks) (s .applied i) u (w .vector))
+    (λ _ r e. clash (cc)) (λ t _ r e. clash (cc))))
 
 by-rows : (s : State) (a : Step) → ByRows s (rowsOf s a) (effectOf s a) (step s a)
 unfolding step
 by-rows s (Read i x) =
     need-rows (within (s .setup .desks) i) no-desk (says-within (s .setup .desks) i)
-    (need-rows (within (s .setup .cells) x) no-cell (says-within (s .setup .cells) x) (end-rows (not-refused _ refl)))
+    (need-rows (within (s .setup .cells) x) no-cell (says-within (s .setup .cells) x) (end-rows (λ r e. clash (cc))))
 by-rows s (Write i x v) =
     need-rows (within (s .setup .desks) i) no-desk (says-within (s .setup .desks) i)
     (need-rows (within (s .setup .cells) x) no-cell (says-within (s .setup .cells) x)
     (need-rows (leb v most-status) no-status (says-leb v most-status)
     (need-rows (ltb (written s i) most-writes) spent (says-ltb (written s i) most-writes)
-    (need-rows (ltb (openCount s) most-open) full (says-ltb (openCount s) most-open) (end-rows (not-refused _ refl))))))
+    (need-rows (ltb (openCount s) most-open) full (says-ltb (openCount s) most-open) (end-rows (λ r e. clash (cc)))))))
 by-rows s (Deliver i u k) =
     need-rows (within (s .setup .desks) i && within (s .setup .desks) u) no-desk (says-both _ _ (says-within (s .setup .desks) i) (says-within (s .setup .desks) u))
     (need-rows (not (eqb i u)) own-write (says-not _ (says-eqb i u))
@@ -115,7 +101,8 @@ by-rows s (Deliver i u k) =
 by-rows s (Trip i xs) =
     need-rows (within (s .setup .desks) i) no-desk (says-within (s .setup .desks) i)
     (need-rows (within most-trip (length xs)) trip-size (says-within most-trip (length xs))
-    (need-rows (every (within (s .setup .cells)) xs) no-cell (says-every _ (says-within (s .setup .cells)) xs) (end-rows (not-refused _ refl))))
+    (need-rows (every (within (s .setup .cells)) xs) no-cell (says-every _ (says-within (s .setup .cells)) xs)
+    (end-rows (λ r e. clash (cc)))))
 
 -- the theorems --
 
@@ -154,12 +141,9 @@ begin-cases {n} {m} Q f g =
 pub begin-refusal-exactly : (n m : ℕ) (r : Refusal) → (begin n m .answer ≡ refused r) ↔ FirstFails (rowsOfBegin n m) r
 begin-refusal-exactly n m r =
     begin-cases (λ o. (o .answer ≡ refused r) ↔ FirstFails (rowsOfBegin n m) r)
-    (λ hn hm. (λ e. absurd (not-refused began refl r e), ⊎-elim (λ (f : _ × _). absurd (f .0 (hn, hm))) (λ (f : _ × ⊥). absurd (f .1))))
+    (λ hn hm. (λ e. clash (cc), ⊎-elim (λ (f : _ × _). absurd (f .0 (hn, hm))) (λ (f : _ × ⊥). absurd (f .1))))
     (λ h. (λ e. inl (h, cc), ⊎-elim (λ (f : _ × (r ≡ no-size)). ap refused (sym (f .1))) (λ (f : _ × ⊥). absurd (f .1))))
-
-pub begun-table : (n m : ℕ) → AllPass (rowsOfBegin n m) → begin n m .table ≡ some (fresh n m)
-begun-table n m h = begin-cases (λ o. o .table ≡ some (fresh n m)) (λ hn hm. refl) (λ f. absurd (f (h .0)))
 
 pub refused-no-table : (n m : ℕ) (r : Refusal) → begin n m .answer ≡ refused r → begin n m .table ≡ none
 refused-no-table n m r =
-    begin-cases (λ o. o .answer ≡ refused r → o .table ≡ none) (λ hn hm e. absurd (not-refused began refl r e)) (λ f e. refl)
+    begin-cases (λ o. o .answer ≡ refused r → o .table ≡ none) (λ hn hm e. clash (cc)) (λ f e. refl)

@@ -2,25 +2,25 @@
 use mathlib.Core.Path.{_≡_, refl, sym, _∙_, ap, subst, subst₂}
 use mathlib.Core.Logic.{_≢_, _⊎_, inl, inr, _↔_, Iff·trans, Iff·symm}
 use mathlib.Core.List.{List}
-use mathlib.Core.Option.{Option, none, some}
+use mathlib.Core.Option.{some}
 use Prim.Native.Nat.{ℕ, suc, _≤_}
 use native.Mathlib.Omega.{arith}
 use native.Mathlib.Decide.{decLe}
 use lib.ListN.{length}
 use borrow.Author.Tests.{eq-eqb, ne-eqb}
-use Rattle.laws.specs.Loop.{cases}
 use Rattle.laws.specs.Update.{same-or, upd-same, upd-other, upd-all, upd2-all}
 use Rattle.laws.specs.Says.{clash}
 use Rattle.machine.specs.Table.{Vec, Name, name, Cell, blank, set, done, held, Open, State}
 use Rattle.machine.specs.Answer.{shown, shownOf}
-use Rattle.machine.specs.Steps.{readClock, read, shownAt, everywhere, stillOpen, mark, apply, hold, nextNumber, nextVector, raise}
+use Rattle.machine.specs.Steps.{readClock, read, shownAt, stillOpen, mark, apply, hold, nextNumber, nextVector, raise}
 use Rattle.machine.specs.Rules.{Below}
 use Rattle.machine.specs.History.{Event, read-at, write-at, receive-at, apply-at, applied, deskList, writtenAs, afterWrite, latest, At, a-read, a-write, Precedes, shown-by}
 use Rattle.machine.specs.Demand3.{WriteAt, Has, UpTo}
 use Rattle.machine.specs.Proofs.Order.{add, at-one, Ordered, NewEvent, not-op, ordered-add, forward, at-old, at-new, write-old, upto-then, upto-old, knows-other, by-desk, by-show, LastUp, itself, through, upto-last}
 use Rattle.machine.specs.Proofs.Entries.{written-some, written-found, has-keep, latest-keep, has-apply, has-applied, latest-apply, mem-old}
-use Rattle.machine.specs.Proofs.Story.{NewEntry, story-add, all-written}
+use Rattle.machine.specs.Proofs.Story.{NewEntry, story-add, all-written, not-listed}
 use Rattle.machine.specs.Proofs.Traced.{Origin, Traced, origin-write, origin-old, own-known, clock-own, onward, backward, op-traced, other-traced}
+use Rattle.machine.specs.Proofs.Ready.{still-is}
 
 -- Read --
 
@@ -47,18 +47,15 @@ module _ {s : State} {h : List Event} (r : Traced s h) (i x : ℕ) (low : Below 
 
   read-to : (c : Cell) → s .cell i x ≡ c → (t j : ℕ) → 1 ≤ j → j ≤ readClock (s .clock i) c t → UpTo (add h (readOf s i x)) (length h) t j
   read-to blank q t j one le = onward r (readOf s i x) i a-read t j one le
-  read-to (set v u w) q t j one le = go (decLe j (s .clock i t))
-    where
-      e : Event
-      e = readOf s i x
-
-      go : Dec (j ≤ s .clock i t) → UpTo (add h e) (length h) t j
-      go (yes a) = onward r e i a-read t j one a
-      go (no a) =
-          let g = r .cell i x v u w q in
-          let z : At (add h e) (length h) (read-at i x (shown v u (w u))) =
-          subst (λ (c : Cell). At (add h e) (length h) (read-at i x (shownOf c))) q (at-new h e) in
-          upto-then (upto-old h e (g .tells t j one .0 (omega arith))) (shown-by (at-old h e (g .place) (g .at)) z)
+  read-to (set v u w) q t j one le =
+      let e = readOf s i x in
+      elim (decLe j (s .clock i t)) [
+        | yes a ↦ onward r e i a-read t j one a
+        | no a ↦ (let g = r .cell i x v u w q in
+            let z : At (add h e) (length h) (read-at i x (shown v u (w u))) =
+            subst (λ (c : Cell). At (add h e) (length h) (read-at i x (shownOf c))) q (at-new h e) in
+            upto-then (upto-old h e (g .tells t j one .0 (omega arith))) (shown-by (at-old h e (g .place) (g .at)) z))
+      ]
 
   -- the clock after the read has at least the clock before, and the vector of what was shown
   clock-low : (c : Cell) (t : ℕ) → s .clock i t ≤ readClock (s .clock i) c t
@@ -74,14 +71,16 @@ module _ {s : State} {h : List Event} (r : Traced s h) (i x : ℕ) (low : Below 
       omega arith
 
   read-tells : (t j : ℕ) → 1 ≤ j → (j ≤ readClock (s .clock i) (s .cell i x) t) ↔ UpTo (add h (readOf s i x)) (length h) t j
-  read-tells t j one = (read-to (s .cell i x) refl t j one, λ b. go (upto-last h (readOf s i x) read-ordered b))
-    where
-      go : LastUp h (readOf s i x) t j → j ≤ readClock (s .clock i) (s .cell i x) t
-      go (itself y v q) = clash (cc)
-      go (through q b (by-show i′ u y v k a z)) = shown-low (s .cell i x) refl q y v u k t j a (cc) one b
-      go (through q b (by-desk i′ f a op op′)) =
-          let le = backward r (readOf s i x) i i′ q f a-read a op op′ t j one b in
-          omega (arith, clock-low (s .cell i x) t)
+  read-tells t j one = (
+    read-to (s .cell i x) refl t j one,
+    λ b. elim (upto-last h (readOf s i x) read-ordered b) [
+      | itself y v q ↦ clash (cc)
+      | through q b l ↦ elim l [
+        | by-show i′ u y v k a z ↦ shown-low (s .cell i x) refl q y v u k t j a (cc) one b
+        | by-desk i′ f a op op′ ↦ omega (arith, backward r (readOf s i x) i i′ q f a-read a op op′ t j one b, clock-low (s .cell i x) t)
+      ]
+    ],
+  )
 
   read-entry : NewEntry h (readOf s i x)
   read-entry = record {
@@ -153,19 +152,10 @@ module _ {s : State} {h : List Event} (r : Traced s h) (i x v : ℕ) where
           let le = backward r e i i′ q f a-write a op op′ t j one b in
           omega (arith, next-low t)
 
-  write-entry : NewEntry h (writeOf s i x v)
-  write-entry = record {
-    new = write-new;
-    written = λ j u k q. clash (cc);
-    unlisted = λ j u k q. clash (cc);
-    latest = λ j y w q. clash (cc);
-    read-after = λ i′ y w q. clash (cc);
-    apply-after = λ j u k q. clash (cc);
-  }
-
   pub traced-raise : Traced (raise s i) (add h (writeOf s i x v))
   traced-raise =
-      op-traced r (writeOf s i x v) write-entry (λ j w q. clash (cc)) i (nextVector s i) a-write write-tells
+      op-traced r (writeOf s i x v) (not-listed write-new (λ j w q. clash (cc)) (λ j y w q. clash (cc))) (λ j w q. clash (cc)) i
+      (nextVector s i) a-write write-tells
 
   pub new-origin : Origin (add h (writeOf s i x v)) i (nextNumber s i) x v (nextVector s i)
   new-origin = record { place = length h; at = at-new h (writeOf s i x v); tells = write-tells }
@@ -174,24 +164,10 @@ module _ {s : State} {h : List Event} (r : Traced s h) (i x v : ℕ) where
 
 pub traced-receive : {s : State} {h : List Event} → Traced s h → (i : ℕ) (w : Name) → Traced s (add h (receive-at i w))
 traced-receive {s} {h} r i w =
-    other-traced r (receive-at i w)
-    (record {
-      new = not-op (λ j op. elim op [ ]);
-      written = λ j u k q. clash (cc);
-      unlisted = λ j u k q. clash (cc);
-      latest = λ j y v q. clash (cc);
-      read-after = λ j y v q. clash (cc);
-      apply-after = λ j u k q. clash (cc);
-    })
+    other-traced r (receive-at i w) (not-listed (not-op (λ j op. elim op [ ])) (λ j v q. clash (cc)) (λ j y v q. clash (cc)))
     (λ j v q. clash (cc)) (λ j op. elim op [ ])
 
 -- Apply --
-
--- what is still open is the write as marked
-pub still-is : (n : ℕ) (w w′ : Open) → stillOpen n w ≡ some w′ → w ≡ w′
-still-is n w w′ q = cases (everywhere n w)
-    (λ y. let z : _≡_ {A = Option Open} none (some w′) = rw (y, stillOpen) at q in clash (cc))
-    (λ y. let z : some w ≡ some w′ = rw (y, stillOpen) at q in cc)
 
 -- u.k is the writer's next at i, and its causes are applied there
 pub record Due (s : State) (i u k : ℕ) (w : Vec) : Type 0 where

@@ -1,18 +1,17 @@
 -- What every history keeps, of itself: each read shows the latest, causes come first. One more event keeps it.
 use mathlib.Core.Path.{_≡_, refl, sym, _∙_, subst}
-use mathlib.Core.Logic.{_⊎_, inl, inr}
 use mathlib.Core.List.{List, _∷_, _++_, List·Memᴰ, List·Memᴰ·head, Memᴰ·append-left, Memᴰ·append-right}
 use Prim.Native.Nat.{ℕ, _<_}
 use native.Mathlib.Omega.{arith}
 use lib.ListN.{length}
-use Rattle.laws.specs.Ends.{AtEnd, before, last, at-inside, at-either}
+use Rattle.laws.specs.Ends.{before, last, at-inside, at-either}
 use Rattle.laws.specs.Says.{clash}
-use Rattle.machine.specs.Table.{name}
+use Rattle.machine.specs.Table.{name, Name}
 use Rattle.machine.specs.Answer.{Shown, unset}
 use Rattle.machine.specs.History.{Event, read-at, write-at, apply-at, Entry, own-read, applied, deskList, latest, At, Precedes}
 use Rattle.machine.specs.Demand3.{WriteAt, OpAt, of-read, of-write, Has, ListsAccepted, ListsOnce, ReadsLatest, CausesFirst}
 use Rattle.machine.specs.Proofs.Order.{add, Ordered, NewEvent, ordered-add, forward, at-less, write-old, write-less, prec-less}
-use Rattle.machine.specs.Proofs.Entries.{OwnEntry, reads, applies, DeskCut, in-old, in-new, desk-cut, mem-cases, read-listed, listed-inside, AllWritten, written-some, latest-stable}
+use Rattle.machine.specs.Proofs.Entries.{OwnEntry, reads, applies, DeskCut, in-old, in-new, desk-cut, applied-cases, read-listed, listed-inside, AllWritten, written-some, latest-stable}
 
 -- what a history keeps
 pub record Story (h : List Event) : Type 0 where
@@ -30,6 +29,18 @@ pub record NewEntry (h : List Event) (e : Event) : Type 0 where
   pub latest : (i x : ℕ) (v : Shown) → e ≡ read-at i x v → v ≡ latest h x (deskList i h)
   pub read-after : (i x : ℕ) (v : Shown) → e ≡ read-at i x v → (p t j : ℕ) → WriteAt h p t j → Precedes (add h e) p (length h) → Has (deskList i h) t j
   pub apply-after : (i u k : ℕ) → e ≡ apply-at i (name u k) → (q p t j : ℕ) → WriteAt h q u k → WriteAt h p t j → Precedes h p q → Has (deskList i h) t j
+
+-- an event that no desk lists
+pub not-listed : {h : List Event} {e : Event} → NewEvent h e → ((i : ℕ) (w : Name) → e ≡ apply-at i w → ⊥)
+    → ((i x : ℕ) (v : Shown) → e ≡ read-at i x v → ⊥) → NewEntry h e
+not-listed n a r = record {
+  new = n;
+  written = λ i u k q. absurd (a i (name u k) q);
+  unlisted = λ i u k q. absurd (a i (name u k) q);
+  latest = λ i x v q. absurd (r i x v q);
+  read-after = λ i x v q. absurd (r i x v q);
+  apply-after = λ i u k q. absurd (a i (name u k) q);
+}
 
 -- a write stands inside the history
 pub write-inside : {h : List Event} {p u k : ℕ} → WriteAt h p u k → p < length h
@@ -50,20 +61,13 @@ module _ (h : List Event) (e : Event) (s : Story h) (n : NewEntry h e) where
   stable i x l f = latest-stable h e x unset l (all-written s i l f)
 
   written′ : ListsAccepted (add h e)
-  written′ i u k m = go (mem-cases i h e m)
-    where
-      go : List·Memᴰ (applied (name u k)) (deskList i h) ⊎ OwnEntry i (length h) e (applied (name u k)) → (q : ℕ) × WriteAt (add h e) q u k
-      go (inl m) = let r = s .written i u k m in (r .0, write-old h e (r .1))
-      go (inr (reads x v _ z)) = clash (cc)
-      go (inr (applies w q z)) = let y : e ≡ apply-at i (name u k) = cc in let r = n .written i u k y in (r .0, write-old h e (r .1))
+  written′ i u k m = let r = applied-cases i h e m (s .written i u k) (n .written i u k) in (r .0, write-old h e (r .1))
 
   once′ : ListsOnce (add h e)
-  once′ i u k earlier later q m = go (desk-cut i h e earlier (applied (name u k)) later q)
-    where
-      go : DeskCut i h e earlier (applied (name u k)) → ⊥
-      go (in-old l z) = s .once i u k earlier l z m
-      go (in-new z (reads x v _ y)) = clash (cc)
-      go (in-new z (applies w a y)) = let a′ : e ≡ apply-at i (name u k) = cc in n .unlisted i u k a′ (rw z m)
+  once′ i u k earlier later q m = elim (desk-cut i h e earlier (applied (name u k)) later q) [
+    | in-old l z ↦ s .once i u k earlier l z m
+    | in-new z o ↦ elim o [ reads x v _ y ↦ clash (cc) | applies w a y ↦ n .unlisted i u k (cc) (rw z m) ]
+  ]
 
   latest′ : ReadsLatest (add h e)
   latest′ i p x v earlier later q = go (desk-cut i h e earlier (own-read p x v) later q)
@@ -94,18 +98,16 @@ module _ (h : List Event) (e : Event) (s : Story h) (n : NewEntry h e) where
   cut-last i q earlier b z (reads x v a y) of-read = op-read x v z a (cc)
   cut-last i q earlier b z (reads x v a y) (of-write w) = clash (cc)
   cut-last i q earlier b z (applies w a y) of-read = clash (cc)
-  cut-last i q earlier b z (applies w a y) (of-write {u} {k} c) = let a′ : e ≡ apply-at i (name u k) = cc in op-write u k z a′ (go a′ (at-either h e q (write-at u (c .cell) (c .status) k) (c .at)))
-    where
-      go : e ≡ apply-at i (name u k) → AtEnd h e q (write-at u (c .cell) (c .status) k) → WriteAt h q u k
-      go a (before d) = record { cell = c .cell; status = c .status; at = d }
-      go a (last _ d) = clash (cc)
+  cut-last i q earlier b z (applies w a y) (of-write {u} {k} c) =
+      let a′ : e ≡ apply-at i (name u k) = cc in
+      op-write u k z a′ (elim (at-either h e q (write-at u (c .cell) (c .status) k)
+      (c .at)) [ before d ↦ record { cell = c .cell; status = c .status; at = d } | last _ d ↦ clash (cc) ])
 
   op-cut : (i q : ℕ) (earlier : List Entry) (b : Entry) (later : List Entry) → deskList i (add h e) ≡ earlier ++ b ∷ later → OpAt (add h e) q b → OpCut i q earlier b
-  op-cut i q earlier b later eq o = go (desk-cut i h e earlier b later eq)
-    where
-      go : DeskCut i h e earlier b → OpCut i q earlier b
-      go (in-old m z) = cut-old i q earlier b m z (rw z (Memᴰ·append-right earlier (List·Memᴰ·head refl))) o
-      go (in-new z y) = cut-last i q earlier b z y o
+  op-cut i q earlier b later eq o = elim (desk-cut i h e earlier b later eq) [
+    | in-old m z ↦ cut-old i q earlier b m z (rw z (Memᴰ·append-right earlier (List·Memᴰ·head refl))) o
+    | in-new z y ↦ cut-last i q earlier b z y o
+  ]
 
   causes-writes : (i : ℕ) (b : Entry) (earlier later : List Entry) → deskList i (add h e) ≡ earlier ++ b ∷ later
       → (q : ℕ) → OpAt (add h e) q b → (p t j : ℕ) → WriteAt (add h e) p t j → Precedes (add h e) p q → Has earlier t j

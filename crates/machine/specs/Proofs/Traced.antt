@@ -5,10 +5,9 @@ use mathlib.Core.List.{List}
 use mathlib.Core.Option.{some}
 use Prim.Native.Nat.{ℕ, _≤_}
 use native.Mathlib.Omega.{arith}
-use native.Mathlib.Decide.{decLe}
 use lib.ListN.{length}
 use Rattle.laws.specs.Ends.{at-inside}
-use Rattle.laws.specs.Update.{upd, upd-all}
+use Rattle.laws.specs.Update.{upd, upd-all, same-or}
 use Rattle.machine.specs.Table.{Vec, Name, name, set, Open, State}
 use Rattle.machine.specs.Answer.{shownOf}
 use Rattle.machine.specs.History.{Event, write-at, apply-at, applied, deskList, latest, writesOf, At, OpOf, a-write, same-desk}
@@ -16,6 +15,7 @@ use Rattle.machine.specs.Demand3.{WriteAt, Has, UpTo}
 use Rattle.machine.specs.Proofs.Order.{add, one-desk, Ordered, ordered-add, at-old, at-new, upto-then, upto-old, upto-less, number-in, number-written, Knows, knows-new, knows-other}
 use Rattle.machine.specs.Proofs.Entries.{has-keep, latest-keep}
 use Rattle.machine.specs.Proofs.Story.{Story, NewEntry, story-add, write-inside, all-written}
+use Rattle.machine.specs.Proofs.Grown.{clocked}
 
 -- cell, status and vector of u.k come from the write in the history; the vector tells the order
 pub record Origin (h : List Event) (u k x v : ℕ) (w : Vec) : Type 0 where
@@ -52,15 +52,13 @@ own-known {s} {h} r {p} {u} {k} w =
 
 -- a clock counts, at its own place, the writes that its desk has made
 pub clock-own : {s : State} {h : List Event} → Traced s h → (u : ℕ) → s .clock u u ≡ writesOf u h
-clock-own {s} {h} r u = let a = low (decLe 1 (s .clock u u)) in let b = high (decLe 1 (writesOf u h)) in omega arith
-  where
-    low : Dec (1 ≤ s .clock u u) → s .clock u u ≤ writesOf u h
-    low (no z) = omega arith
-    low (yes z) = number-in (r .story .ordered .numbered) u (s .clock u u) (r .clock u u (s .clock u u) z .0 (omega arith) .upto .write) .1
-
-    high : Dec (1 ≤ writesOf u h) → writesOf u h ≤ s .clock u u
-    high (no z) = omega arith
-    high (yes z) = own-known r (number-written (r .story .ordered .numbered) u (writesOf u h) (z, omega arith) .1) .1
+clock-own {s} {h} r u =
+    let low : 1 ≤ s .clock u u → s .clock u u ≤ writesOf u h =
+    (λ z. number-in (r .story .ordered .numbered) u (s .clock u u) (r .clock u u (s .clock u u) z .0 (omega arith) .upto .write) .1) in
+    let high : 1 ≤ writesOf u h → writesOf u h ≤ s .clock u u =
+    (λ z. own-known r (number-written (r .story .ordered .numbered) u (writesOf u h) (z, omega arith) .1) .1) in
+    same-or (s .clock u u) 0 (λ a. same-or (writesOf u h) 0 (λ b. omega arith) (λ b. omega (arith, high (omega arith))))
+    (λ a. let l = low (omega arith) in omega (arith, high (omega arith)))
 
 -- what a desk's clock counts is before its next operation
 pub onward : {s : State} {h : List Event} → Traced s h → (e : Event) (i : ℕ) → OpOf i e → (t j : ℕ) → 1 ≤ j → j ≤ s .clock i t → UpTo (add h e) (length h) t j
@@ -76,14 +74,11 @@ backward r e i d q f op a of oe t j one b =
 
 -- an event that applies nothing: it changes clocks only --
 
-abbrev pub withClocks : State → (ℕ → Vec) → State
-withClocks s c = record { setup = s .setup; applied = s .applied; clock = c; cell = s .cell; opens = s .opens }
-
 module _ {s : State} {h : List Event} (r : Traced s h) (e : Event) (n : NewEntry h e) (idle : (i : ℕ) (w : Name) → e ≡ apply-at i w → ⊥) where
   o : Ordered (add h e)
   o = ordered-add (r .story .ordered) (n .new)
 
-  clock-traced : (c : ℕ → Vec) → ((i t j : ℕ) → 1 ≤ j → (j ≤ c i t) ↔ Knows (add h e) i t j) → Traced (withClocks s c) (add h e)
+  clock-traced : (c : ℕ → Vec) → ((i t j : ℕ) → 1 ≤ j → (j ≤ c i t) ↔ Knows (add h e) i t j) → Traced (clocked s c) (add h e)
   clock-traced c knows = record {
     story = story-add h e (r .story) n;
     clock = knows;
@@ -98,7 +93,8 @@ module _ {s : State} {h : List Event} (r : Traced s h) (e : Event) (n : NewEntry
   knows-same i t j one op = Iff·trans (r .clock i t j one) (Iff·symm (knows-other h e o op))
 
   -- an operation of the desk i, after which its clock is c
-  pub op-traced : (i : ℕ) (c : Vec) → OpOf i e → ((t j : ℕ) → 1 ≤ j → (j ≤ c t) ↔ UpTo (add h e) (length h) t j) → Traced (withClocks s (upd (s .clock) i c)) (add h e)
+  pub op-traced : (i : ℕ) (c : Vec) → OpOf i e → ((t j : ℕ) → 1 ≤ j → (j ≤ c t) ↔ UpTo (add h e) (length h) t j)
+      → Traced (clocked s (upd (s .clock) i c)) (add h e)
   op-traced i c op tells =
       clock-traced (upd (s .clock) i c) (λ i′ t j one. upd-all (s .clock) i c (λ i′ c′. (j ≤ c′ t) ↔ Knows (add h e) i′ t j) i′
       (λ z. rw z (Iff·trans (tells t j one) (Iff·symm (knows-new h e o op))))

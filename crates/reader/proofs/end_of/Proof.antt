@@ -8,14 +8,8 @@ use Rattle.reader.proofs.end_of.Tie as tie
 returns : tie.Need-returns
 returns c = let a = c .before .before .args in passed-end (a .text .now) (a .at) (a .at) (omega arith) (passed-none (a .text .now) (a .at))
 
-line-at-requires : tie.Need-line-at-requires
-line-at-requires c κs = search needs
-
-add-result : tie.Need-add-result
-add-result c = search needs
-
 returns-2 : tie.Need-returns-2
 returns-2 c = let a = c .before .before .before .args in rw (c .line-at .ensures .0) (sym (end-is (a .text .now) (a .at) (omega arith)))
 
 pub end-of-spec : {M : Type 1} → statement M
-end-of-spec = tie.close (tie.spec returns line-at-requires add-result returns-2)
+end-of-spec = tie.close (tie.spec returns (λ c κs. search needs) (λ c. search needs) returns-2)

@@ -3,11 +3,8 @@ use Rattle.schedule.specs.LineLaws.{ended-end}
 use Rattle.reader.proofs.ended_of.Statement.{statement}
 use Rattle.reader.proofs.ended_of.Tie as tie
 
-end-of-requires : tie.Need-end-of-requires
-end-of-requires c κs = search needs
-
 returns : tie.Need-returns
 returns c = rw (c .end-of .ensures) (ended-end _ _)
 
 pub ended-of-spec : {M : Type 1} → statement M
-ended-of-spec = tie.close (tie.spec end-of-requires returns)
+ended-of-spec = tie.close (tie.spec (λ c κs. search needs) returns)

@@ -6,20 +6,11 @@ use borrow.Author.Needs.{needs}
 use Rattle.schedule.proofs.line_at.Statement.{statement}
 use Rattle.schedule.proofs.line_at.Tie as tie
 
-sub-result : tie.Need-sub-result
-sub-result c = let a = c .before .before .before .args in omega (arith, end-le (a .s .now) (a .at))
-
-part-result-start : tie.Need-part-result-start
-part-result-start c = let a = c .before .before .before .args in omega (arith, end-le (a .s .now) (a .at))
-
 returns : tie.Need-returns
 returns c =
     let a = c .before .before .before .before .args in
     let h = rw (c .before .before .end-of .ensures) at (c .before .if1 .taken) in
     rw (c .before .before .end-of .ensures) (line-past _ _ h, ap (λ (n : ℕ). (a .s .ptr .0, n + a .s .ptr .1)) (start-past _ _ h))
-
-part-result-end-2 : tie.Need-part-result-end-2
-part-result-end-2 c = let a = c .before .before .before .args in omega (arith, end-le (a .s .now) (a .at))
 
 returns-2 : tie.Need-returns-2
 returns-2 c =
@@ -34,10 +25,10 @@ line-at-spec =
     tie.close
     (tie.spec
     (λ c κs. search needs)
-    sub-result
-    part-result-start
+    (λ c. let a = c .before .before .before .args in omega (arith, end-le (a .s .now) (a .at)))
+    (λ c. let a = c .before .before .before .args in omega (arith, end-le (a .s .now) (a .at)))
     (λ c. search needs)
     returns
     (λ c. search needs)
-    part-result-end-2
+    (λ c. let a = c .before .before .before .args in omega (arith, end-le (a .s .now) (a .at)))
     returns-2)

@@ -28,18 +28,6 @@ returns c =
     let b = c .before .before in
     b .before .before .loop .inv .1 ∙ store-bad _ _ _ _ (b .before .loop-test .taken) (rw (c .enum-told .given .1) at (b .next-field .ensures))
 
-cast-cells : tie.Need-cast-cells Inv-loop μ-loop
-cast-cells c = omega (arith, one (c .before) .small)
-
-mul-cells : tie.Need-mul-cells Inv-loop μ-loop
-mul-cells c = omega (arith, c .before .before .before .before)
-
-element-write-cells : tie.Need-element-write-cells Inv-loop μ-loop
-element-write-cells c = omega (arith, c .before .before .before .before)
-
-add-n : tie.Need-add-n Inv-loop μ-loop
-add-n c = omega (arith, c .before .before .before .before)
-
 loop-less : tie.Need-loop-less Inv-loop μ-loop
 loop-less c = omega (arith, one (c .before) .ahead, c .before .before .before .before)
 
@@ -62,10 +50,10 @@ trip-cells-spec =
     (λ c. search needs)
     (λ c. search needs)
     returns
-    cast-cells
-    mul-cells
-    element-write-cells
-    add-n
+    (λ c. omega (arith, one (c .before) .small))
+    (λ c. omega (arith, c .before .before .before .before))
+    (λ c. omega (arith, c .before .before .before .before))
+    (λ c. omega (arith, c .before .before .before .before))
     loop-less
     loop-again
     returns-2)

@@ -17,15 +17,6 @@ first c =
     let a = b .before .before .before .before .before .before .args in
     rw (c .wide .ensures .0) (field-first (a .s .now) (a .at) (omega (arith, b)) (b .before .before .if2 .left) (omega (arith, b)) (omega (arith, c .before .before .before .if4 .left, c .before .before .if5 .left)) (c .before .if6 .left))
 
-returns : tie.Need-returns
-returns c = λ h. absurd (omega (arith, c .if1 .taken))
-
-returns-2 : tie.Need-returns-2
-returns-2 c = λ h. field-unspaced _ _ h (c .if2 .taken)
-
-returns-3 : tie.Need-returns-3
-returns-3 c = λ h. field-empty _ _ h (c .before .if2 .left) (c .if3 .taken)
-
 returns-4 : tie.Need-returns-4
 returns-4 c =
     let b = c .before in
@@ -50,11 +41,11 @@ pub next-field-spec : {M : Type 1} → statement M
 next-field-spec =
     tie.close
     (tie.spec
-    returns
+    (λ c. λ h. absurd (omega (arith, c .if1 .taken)))
     (λ c. search needs)
-    returns-2
+    (λ c. λ h. field-unspaced _ _ h (c .if2 .taken))
     (λ c. search needs)
-    returns-3
+    (λ c. λ h. field-empty _ _ h (c .before .if2 .left) (c .if3 .taken))
     (λ c. search needs)
     (λ c. search needs)
     returns-4

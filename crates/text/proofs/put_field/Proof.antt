@@ -13,11 +13,14 @@ put-words-requires c κs = let a = c .before .before .before .args in omega (ari
 put-number-requires : tie.Need-put-number-requires
 put-number-requires c κs = let a = c .before .before .before .before .before .before .before .args in omega (arith, length-append (a .head .now) (decimal (a .k)), c .before .before .before .put-words .kept .0)
 
-same-length : tie.Need-same-length
-same-length c = search needs
-
 returns : tie.Need-returns
 returns c = left-last (c .before .before .put-number .ensures) (left-put (c .before .before .before .before .before .before .put-words .ensures) left-start)
 
 pub put-field-spec : {M : Type 1} → statement M
-put-field-spec = tie.close (tie.spec put-words-requires put-number-requires same-length returns)
+put-field-spec =
+    tie.close
+    (tie.spec
+    put-words-requires
+    put-number-requires
+    (λ c. search needs)
+    returns)

@@ -31,9 +31,6 @@ Inv-loop out₀ at k end p₀ v₀ out p v = (p + 1 ≡ at + length (decimal v))
 abbrev μ-loop : tie.MeasureT-loop
 μ-loop out₀ at k end p₀ v₀ out p v = v
 
-sub-p : tie.Need-sub-p Inv-loop μ-loop
-sub-p c = omega (arith, decimal-some (c .before .before .args .k))
-
 loop-holds : tie.Need-loop-holds Inv-loop μ-loop
 loop-holds c = let o = decimal-some (c .before .before .args .k) in (omega arith, (omega arith, (refl, refl)))
 
@@ -71,7 +68,7 @@ put-number-spec =
     μ-loop
     (λ c κs. search needs)
     (λ c. search needs)
-    sub-p
+    (λ c. omega (arith, decimal-some (c .before .before .args .k)))
     loop-holds
     (λ c κs. search needs)
     (λ c. search needs)

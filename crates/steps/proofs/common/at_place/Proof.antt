@@ -5,24 +5,19 @@ use borrow.Author.Needs.{needs}
 use Rattle.steps.proofs.common.at_place.Statement.{statement}
 use Rattle.steps.proofs.common.at_place.Tie as tie
 
-returns : tie.Need-returns
-returns c = search needs
-
 returns-2 : tie.Need-returns-2
 returns-2 c = let a = c .before .before .args in sym (place-out (a .t1) (a .u) (search needs))
-
-sub-result : tie.Need-sub-result
-sub-result c = search needs
-
-mul-result : tie.Need-mul-result
-mul-result c = search needs
-
-array-read-result : tie.Need-array-read-result
-array-read-result c = search needs
 
 returns-3 : tie.Need-returns-3
 returns-3 c = let a = c .before .before .args in sym (place-at (a .t1) (a .u) (omega arith))
 
 pub at-place-spec : {M : Type 1} → statement M
 at-place-spec =
-    tie.close (tie.spec returns returns-2 sub-result mul-result array-read-result returns-3)
+    tie.close
+    (tie.spec
+    (λ c. search needs)
+    returns-2
+    (λ c. search needs)
+    (λ c. search needs)
+    (λ c. search needs)
+    returns-3)

@@ -23,65 +23,29 @@ abbrev μ-search : tie.MeasureT-search
 
 abbrev Inv-apply : tie.InvT-apply
 Inv-apply n own cells₀ opens₀ names₀ i u e a₀ w₀ entry₀ len₀ cells opens names a w entry len =
-    (b : State) → Running b n i a₀ own cells₀ opens₀ → Next n a₀ opens₀ w₀ entry₀
-    → Going (from most-open (midst b n i a₀ cells₀ opens₀) i w₀ (openM (openAt opens₀ entry₀))) b n i a own cells opens names₀ names len w entry
+    Safe n i a opens len w entry × ((b : State) → Running b n i a₀ own cells₀ opens₀ → Next n a₀ opens₀ w₀ entry₀
+    → Going (from most-open (midst b i a₀ cells₀ opens₀) i w₀
+    (openM (openAt opens₀ entry₀))) b n i a own cells opens names₀ names len w entry)
 
 abbrev μ-apply : tie.MeasureT-apply
 μ-apply n own cells₀ opens₀ names₀ i u e a₀ w₀ entry₀ len₀ cells opens names a w entry len = most-open - len
-
-abbrev Head : Type 0
-Head = tie.At-apply Inv-search μ-search Inv-apply μ-apply
-
-safe : (c : Head) → (let A = c .apply in Safe (c .before .args .n) (c .before .args .i) (A .a) (A .opens) (A .len) (A .w) (A .entry))
-safe c = let p = c .before .pre in going-safe (c .apply .inv (p .0) (p .1) (p .2))
 
 -- a turn, for every state that the values are a part of
 gone : (c : tie.After-put-name Inv-search μ-search Inv-apply μ-apply)
     → (let A = c .before .before .before .before .before .before .apply in
     let g = c .before .before .before .before .before .before .before .args in
     (b : State) → Running b (g .n) (g .i) (g .c) (g .own) (g .cells .now) (g .opens .now) → Next (g .n) (g .c) (g .opens .now) (g .u) (g .e)
-    → Gone (from most-open (midst b (g .n) (g .i) (g .c) (g .cells .now) (g .opens .now)) (g .i) (g .u) (openM (openAt (g .opens .now) (g .e))))
+    → Gone (from most-open (midst b (g .i) (g .c) (g .cells .now) (g .opens .now)) (g .i) (g .u) (openM (openAt (g .opens .now) (g .e))))
     b (g .n) (g .i) (set (A .a) (A .w - 1) (getD (A .a) (A .w - 1) 0 + 1)) (g .own) (c .before .before .before .apply-at .last .0) (c .before .before .before .apply-at .last .1 .0)
     (g .names .now) (c .put-name .last .0) (A .len + 1))
 gone c b r d =
-    going-turn (c .before .before .before .before .before .before .apply .inv b r d) (c .before .small .ensures) (c .before .before .before .apply-at .ensures)
+    going-turn (c .before .before .before .before .before .before .apply .inv .1 b r d) (c .before .small .ensures)
+    (c .before .before .before .apply-at .ensures)
     (c .put-name .ensures)
 
 apply-holds : tie.Need-apply-holds Inv-search μ-search Inv-apply μ-apply
-apply-holds c b r d = going-starts (c .args .names .now) r d
-
-apply-at-requires : tie.Need-apply-at-requires Inv-search μ-search Inv-apply μ-apply
-apply-at-requires c κs = let h = safe (c .before .before) in (h .count, (h .desk, (h .small, h .cell)))
-
-sub-k : tie.Need-sub-k Inv-search μ-search Inv-apply μ-apply
-sub-k c = safe (c .before .before .before) .writer .0
-
-mul-k : tie.Need-mul-k Inv-search μ-search Inv-apply μ-apply
-mul-k c = omega (arith, safe (c .before .before .before) .writer .1)
-
-array-read-k : tie.Need-array-read-k Inv-search μ-search Inv-apply μ-apply
-array-read-k c = omega (arith, safe (c .before .before .before) .writer)
-
-add-k : tie.Need-add-k Inv-search μ-search Inv-apply μ-apply
-add-k c = omega (arith, safe (c .before .before .before) .number)
-
-sub-a : tie.Need-sub-a Inv-search μ-search Inv-apply μ-apply
-sub-a c = safe (c .before .before .before) .writer .0
-
-mul-a : tie.Need-mul-a Inv-search μ-search Inv-apply μ-apply
-mul-a c = omega (arith, safe (c .before .before .before) .writer .1)
-
-array-write-a : tie.Need-array-write-a Inv-search μ-search Inv-apply μ-apply
-array-write-a c = omega (arith, safe (c .before .before .before) .writer)
-
-small-requires : tie.Need-small-requires Inv-search μ-search Inv-apply μ-apply
-small-requires c κs = omega (arith, safe (c .before .before .before .before) .writer .1)
-
-put-name-requires : tie.Need-put-name-requires Inv-search μ-search Inv-apply μ-apply
-put-name-requires c κs = safe (c .before .before .before .before .before) .room
-
-add-len : tie.Need-add-len Inv-search μ-search Inv-apply μ-apply
-add-len c = omega (arith, safe (c .before .before .before .before .before .before) .room)
+apply-holds c =
+    let p = c .pre in (going-safe (going-starts (c .args .names .now) (p .1) (p .2)), λ b r d. going-starts (c .args .names .now) r d)
 
 search-holds : tie.Need-search-holds Inv-search μ-search Inv-apply μ-apply
 search-holds c = (scan-whole _ _, (search needs, search needs))
@@ -90,16 +54,8 @@ due-of-requires : tie.Need-due-of-requires Inv-search μ-search Inv-apply μ-app
 due-of-requires c κs =
     let s = c .before .before in
     let p = s .before .before .before .before .before .before .before .before .pre in
-    let h = safe (s .before .before .before .before .before .before .before) in
+    let h = s .before .before .before .before .before .before .before .apply .inv .0 in
     (h .desk, ((s .search .inv .1 .0, omega (arith, c .before .if1 .left, h .count)), gone (s .before) (p .0) (p .1) (p .2) .now .unique))
-
-add-t : tie.Need-add-t Inv-search μ-search Inv-apply μ-apply
-add-t c =
-    let s = c .before .before .before .before .before in
-    omega (arith, c .before .before .before .before .if1 .left, safe (s .before .before .before .before .before .before .before) .count)
-
-search-less : tie.Need-search-less Inv-search μ-search Inv-apply μ-apply
-search-less c = omega (arith, c .before .before .before .before .if1 .left)
 
 search-again : tie.Need-search-again Inv-search μ-search Inv-apply μ-apply
 search-again c =
@@ -111,9 +67,6 @@ search-again c =
       sym (scan-next _ some none (n + 1) (L .t) (omega arith) (due-not _ _ _ _ (L .t) (d .due-of .result) (d .due-of .ensures) (c .enum-told .given .1))) ∙ L .inv .0,
       (search needs, omega arith),
     )
-
-apply-less : tie.Need-apply-less Inv-search μ-search Inv-apply μ-apply
-apply-less c = omega (arith, safe (c .before .before .before .before .before .before .before .before .before .before .before) .room)
 
 -- what the search yields: the first writer with a write that is due, and its entry
 yields : (c : tie.Joined1 Inv-search μ-search Inv-apply μ-apply)
@@ -132,10 +85,12 @@ yields c =
     ]
 
 apply-again : tie.Need-apply-again Inv-search μ-search Inv-apply μ-apply
-apply-again c b r d =
+apply-again c =
     let J = c .before .before .before in
     let y = yields-at _ _ _ _ _ (J .if1 .found) (yields J) (c .before .found .given .1) in
-    gone-on (gone (J .before .before) b r d) (y .0, y .1) (y .2) (y .3)
+    let p = J .before .before .before .before .before .before .before .before .before .pre in
+    let s = going-safe (gone-on (gone (J .before .before) (p .0) (p .1) (p .2)) (y .0, y .1) (y .2) (y .3)) in
+    (s, λ b r d. gone-on (gone (J .before .before) b r d) (y .0, y .1) (y .2) (y .3))
 
 returns : tie.Need-returns Inv-search μ-search Inv-apply μ-apply
 returns c b r d =
@@ -151,26 +106,26 @@ cascade-spec =
     Inv-apply
     μ-apply
     apply-holds
-    apply-at-requires
-    sub-k
-    mul-k
-    array-read-k
-    add-k
-    sub-a
-    mul-a
-    array-write-a
-    small-requires
-    put-name-requires
-    add-len
+    (λ c κs. search needs)
+    (λ c. search needs)
+    (λ c. search needs)
+    (λ c. search needs)
+    (λ c. search needs)
+    (λ c. search needs)
+    (λ c. search needs)
+    (λ c. search needs)
+    (λ c κs. search needs)
+    (λ c κs. search needs)
+    (λ c. search needs)
     search-holds
     due-of-requires
     (λ c. search needs)
     (λ c. search needs)
-    add-t
-    search-less
+    (λ c. search needs)
+    (λ c. search needs)
     search-again
     (λ c. search needs)
     (λ c. search needs)
-    apply-less
+    (λ c. search needs)
     apply-again
     returns)

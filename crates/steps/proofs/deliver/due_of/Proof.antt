@@ -53,14 +53,8 @@ due c =
     due-held (g .t1) (g .t2) (g .opens .now) (g .i) (g .u) _ (c .mark-at .result) (p .0 .0) l (p .1 .1) (entry (c .before) .0) (entry (c .before) .1)
     (c .mark-at .ensures)
 
-mark-at-requires : tie.Need-mark-at-requires
-mark-at-requires c κs = (entry c .0, search needs)
-
 returns-3 : tie.Need-returns-3
 returns-3 c = due (c .before) ∙ rw (ne-eqb _ _ (c .if2 .taken))
-
-vector-at-requires : tie.Need-vector-at-requires
-vector-at-requires c κs = entry (c .before .before) .0
 
 ready-is : (c : tie.After-ready)
     → (let g = c .before .before .before .before .before .before .before .before .before .before .args in
@@ -100,9 +94,9 @@ due-of-spec =
     (λ c. search needs)
     returns-2
     (λ c. search needs)
-    mark-at-requires
+    (λ c κs. (entry c .0, search needs))
     returns-3
-    vector-at-requires
+    (λ c κs. entry (c .before .before) .0)
     (λ c κs. search needs)
     returns-4
     returns-5)

@@ -13,9 +13,6 @@ use borrow.Author.Needs.{needs}
 use Rattle.steps.proofs.deliver.receive.Statement.{statement}
 use Rattle.steps.proofs.deliver.receive.Tie as tie
 
-vector-at-requires : tie.Need-vector-at-requires
-vector-at-requires c κs = c .before .pre .2 .small
-
 ready-is : (c : tie.After-ready)
     → (let g = c .before .before .before .before .before .args in c .ready .result ≡ readyAt (g .d .applied) (openAt (g .opens .now) (g .e) .vector) (g .u))
 ready-is c = c .ready .ensures ∙ rw (c .before .before .before .vector-at .ensures)
@@ -31,9 +28,6 @@ returns c b k r =
     let t = c .before .before .before .before .before in
     let g = t .before .before .before .before .before .before .args in
     received-ready (g .d) r (sym (ready-is (t .before)) ∙ t .if1 .taken) (c .before .cascade .ensures)
-
-sub-put-mark : tie.Need-sub-put-mark
-sub-put-mark c = c .before .before .before .before .before .before .before .pre .2 .running .desk .0
 
 put-mark-requires : tie.Need-put-mark-requires
 put-mark-requires c κs =
@@ -56,11 +50,11 @@ pub receive-spec : {M : Type 1} → statement M
 receive-spec =
     tie.close
     (tie.spec
-    vector-at-requires
+    (λ c κs. c .before .pre .2 .small)
     (λ c κs. search needs)
     cascade-requires
     returns
-    sub-put-mark
+    (λ c. c .before .before .before .before .before .before .before .pre .2 .running .desk .0)
     put-mark-requires
     waits-for-requires
     returns-2)

@@ -10,15 +10,6 @@ use borrow.Author.Needs.{needs}
 use Rattle.steps.proofs.deliver.waits_for.Statement.{statement}
 use Rattle.steps.proofs.deliver.waits_for.Tie as tie
 
-readiness-requires : tie.Need-readiness-requires
-readiness-requires c κs = search needs
-
-enum-known-t : tie.Need-enum-known-t
-enum-known-t c = search needs
-
-enum-told : tie.Need-enum-told
-enum-told c = search needs
-
 returns : tie.Need-returns
 returns c =
     let q = c .before .before in
@@ -38,4 +29,11 @@ returns-2 c = fails (c .before) ∙ ap some (sym (c .small .ensures))
 
 pub waits-for-spec : {M : Type 1} → statement M
 waits-for-spec =
-    tie.close (tie.spec readiness-requires enum-known-t enum-told returns small-requires returns-2)
+    tie.close
+    (tie.spec
+    (λ c κs. search needs)
+    (λ c. search needs)
+    (λ c. search needs)
+    returns
+    small-requires
+    returns-2)

@@ -8,15 +8,9 @@ returns : tie.Need-returns
 unfolding shownCell
 returns c = rw (eq-eqb _ _ (c .if1 .taken))
 
-wide-requires : tie.Need-wide-requires
-wide-requires c κs = search needs
-
-at-place-requires : tie.Need-at-place-requires
-at-place-requires c κs = search needs
-
 returns-2 : tie.Need-returns-2
 unfolding shownCell
 returns-2 c = rw (ne-eqb _ _ (c .before .before .before .if1 .left), c .at-place .ensures, c .before .wide .ensures .0)
 
 pub shown-spec : {M : Type 1} → statement M
-shown-spec = tie.close (tie.spec returns wide-requires at-place-requires returns-2)
+shown-spec = tie.close (tie.spec returns (λ c κs. search needs) (λ c κs. search needs) returns-2)

@@ -3,18 +3,6 @@ use borrow.Author.Needs.{needs}
 use Rattle.steps.proofs.write.spot_for.Statement.{statement}
 use Rattle.steps.proofs.write.spot_for.Tie as tie
 
-returns : tie.Need-returns
-returns c = search needs
-
-find-free-requires : tie.Need-find-free-requires
-find-free-requires c κs = search needs
-
-enum-known-e : tie.Need-enum-known-e
-enum-known-e c = search needs
-
-enum-told : tie.Need-enum-told
-enum-told c = search needs
-
 returns-2 : tie.Need-returns-2
 returns-2 c =
     (c .before .before .before .before .if1 .left, found-at _ _ _ (c .before .before .before .find-free .ensures) (c .before .e .given .1))
@@ -25,4 +13,11 @@ returns-3 c =
 
 pub spot-for-spec : {M : Type 1} → statement M
 spot-for-spec =
-    tie.close (tie.spec returns find-free-requires enum-known-e enum-told returns-2 returns-3)
+    tie.close
+    (tie.spec
+    (λ c. search needs)
+    (λ c κs. search needs)
+    (λ c. search needs)
+    (λ c. search needs)
+    returns-2
+    returns-3)

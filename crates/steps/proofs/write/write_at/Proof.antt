@@ -1,10 +1,10 @@
 use mathlib.Core.Path.{_≡_, refl}
 use mathlib.Core.Logic.{inl, inr, ⊎-elim}
-use Prim.Native.Nat.{_<_}
+use Prim.Native.Nat.{_<_, _≤_}
 use native.Mathlib.Omega.{arith}
 use Rattle.reply.specs.declared.Refusal.{Refusal}
 use Rattle.reply.specs.declared.Refusal.the-variants.{NoDesk, NoCell, NoStatus, Spent}
-use Rattle.machine.specs.Table.{most-writes}
+use Rattle.machine.specs.Table.{most-writes, most-status}
 use Rattle.machine.specs.Rules.{In}
 use Rattle.machine.specs.Proofs.Refusals.{says-within}
 use Rattle.clock.specs.Vectors.{place, place-at}
@@ -39,6 +39,11 @@ returns-2 c ds own p =
     refused-turn p _ NoCell (c .refused2 .ensures)
     (inr (desk-in (c .before .before .before), inl (stops (says-within _ _) (c .before .before .inside2 .ensures) (c .before .if2 .taken), refl)))
 
+-- the first three rows pass
+rows : (k : tie.Else3) → (let g = k .before .before .before .before .before .args in
+    In (g .n) (g .i) × (In (g .m) (g .x) × (g .v ≤ most-status)))
+rows k = (desk-in (k .before .before .before), (cell-in (k .before), omega (arith, k .if3 .left)))
+
 returns-3 : tie.Need-returns-3
 returns-3 c ds own p =
     let k = c .before .before in
@@ -46,58 +51,38 @@ returns-3 c ds own p =
 
 returns-4 : tie.Need-returns-4
 returns-4 c ds own p =
-    let k = c .before .before .before .before in
-    let hi = desk-in (k .before .before .before) in
+    let r = rows (c .before .before .before .before) in
+    let w = written-start p (r .0) in
+    let k = c .before .before .at-place .ensures in
     refused-turn p _ Spent (c .refused4 .ensures)
-    (inr (
-      hi,
-      inr (
-        cell-in (k .before),
-        inr (
-          omega (arith, k .if3 .left),
-          inl ((λ h. omega (arith, c .before .if4 .taken, c .before .before .at-place .ensures, written-start p hi)), refl),
-        ),
-      ),
-    ))
+    (inr (r .0, inr (r .1 .0, inr (r .1 .1, inl (λ h. omega (arith, c .before .if4 .taken), refl)))))
 
 returns-5 : tie.Need-returns-5
 returns-5 c ds own p =
     let t = c .before .before .before in
-    let k = t .before .before .before .before .before in
-    let hi = desk-in (k .before .before .before) in
+    let r = rows (t .before .before .before .before .before) in
+    let full = full-many (p .sound) ((rw (c .before .enum-told .given .1) at (t .spot-for .ensures)) .1) in
     refused-turn p _ Refusal.Full (c .refused5 .ensures)
-    (inr (
-      hi,
-      inr (
-        cell-in (k .before),
-        inr (
-          omega (arith, k .if3 .left),
-          inr (
-            rw (written-start p hi) (unspent (t .before .before)),
-            inl (full-many (p .sound) ((rw (c .before .enum-told .given .1) at (t .spot-for .ensures)) .1), refl),
-          ),
-        ),
-      ),
-    ))
+    (inr (r .0, inr (r .1 .0, inr (r .1 .1, inr (rw (written-start p (r .0)) (unspent (t .before .before)), inl (full, refl))))))
 
 written-requires : tie.Need-written-requires
 written-requires c κs =
     let t = c .before .before .before .before in
     let k = t .before .before .before .before .before in
     let p = k .before .before .before .before .before .pre .placed in
-    let hi = desk-in (k .before .before .before) in
+    let r = rows k in
     let g = k .before .before .before .before .before .args in (
-      (in-places p hi, (in-cells p (cell-in (k .before)), spot-in (g .n) (g .opens .now) (t .spot-for .result) (t .spot-for .ensures))),
-      rw (← place-at (g .d .applied) (g .i) (hi .0)) (unspent (t .before .before)),
+      (in-places p (r .0), (in-cells p (r .1 .0), spot-in (g .n) (g .opens .now) (t .spot-for .result) (t .spot-for .ensures))),
+      rw (← place-at (g .d .applied) (g .i) (r .0 .0)) (unspent (t .before .before)),
     )
 
 returns-6 : tie.Need-returns-6
 returns-6 c ds own p =
     let t = c .before .before .before .before .before in
-    let k = t .before .before .before .before .before in
+    let r = rows (t .before .before .before .before .before) in
     let w = c .written .ensures in
     rw (w .turn, w .cells, w .opens, c .before .small .ensures)
-    (write-stepped p (desk-in (k .before .before .before)) (unspent (t .before .before)) _ _ (cell-in (k .before)) _ (omega (arith, k .if3 .left)) (t .spot-for .ensures)
+    (write-stepped p (r .0) (unspent (t .before .before)) _ _ (r .1 .0) _ (r .1 .1) (t .spot-for .ensures)
     (not-full (c .before .before .before .before)))
 
 pub write-at-spec : {M : Type 1} → statement M
