@@ -1,32 +1,16 @@
 -- What a step on a table value promises: the machine's step where the value keeps the rules, and 13 where it breaks them.
-use Prim.Native.Nat.{ℕ, _-_, _*_, _≤_}
-use mathlib.Core.Path.{_≡_, refl, sym, ap, _∙_}
-use mathlib.Core.List.{List, []}
-use mathlib.Core.Bool.{Bool, true, false, not}
-use native.Mathlib.Omega.{arith}
-use lib.ListN.{getD, replicate}
-use lib.Seq.{sets}
+use Rattle.laws.specs.Kit.{ℕ, _-_, _*_, _≤_, _≡_, refl, sym, ap, _∙_, List, Bool, true, false, not, arith, getD, replicate, sets}
 use Rattle.laws.specs.Says.{Says}
 use Rattle.clock.specs.Vectors.{places}
 use Rattle.machine.specs.Answer as machine
-use Rattle.machine.specs.Rules.{In}
-use Rattle.machine.specs.Steps.{Step, Deliver, step}
-use Rattle.reply.specs.declared.Answer.{Answer}
-use Rattle.reply.specs.declared.Answer.the-variants.{Refused}
-use Rattle.reply.specs.declared.Refusal.the-variants.{Broken}
+use Rattle.machine.specs.{Rules.{In}, Steps.{Step, Deliver, step}}
+use Rattle.reply.specs.{declared.Answer.{Answer}, declared.Answer.the-variants.{Refused}, declared.Refusal.the-variants.{Broken}}
 use Rattle.reply.specs.Meaning.{answerOf, Counted}
-use Rattle.table.specs.declared.Desk.{Desk}
-use Rattle.table.specs.declared.Table.{Table}
-use Rattle.table.specs.Value.{desk0, entries}
-use Rattle.table.specs.Shape.{Shaped}
-use Rattle.table.specs.Model.{modelOf}
+use Rattle.table.specs.{declared.Desk.{Desk}, declared.Table.{Table}, Value.{desk0, entries}, TypeShape.{Shaped}, Model.{modelOf}}
 use Rattle.table.specs.Sound.{SoundTable}
-use Rattle.rules.specs.Test.{owns}
-use Rattle.rules.specs.Box.{own-is}
-use Rattle.steps.specs.Stepped.{Placed, Stepped, putDesk, put-back, namesBeside, tableAfter}
-use Rattle.steps.specs.declared.Turn.{Turn}
-use Rattle.steps.specs.Deliver.{Meets}
-use Rattle.steps.specs.LookStepped.{stops, passes}
+use Rattle.rules.specs.{Mirror.Test.{owns}, Link.ArrayLimits.{own-is}}
+use Rattle.steps.specs.{Stepped.{Placed, Stepped, putDesk, put-back, namesBeside, tableAfter}, declared.Turn.{Turn}, Link.Deliver.{Meets}}
+use Rattle.steps.specs.Link.LookStepped.{stops, passes}
 use Rattle.access.specs.declared.Done.{Done}
 
 -- of a table that keeps the rules: the machine's answer and its table, which keeps them too

@@ -1,36 +1,16 @@
 -- The contract leaves no choice: the code's answer, the core and the cells are fixed as values, of the open writes the set, and a refusal hands
 -- back the very table.
-use Prim.Native.Nat.{ℕ, _<_}
-use mathlib.Core.Path.{_≡_, refl, sym, ap, _∙_}
-use mathlib.Core.List.{List, [], _∷_}
-use mathlib.Core.Logic.{inl, inr}
-use native.Mathlib.Omega.{arith}
-use lib.Seq.{sets}
-use Rattle.laws.specs.Loop.{cases}
-use Rattle.laws.specs.Says.{apart}
-use Rattle.machine.specs.Table.{State}
-use Rattle.machine.specs.Answer as machine
-use Rattle.machine.specs.Steps.{Step, Read, Write, Deliver, Trip, step, answers}
-use Rattle.machine.specs.Refusals.{Row, rowsOf, FirstFails}
+use Rattle.laws.specs.{Kit.{ℕ, _<_, _≡_, refl, sym, ap, _∙_, List, [], _∷_, inl, inr, arith, sets}, Loop.{cases}, Says.{apart}}
+use Rattle.machine.specs.{Table.{State}, Steps.{Step, Read, Write, Deliver, Trip, step, answers}, Refusals.{Row, rowsOf, FirstFails}}
 use Rattle.machine.specs.Proofs.Refusals.{refusal-exactly}
-use Rattle.reply.specs.declared.Answer.{Answer}
-use Rattle.reply.specs.declared.Answer.the-variants.{Refused}
-use Rattle.reply.specs.declared.Refusal.{Refusal}
-use Rattle.reply.specs.Meaning.{refusalOf, answerOf, Counted}
-use Rattle.reply.specs.Unique.{answer-is, Silent, silent-counted}
-use Rattle.table.specs.declared.Table.{Table}
-use Rattle.table.specs.Shape.{DesksShape, Shaped}
-use Rattle.table.specs.Model.{modelOf}
-use Rattle.table.specs.Same.{Same}
-use Rattle.table.specs.Sound.{SoundTable}
-use Rattle.table.specs.Unique.{Among, same-core, same-cells, same-opens}
-use Rattle.rules.specs.To.{Fit}
-use Rattle.rules.specs.Whole.{keeps-says}
-use Rattle.steps.specs.Stepped.{namesBeside}
-use Rattle.steps.specs.Unique.{refused-silent, read-silent, write-silent, trip-silent}
-use Rattle.access.specs.declared.Done.{Done}
-use Rattle.access.specs.declared.Delivered.{Delivered}
-use Rattle.access.specs.Met.{Met, Brought, no-names}
+use Rattle.machine.specs.Answer as machine
+use Rattle.reply.specs.{declared.Answer.{Answer}, declared.Answer.the-variants.{Refused}, declared.Refusal.{Refusal}}
+use Rattle.reply.specs.{Meaning.{refusalOf, answerOf, Counted}, Unique.{answer-is, Silent, silent-counted}}
+use Rattle.table.specs.{declared.Table.{Table}, TypeShape.{DesksShape, Shaped}, Model.{modelOf}, SameTable.{Same}, Sound.{SoundTable}}
+use Rattle.table.specs.Unique.{StandsIn, same-core, same-cells, same-opens}
+use Rattle.rules.specs.{Link.PassesToRules.{Fit}, TestIsRules.{keeps-says}}
+use Rattle.steps.specs.{Stepped.{namesBeside}, Unique.{refused-silent, read-silent, write-silent, trip-silent}}
+use Rattle.access.specs.{declared.Done.{Done}, declared.Delivered.{Delivered}, Met.{Met, Brought, no-names}}
 
 -- two outcomes of one step on one table, whose lists are as its type says
 module _ {t : Table} (sh : DesksShape (t .core .desks)) (fit : Fit (t .core .desks))
@@ -70,21 +50,21 @@ module _ {t : Table} (sh : DesksShape (t .core .desks)) (fit : Fit (t .core .des
     pub one-cells : r .cells ≡ r′ .cells
     one-cells = by-value (λ y z. y .cells ≡ z .cells) (λ y. refl) (λ s s′. same-cells r r′ hr hr′ s s′ one-model)
 
-    pub one-opens : Among (r .opens) (r′ .opens)
-    one-opens = by-value (λ y z. Among (y .opens) (z .opens)) (λ y j h f. record { at = j; small = h; is = refl }) (λ s s′. same-opens r r′ hr hr′ s s′ one-model)
+    pub one-opens : StandsIn (r .opens) (r′ .opens)
+    one-opens = by-value (λ y z. StandsIn (y .opens) (z .opens)) (λ y j h f. record { at = j; small = h; is = refl }) (λ s s′. same-opens r r′ hr hr′ s s′ one-model)
 
 -- what the code hands back
-pub record OneOutcome (r r′ : Table) (a a′ : Answer) : Type 0 where
+pub record OneTable (r r′ : Table) (a a′ : Answer) : Type 0 where
   pub answer : a ≡ a′
   pub same : Same r r′
   pub core : r .core ≡ r′ .core
   pub cells : r .cells ≡ r′ .cells
-  pub opens : Among (r .opens) (r′ .opens)
+  pub opens : StandsIn (r .opens) (r′ .opens)
   pub refused : (f : Refusal) → a ≡ Refused f → r ≡ r′
 
 module _ {t : Table} (sh : DesksShape (t .core .desks)) (fit : Fit (t .core .desks)) where
   outcome : {c : Step} {r r′ : Table} {a a′ : Answer} (names names′ : List ℕ) (p : Met t c r (answerOf a names)) (q : Met t c r′ (answerOf a′ names′))
-      → Counted a → Counted a′ → Shaped r → Shaped r′ → OneOutcome r r′ a a′
+      → Counted a → Counted a′ → Shaped r → Shaped r′ → OneTable r r′ a a′
   outcome {a = a} {a′ = a′} names names′ p q n n′ h h′ = record {
     answer = answer-is a names n (one-answer sh fit p q) ∙ sym (answer-is a′ names′ n′ refl);
     same = one-model sh fit p q;
@@ -95,25 +75,25 @@ module _ {t : Table} (sh : DesksShape (t .core .desks)) (fit : Fit (t .core .des
   }
 
   quiet : {c : Step} {r r′ : Done} (p : Met t c (r .table) (answerOf (r .answer) [])) (q : Met t c (r′ .table) (answerOf (r′ .answer) []))
-      → ((s : State) → Silent (step s c .answer)) → Shaped (r .table) → Shaped (r′ .table) → OneOutcome (r .table) (r′ .table) (r .answer) (r′ .answer)
+      → ((s : State) → Silent (step s c .answer)) → Shaped (r .table) → Shaped (r′ .table) → OneTable (r .table) (r′ .table) (r .answer) (r′ .answer)
   quiet {r = r} {r′ = r′} p q f h h′ =
       outcome [] [] p q (silent-counted (r .answer) [] (silent sh fit p q f) refl) (silent-counted (r′ .answer) [] (silent sh fit q p f) refl) h h′
 
   module _ {r r′ : Done} (h : Shaped (r .table)) (h′ : Shaped (r′ .table)) where
     pub one-read : {i x : ℕ} → Met t (Read i x) (r .table) (answerOf (r .answer) []) → Met t (Read i x) (r′ .table) (answerOf (r′ .answer) [])
-        → OneOutcome (r .table) (r′ .table) (r .answer) (r′ .answer)
+        → OneTable (r .table) (r′ .table) (r .answer) (r′ .answer)
     one-read {i} {x} p q = quiet p q (λ s. read-silent s i x) h h′
 
     pub one-write : {i x v : ℕ} → Met t (Write i x v) (r .table) (answerOf (r .answer) []) → Met t (Write i x v) (r′ .table) (answerOf (r′ .answer) [])
-        → OneOutcome (r .table) (r′ .table) (r .answer) (r′ .answer)
+        → OneTable (r .table) (r′ .table) (r .answer) (r′ .answer)
     one-write {i} {x} {v} p q = quiet p q (λ s. write-silent s i x v) h h′
 
     pub one-trip : {i : ℕ} {xs : List ℕ} → Met t (Trip i xs) (r .table) (answerOf (r .answer) []) → Met t (Trip i xs) (r′ .table) (answerOf (r′ .answer) [])
-        → OneOutcome (r .table) (r′ .table) (r .answer) (r′ .answer)
+        → OneTable (r .table) (r′ .table) (r .answer) (r′ .answer)
     one-trip {i} {xs} p q = quiet p q (λ s. trip-silent s i xs) h h′
 
   module _ {i u k : ℕ} {r r′ : Delivered} (p : Brought t i u k (r .table) (r .answer) (r .names)) (q : Brought t i u k (r′ .table) (r′ .answer) (r′ .names)) where
-    pub one-deliver : Shaped (r .table) → Shaped (r′ .table) → OneOutcome (r .table) (r′ .table) (r .answer) (r′ .answer)
+    pub one-deliver : Shaped (r .table) → Shaped (r′ .table) → OneTable (r .table) (r′ .table) (r .answer) (r′ .answer)
     one-deliver = outcome (r .names) (r′ .names) (p .met) (q .met) (p .counted) (q .counted)
 
     -- the array beside it, whole
@@ -121,12 +101,12 @@ module _ {t : Table} (sh : DesksShape (t .core .desks)) (fit : Fit (t .core .des
     one-array = p .names-are ∙ ap (λ (x : machine.Answer). sets no-names 0 (namesBeside x)) (one-answer sh fit (p .met) (q .met)) ∙ sym (q .names-are)
 
 -- a schedule, each step on the table that the one before gave
-pub data Runs : Table → List Step → List machine.Answer → Type 0 where
-  ends : {t : Table} → Runs t [] []
-  then : {t r : Table} {a : Step} {x : machine.Answer} {l : List Step} {xs : List machine.Answer} → Met t a r x → Runs r l xs → Runs t (a ∷ l) (x ∷ xs)
+pub data StepsRun : Table → List Step → List machine.Answer → Type 0 where
+  ends : {t : Table} → StepsRun t [] []
+  then : {t r : Table} {a : Step} {x : machine.Answer} {l : List Step} {xs : List machine.Answer} → Met t a r x → StepsRun r l xs → StepsRun t (a ∷ l) (x ∷ xs)
 
 -- from a table that keeps the rules, the answers are the machine's to the end
-pub runs-answers : {t : Table} {l : List Step} {xs : List machine.Answer} → SoundTable t → Runs t l xs → xs ≡ answers (modelOf t) l
+pub runs-answers : {t : Table} {l : List Step} {xs : List machine.Answer} → SoundTable t → StepsRun t l xs → xs ≡ answers (modelOf t) l
 unfolding answers
 runs-answers s ends = refl
 runs-answers {t} s (then {a = a} {l = l} m h) =

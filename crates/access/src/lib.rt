@@ -13,12 +13,10 @@ use clock::PLACES;
 use reply::Answer;
 use reply::NAMES;
 use reply::Refusal;
-use table::CELL;
-use table::CELLS;
+use table::Cells;
 use table::Core;
 use table::Desk;
-use table::OPEN;
-use table::OPENS;
+use table::Opens;
 use table::Table;
 ghost use Rattle.steps.specs.Stepped.{tableAfter};
 
@@ -45,13 +43,7 @@ fn acting(desks: [Desk; PLACES], i: usize) -> Desk
 }
 
 // The table of these parts, with desk i as d where there is one.
-fn together(
-    core: Core,
-    i: usize,
-    d: Desk,
-    cells: [u16; PLACES * CELLS * CELL],
-    opens: [u16; OPENS * OPEN],
-) -> Table
+fn together(core: Core, i: usize, d: Desk, cells: Cells, opens: Opens) -> Table
     requires { ⌜ core .n ≤ places ⌝ }
     ensures { λ r. ⌜ r ≡ tableAfter core i d cells opens ⌝ }
 {

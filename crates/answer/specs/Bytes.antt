@@ -1,10 +1,8 @@
 -- The output line of an answer (document 01, "Schedule text": "`replay` .. prints one line for each input line").
-use Prim.Native.Nat.{ℕ}
-use mathlib.Core.List.{List, [], _∷_, _++_}
-use Rattle.laws.specs.Text.{text}
+use Rattle.laws.specs.{Kit.{ℕ, List, [], _∷_, _++_}, Text.{text}}
 use Rattle.text.specs.Number.{decimal}
-use Rattle.machine.specs.Table.{Name}
-use Rattle.machine.specs.Answer.{Answer, began, shows, wrote, holds, applies, judged, refused, unset, shown, Verdict, Yes, No, Unknown, numberOf}
+use Rattle.machine.specs.{Table.{Name}, Answer.{Answer, began, shows, wrote, holds, applies, judged, refused, unset, shown, Verdict, Yes}}
+use Rattle.machine.specs.Answer.{No, Unknown, numberOf}
 
 -- "Write number k of desk u is named u.k"
 unfoldable pub nameBytes : Name → List ℕ

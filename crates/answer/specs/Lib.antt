@@ -1,5 +1,5 @@
 pub mod Bytes
-pub mod Names
 pub mod Outcome
-pub mod Session
 pub mod Unique
+pub mod SessionLines
+pub mod Link

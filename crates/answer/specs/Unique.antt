@@ -1,9 +1,8 @@
 -- One value only stands for what writing a line comes to.
-use mathlib.Core.Path.{_≡_, refl, sym, ap, _∙_}
-use Rattle.answer.specs.declared.Written.{Written}
-use Rattle.answer.specs.declared.Written.the-variants.{Upto}
+use Rattle.laws.specs.Kit.{_≡_, refl, sym, ap, _∙_}
+use Rattle.answer.specs.{declared.Written.{Written}, declared.Written.the-variants.{Upto}, Outcome.{PutAnswer, upto, refused}}
+use Rattle.answer.specs.Outcome.{writtenOf}
 use Rattle.answer.specs.declared.Written.the-variants as written
-use Rattle.answer.specs.Outcome.{PutAnswer, upto, refused, writtenOf}
 
 abbrev pub writtenFor : PutAnswer → Written
 writtenFor (upto p) = Upto p

@@ -7,7 +7,7 @@ ghost use Rattle.machine.specs.Table.{name, most-open};
 ghost use Rattle.machine.specs.Answer.{numberOf, shows, shown, wrote, applies};
 ghost use Rattle.reply.specs.Meaning.{refusalOf, answerOf, namesOf};
 ghost use Rattle.answer.specs.Bytes.{nameBytes, namesBytes, answerBytes, answerLine, most-name, most-names, most-answer};
-ghost use Rattle.answer.specs.Outcome.{writtenOf, written, buffer};
+ghost use Rattle.answer.specs.Outcome.{writtenOf, putAnswer, buffer};
 use reply::APPLIED;
 use reply::Answer;
 use reply::NAMES;
@@ -163,7 +163,7 @@ fn put_answer(out: &mut [u8], at: usize, a: Answer, names: &[u16; NAMES]) -> usi
 
 // Writes the line of an answer, with its LF, from place at on. Where the buffer is too short for it, nothing is written.
 pub fn put(out: &mut [u8], at: usize, a: Answer, names: &[u16; NAMES]) -> Written
-    ensures { λ r. ⌜ writtenOf r ≡ written (now (out .entry)) at (answerLine (answerOf a (now (names .entry)))) ⌝ }
+    ensures { λ r. ⌜ writtenOf r ≡ putAnswer (now (out .entry)) at (answerLine (answerOf a (now (names .entry)))) ⌝ }
     ensures { λ _. ⌜ now (out .exit) ≡ buffer (now (out .entry)) at (answerLine (answerOf a (now (names .entry)))) ⌝ }
     ensures { λ _. ⌜ length (answerLine (answerOf a (now (names .entry)))) ≤ most-answer ⌝ }
 {

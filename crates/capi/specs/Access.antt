@@ -1,17 +1,8 @@
 -- `access_run`: the table saved in an image, run over a schedule; its answers and the table saved after it.
-use mathlib.Core.Bool.{Bool, _&&_}
-use mathlib.Core.List.{List, [], _∷_}
-use mathlib.Core.Option.{none, some}
-use Prim.Native.Nat.{ℕ}
-use lib.Dec.{leb}
-use lib.ListN.{length}
-use lib.Seq.{sets}
-use Rattle.laws.specs.Loop.{pick}
+use Rattle.laws.specs.{Kit.{Bool, _&&_, List, [], _∷_, none, some, ℕ, leb, length, sets}, Loop.{pick}}
 use Rattle.machine.specs.Answer.{Refusal, numberOf, short}
-use Rattle.session.specs.Session.{Session}
-use Rattle.session.specs.Transcript.{transcriptFrom, sessionFrom, most-text}
-use Rattle.image.specs.Encode.{encode}
-use Rattle.image.specs.Load.{Loaded, loaded, refused, load}
+use Rattle.session.specs.{Session.{Session}, Transcript.{transcriptFrom, sessionFrom, most-text}}
+use Rattle.image.specs.{Encode.{encode}, Load.{Loaded, loaded, refused, load}}
 
 -- what a call leaves: the number that it returns, and each lent buffer
 pub record Left : Type 0 where

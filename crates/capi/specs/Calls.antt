@@ -1,18 +1,11 @@
 -- Any number of calls of `access_run` one after the other, and demand 3 of the table that they leave: no bound on the bytes of all their schedules.
-use mathlib.Core.Path.{_≡_, refl, sym, ap, _∙_}
-use mathlib.Core.List.{List, [], _++_}
-use mathlib.Core.Option.{none, some}
-use Prim.Native.Nat.{ℕ}
+use Rattle.laws.specs.Kit.{_≡_, refl, sym, ap, _∙_, List, [], _++_, none, some, ℕ}
 use Rattle.machine.specs.Table.{State}
-use Rattle.session.specs.Session.{Session}
-use Rattle.session.specs.Transcript.{TextLine, linesOf, answersOf, sessionOf, printed, transcriptFrom, sessionFrom}
+use Rattle.session.specs.{Session.{Session}, Transcript.{TextLine, linesOf, answersOf, sessionOf, printed, transcriptFrom, sessionFrom}}
+use Rattle.session.specs.Link.SessionRules.{lines-kept}
 use Rattle.image.specs.Encode.{encode}
-use Rattle.capi.specs.Access.{begin, imageOf, startOf, accessRun}
-use Rattle.session.specs.Kept.{lines-kept}
-use Rattle.capi.specs.CutLaws.{session-append, bytes-append}
-use Rattle.capi.specs.Wrote.{answersIn, imageIn, wrote}
-use Rattle.capi.specs.Split.{start-image}
-use Rattle.capi.specs.Demand.{Told, lines-demand-3}
+use Rattle.capi.specs.{Access.{begin, imageOf, startOf, accessRun}, Link.CutText.{session-append, bytes-append}}
+use Rattle.capi.specs.{Link.CallWrote.{answersIn, imageIn, wrote}, CutSchedule.{start-image}, TextDemand3.{Told, lines-demand-3}}
 
 -- Accepted calls: the first from no image, each from the image that the one before wrote, with whatever schedules and lent buffers. All their lines,
 -- all that they answered, and the image that the last one wrote.

@@ -1,12 +1,7 @@
 pub mod Access
-pub mod Lines
-pub mod ImageLaws
-pub mod LinesLaws
-pub mod RunLaws
-pub mod StartLaws
-pub mod CutLaws
-pub mod Wrote
-pub mod Enough
-pub mod Split
-pub mod Demand
 pub mod Calls
+pub mod TextDemand3
+pub mod CutSchedule
+pub mod BuffersEnough
+pub mod Mirror
+pub mod Link

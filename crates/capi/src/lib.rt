@@ -6,15 +6,12 @@ ghost use lib.ListN.{length, take};
 ghost use Rattle.session.specs.Holds.{SomeSession};
 ghost use Rattle.session.specs.Transcript.{most-text};
 ghost use Rattle.capi.specs.Access.{left, accessRun};
-ghost use Rattle.capi.specs.Lines.{most-part, RoomFor, Lined, SomeCore, ImageSize, ImageRoom, ImageSaved, BothPut, Finishes, RunsFrom, Starts};
-use clock::PLACES;
+ghost use Rattle.capi.specs.Mirror.AccessParts.{most-part, RoomFor, Lined, SomeCore, ImageSize, ImageRoom, ImageSaved, BothPut, Finishes, RunsFrom, ImageStarts};
 use load::Loading;
 use load::Outcome;
-use table::CELL;
-use table::CELLS;
+use table::Cells;
 use table::Core;
-use table::OPEN;
-use table::OPENS;
+use table::Opens;
 ghost use Rattle.table.specs.Model.{tableWith};
 
 // The most bytes of a schedule.
@@ -48,8 +45,8 @@ fn part_room() -> [u8; PART]
 // The lines from a place on: their answers are counted, and put into the buffer if that is asked for.
 fn lines(
     core: Core,
-    cells: &mut [u16; PLACES * CELLS * CELL],
-    opens: &mut [u16; OPENS * OPEN],
+    cells: &mut Cells,
+    opens: &mut Opens,
     text: &[u8],
     at: usize,
     put: bool,
@@ -93,12 +90,7 @@ fn image_size(core: Core) -> usize
 }
 
 // The image, into a buffer that has room for it; nothing while there is no table.
-fn save_image(
-    core: Core,
-    cells: &[u16; PLACES * CELLS * CELL],
-    opens: &[u16; OPENS * OPEN],
-    out: &mut [u8],
-) -> usize
+fn save_image(core: Core, cells: &Cells, opens: &Opens, out: &mut [u8]) -> usize
     requires { ⌜ SomeSession (tableWith core (now cells) (now opens)) ⌝ }
     requires { ⌜ ImageRoom (tableWith core (now cells) (now opens)) (now out) ⌝ }
     ensures { λ r. ⌜ ImageSaved (tableWith core (now (cells .entry)) (now (opens .entry))) (now (out .entry)) (now (out .exit)) r ⌝ }
@@ -115,8 +107,8 @@ fn put_answers(
     first: &[u8],
     len: usize,
     core: Core,
-    first_cells: [u16; PLACES * CELLS * CELL],
-    first_opens: [u16; OPENS * OPEN],
+    first_cells: Cells,
+    first_opens: Opens,
     text: &[u8],
     at: usize,
     answers: &mut [u8],
@@ -136,8 +128,8 @@ fn finish(
     first: &[u8],
     len: usize,
     core: Core,
-    cells: [u16; PLACES * CELLS * CELL],
-    opens: [u16; OPENS * OPEN],
+    cells: Cells,
+    opens: Opens,
     text: &[u8],
     at: usize,
     answers: &mut [u8],
@@ -178,8 +170,8 @@ fn finish(
 // From a session.
 fn run_from(
     core: Core,
-    first_cells: [u16; PLACES * CELLS * CELL],
-    first_opens: [u16; OPENS * OPEN],
+    first_cells: Cells,
+    first_opens: Opens,
     text: &[u8],
     answers: &mut [u8],
     image_out: &mut [u8],
@@ -217,7 +209,7 @@ fn run_from(
 
 // The table in an image; from an empty one there is none yet, and nothing but zeros.
 fn start(image: &[u8]) -> Loading
-    ensures { λ r. ⌜ Starts (now (image .entry)) (r .answer) (r .table) ⌝ }
+    ensures { λ r. ⌜ ImageStarts (now (image .entry)) (r .answer) (r .table) ⌝ }
 {
     if image.len() == 0 {
         let none = table::begin(0, 0);

@@ -1,24 +1,10 @@
 -- Readiness over lists of counts and vectors is the machine's.
-use Prim.Native.Nat.{ℕ, suc, _+_, _-_, _≤_, _<_}
-use mathlib.Core.Path.{_≡_, refl, sym, ap, _∙_}
-use mathlib.Core.Bool.{Bool, true, false, not}
-use mathlib.Core.List.{List}
-use mathlib.Core.Option.{Option, none, some}
-use native.Mathlib.Omega.{arith}
-use native.Mathlib.Numerals.{add-one}
-use borrow.Author.Tests.{ltb-true, lt-ltb, le-ltb, eq-eqb, ne-eqb}
-use lib.ListN.{length, getD, set}
-use lib.Seq.{getD-set-same, getD-set-other}
-use lib.Dec.{ltb, eqb}
-use Rattle.laws.specs.Loop.{pick, cases, scan-map, scan-same, scan-short}
-use Rattle.laws.specs.All.{all, all-next, all-fails, all-end, all-fails-at, all-same, all-shift}
-use Rattle.laws.specs.Update.{same-or}
-use Rattle.machine.specs.Rules.{In, Flat}
-use Rattle.machine.specs.Table.{Vec}
-use Rattle.machine.specs.Steps.{fails, failing, ready, isNone}
-use Rattle.clock.specs.Vectors.{place, places, place-at}
-use Rattle.clock.specs.declared.Wait.{Wait}
-use Rattle.clock.specs.declared.Wait.the-variants.{Ready, Fails}
+use Rattle.laws.specs.Kit.{ℕ, suc, _+_, _-_, _≤_, _<_, _≡_, refl, sym, ap, _∙_, Bool, true, false, not, List, Option, none, some, arith}
+use Rattle.laws.specs.Kit.{add-one, ltb-true, lt-ltb, le-ltb, eq-eqb, ne-eqb, length, getD, set, getD-set-same, getD-set-other, ltb, eqb}
+use Rattle.laws.specs.{Loop.{pick, cases, scan-map, scan-same, scan-short}, All.{all, all-next, all-fails, all-end, all-fails-at, all-same}}
+use Rattle.laws.specs.{All.{all-shift}, Update.{same-or}}
+use Rattle.machine.specs.{Rules.{In, Flat}, Table.{Vec}, Steps.{fails, failing, ready, isNone}}
+use Rattle.clock.specs.{Vectors.{place, places, place-at}, declared.Wait.{Wait}, declared.Wait.the-variants.{Ready, Fails}}
 
 -- the document's values for each case: none, or the smallest failing desk
 abbrev pub waitOf : Wait → Option ℕ

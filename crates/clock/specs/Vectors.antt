@@ -1,19 +1,8 @@
 -- Vectors as lists of numbers: place t of a list, from 1; the larger place by place; one place raised. Of any number of places.
-use Prim.Native.Nat.{ℕ, zero, suc, _+_, _-_, _≤_, _<_, max}
-use mathlib.Core.Path.{_≡_, refl, ap, _∙_, fun-ext}
-use mathlib.Core.Bool.{Bool, false}
-use mathlib.Core.List.{List}
-use native.Mathlib.Omega.{arith}
-use native.Mathlib.Numerals.{add-one}
-use borrow.Author.Tests.{ltb-true, ltb-false, lt-ltb, le-ltb}
-use lib.ListN.{length, getD, set, List·getD-eq-default}
-use lib.Seq.{ext-getD}
-use lib.Dec.{ltb}
-use Rattle.laws.specs.Loop.{pick, cases}
-use Rattle.laws.specs.Tab.{tab, getD-tab, length-tab}
-use Rattle.laws.specs.Update.{upd, seen1, lift-set1}
-use Rattle.machine.specs.Table.{Vec, most-desks, most-writes}
-use Rattle.machine.specs.Steps.{join}
+use Rattle.laws.specs.Kit.{ℕ, zero, suc, _+_, _-_, _≤_, _<_, max, _≡_, refl, ap, _∙_, fun-ext, Bool, false, List, arith, add-one, ltb-true}
+use Rattle.laws.specs.{Kit.{ltb-false, lt-ltb, le-ltb, length, getD, set, List·getD-eq-default, ext-getD, ltb}, Loop.{pick, cases}}
+use Rattle.laws.specs.{Tab.{tab, getD-tab, length-tab}, Update.{upd, seen1, lift-set1}}
+use Rattle.machine.specs.{Table.{Vec, most-desks, most-writes}, Steps.{join}}
 use Rattle.clock.specs.declared.Clock.{Clock}
 
 -- the places of the code's vectors: one for each desk

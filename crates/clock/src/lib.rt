@@ -8,6 +8,8 @@ ghost use Rattle.clock.specs.Readiness.{failsAt, waitOf, readyAt, covers
 
 // The places of a vector: one for each desk.
 pub const PLACES: usize = 8;
+// The largest number of a write.
+pub const MOST_WRITES: u16 = 65535;
 
 pub struct Clock {
     pub at: [u16; PLACES],
@@ -53,7 +55,7 @@ impl Clock {
         }
         let mut v = self.at;
         let k = v[at];
-        if 65535 <= k {
+        if MOST_WRITES <= k {
             return self;
         }
         v[at] = k + 1;

@@ -1,13 +1,6 @@
 -- The check of a block: one definition, and all that anything else knows of it.
-use Prim.Native.Nat.{ℕ, _+_, _*_, _<_, _≤_, pred}
-use mathlib.Core.Path.{_≡_, refl, ap}
-use mathlib.Core.List.{List, _++_}
-use native.Mathlib.Omega.{arith}
-use native.Mathlib.Numerals.{add-one}
-use native.Mathlib.Nat.{mul-le-mul-left}
-use lib.ListN.{length, getD, List·getD-append}
-use Rattle.laws.specs.Sum.{sum, sum-same, sum-le}
-use Rattle.laws.specs.Each.{Each, each-at}
+use Rattle.laws.specs.Kit.{ℕ, _+_, _*_, _<_, _≤_, pred, _≡_, refl, ap, List, _++_, arith, add-one, mul-le-mul-left, length, getD}
+use Rattle.laws.specs.{Kit.{List·getD-append}, Sum.{sum, sum-same, sum-le}, Each.{Each, each-at}}
 use Rattle.image.specs.Limits.{check-at}
 
 abbrev pub Byte : ℕ → Type 0

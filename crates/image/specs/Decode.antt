@@ -1,31 +1,17 @@
 -- Reading an image leniently: each field at its place, whatever stands around it. And that a saved table is read back.
-use Prim.Native.Nat.{ℕ, suc, _+_, _*_, _/_, _%_, _<_, _≤_}
-use mathlib.Core.Path.{_≡_, refl, sym, ap, _∙_, fun-ext}
-use mathlib.Core.Bool.{Bool, true, false, not, _&&_}
-use mathlib.Core.List.{List, []}
-use mathlib.Core.Option.{Option, none, some}
-use native.Mathlib.Omega.{arith}
-use native.Mathlib.Nat.{div-add-mod, mod-lt}
-use lib.Dec.{eqb}
-use lib.ListN.{getD, replicate}
-use Rattle.laws.specs.Loop.{pick, cases}
-use Rattle.laws.specs.Update.{same-or}
-use Rattle.laws.specs.Says.{Says, says-eqb, apart, clash, says-both}
-use Rattle.laws.specs.Tab.{tab, length-tab, getD-tab}
-use Rattle.laws.specs.From.{from1, from1-is}
-use Rattle.laws.specs.Find.{firstOf, FoundAt, first-is, first-not}
-use Rattle.laws.specs.Cat.{part}
-use Rattle.laws.specs.Each.{each-in, getD-map-in}
-use Rattle.machine.specs.Table.{Vec, zeros, Name, name, Cell, blank, set, Open, sized, State, written}
-use Rattle.machine.specs.Steps.{within, isNone, isOpen, openCount}
-use Rattle.machine.specs.Rules.{In, Flat, Below, Issued, Rules}
-use Rattle.machine.specs.Within.{says-within}
-use Rattle.image.specs.Names.{names, no-name, length-names, OpenName, names-open, open-named}
-use Rattle.image.specs.Encode.{words, deskBytes, cellBytes, openBytes, block, named, cellPart, openPart, perDesk, openBlocks, encodeAt, encode}
-use Rattle.image.specs.Fields.{vecOf, cellOf, openOf, writerIn, numberIn, vec-words, cell-set, cell-blank, open-back, writer-back, number-back, length-words, vector-part, rest-part}
-use Rattle.image.specs.Places.{part-2, part-3, part-4}
+use Rattle.laws.specs.Kit.{ℕ, suc, _+_, _*_, _/_, _%_, _<_, _≤_, _≡_, refl, sym, ap, _∙_, fun-ext, Bool, true, false, not, _&&_, List, []}
+use Rattle.laws.specs.{Kit.{Option, none, some, arith, div-add-mod, mod-lt, eqb, getD, replicate}, Loop.{pick, cases}, Update.{same-or}}
+use Rattle.laws.specs.{Says.{Says, says-eqb, apart, clash, says-both}, Tab.{tab, length-tab, getD-tab}, FromOne.{from1, from1-is}}
+use Rattle.laws.specs.{Find.{firstOf, FoundAt, first-is, first-not}, Cat.{part}, Each.{each-in, getD-map-in}}
+use Rattle.machine.specs.{Table.{Vec, zeros, Name, name, Cell, blank, set, Open, sized, State, written}, Steps.{within, isNone, isOpen}}
+use Rattle.machine.specs.{Steps.{openCount}, Rules.{In, Flat, Below, Issued, Rules}, Within.{says-within}}
+use Rattle.image.specs.{OpenNames.{names, no-name, length-names, OpenName, names-open, open-named}, Encode.{vectorWords, deskBytes}}
+use Rattle.image.specs.Encode.{cellBytes, openBytes, block, openNamed, cellPart, openPart, perDesk, encodeAt, encode}
+use Rattle.image.specs.Fields.{vecOf, cellRead, openRead, writerIn, numberIn, vec-words, cell-set, cell-blank, open-back, writer-back}
+use Rattle.image.specs.{Fields.{number-back, length-words, vector-part, rest-part}, Link.FieldPlaces.{part-2, part-3, part-4}}
+use Rattle.image.specs.Limits.{Wide, wide, some-cells, some-opens, block-of, block-bytes, payload-at, vector-at, vector-bytes}
+use Rattle.image.specs.Limits.{after-vector, desk-bytes, cell-bytes, open-bytes, cells-in, opens-in}
 use Rattle.clock.specs.Vectors.{places}
-use Rattle.image.specs.Limits.{Wide, wide, some-cells, some-opens, block-of, block-bytes, payload-at, vector-at, vector-bytes, after-vector, desk-bytes, cell-bytes, open-bytes, cells-in, opens-in}
 
 -- n, m and the open count of the block of kind 1
 abbrev pub nIn : List ℕ → ℕ
@@ -54,7 +40,7 @@ module _ (ps : ℕ) where
   deskIn n b p = from1 zeros n (λ i. vecOf ps (part (deskPlace p i) (vector-bytes ps) b))
 
   abbrev pub cellIn : ℕ → ℕ → List ℕ → ℕ → ℕ → Cell
-  cellIn n m b = from1 (λ x. blank) n (λ i. from1 blank m (λ x. cellOf ps (part (cellPlace n m i x) (cell-bytes ps) b)))
+  cellIn n m b = from1 (λ x. blank) n (λ i. from1 blank m (λ x. cellRead ps (part (cellPlace n m i x) (cell-bytes ps) b)))
 
   -- the entries of the open writes, as many as counted
   abbrev pub entryIn : ℕ → ℕ → List ℕ → ℕ → List ℕ
@@ -68,7 +54,7 @@ module _ (ps : ℕ) where
   bears u k l = eqb (writerIn l) u && eqb (numberIn ps l) k
 
   abbrev pub findIn : List (List ℕ) → ℕ → ℕ → Option Open
-  findIn l u k = firstOf (bears u k) (openOf ps) l
+  findIn l u k = firstOf (bears u k) (openRead ps) l
 
   -- u from 1 to n, k from 1 to u's own count
   abbrev pub opensIn : ℕ → (ℕ → Vec) → List (List ℕ) → ℕ → ℕ → Option Open
@@ -85,7 +71,7 @@ module _ (ps : ℕ) where
   pub record Shows (s : State) (u k : ℕ) (l : List ℕ) : Type 0 where
     pub writer : writerIn l ≡ u
     pub number : numberIn ps l ≡ k
-    pub whole : some (openOf ps l) ≡ s .opens u k
+    pub whole : some (openRead ps l) ≡ s .opens u k
 
   says-bears : (u k : ℕ) (l : List ℕ) → Says (bears u k l) ((writerIn l ≡ u) × (numberIn ps l ≡ k))
   says-bears u k l = says-both (eqb (writerIn l) u) (eqb (numberIn ps l) k) (says-eqb (writerIn l) u) (says-eqb (numberIn ps l) k)
@@ -113,7 +99,7 @@ module _ (ps : ℕ) where
     no-desk i o t = same-or (s .applied i t) 0 (λ e. e) (λ e. absurd (let h = ok .frame .counts .inside i t (omega arith) .0 in o (h .0) (h .1)))
 
     -- the numbers at p of each desk, at most its counts
-    desk-back : (p : ℕ) (v : ℕ → Vec) → p + vector-bytes ps ≤ desk-bytes ps → ((i : ℕ) → part p (vector-bytes ps) (deskBytes ps i (s .applied i) (s .clock i)) ≡ words ps (v i)) → ((i : ℕ) → Below (v i) (s .applied i)) → deskIn (s .setup .desks) (encodeAt ps s) p ≡ v
+    desk-back : (p : ℕ) (v : ℕ → Vec) → p + vector-bytes ps ≤ desk-bytes ps → ((i : ℕ) → part p (vector-bytes ps) (deskBytes ps i (s .applied i) (s .clock i)) ≡ vectorWords ps (v i)) → ((i : ℕ) → Below (v i) (s .applied i)) → deskIn (s .setup .desks) (encodeAt ps s) p ≡ v
     desk-back p v g at below =
         from1-is zeros (s .setup .desks) _ v
         (λ i h. rw (part-2 ps wd s i p (vector-bytes ps) h g, at (suc i)) (vec-words ps (v (suc i)) (issued-flat (v (suc i)) (λ t. omega (arith, below (suc i) t, ok .frame .counts .most (suc i) t)))))
@@ -121,15 +107,15 @@ module _ (ps : ℕ) where
 
     pub applied-back : deskIn (s .setup .desks) (encodeAt ps s) vector-at ≡ s .applied
     unfolding deskBytes
-    applied-back = desk-back vector-at (s .applied) (omega arith) (λ i. vector-part ps i 0 0 0 (s .applied i) (words ps (s .clock i))) (λ i t. omega arith)
+    applied-back = desk-back vector-at (s .applied) (omega arith) (λ i. vector-part ps i 0 0 0 (s .applied i) (vectorWords ps (s .clock i))) (λ i t. omega arith)
 
     pub clock-back : deskIn (s .setup .desks) (encodeAt ps s) (after-vector ps) ≡ s .clock
     unfolding deskBytes
     clock-back =
         desk-back (after-vector ps) (s .clock) (omega arith)
-        (λ i. rest-part ps i 0 0 0 (s .applied i) (words ps (s .clock i)) (vector-bytes ps) (length-words ps (s .clock i))) (ok .frame .clocks .below)
+        (λ i. rest-part ps i 0 0 0 (s .applied i) (vectorWords ps (s .clock i)) (vector-bytes ps) (length-words ps (s .clock i))) (ok .frame .clocks .below)
 
-    one-cell : (i x : ℕ) (c : Cell) → s .cell i x ≡ c → cellOf ps (cellBytes ps c) ≡ c
+    one-cell : (i x : ℕ) (c : Cell) → s .cell i x ≡ c → cellRead ps (cellBytes ps c) ≡ c
     one-cell i x blank e = cell-blank ps
     one-cell i x (set v u w) e =
         let h = ok .frame .cell i x v u w e in cell-set ps v u w (h .writer-in .0) (issued-flat w (h .issued))
@@ -148,11 +134,11 @@ module _ (ps : ℕ) where
         (λ x o. no-cell (suc i) x (λ h. o (h .1 .0) (h .1 .1)) (s .cell (suc i) x) refl))
         (λ i o. fun-ext (λ x. no-cell i x (λ h. o (h .0 .0) (h .0 .1)) (s .cell i x) refl))
 
-    pub entry-back : (p : ℕ) → p < openCount s → entryIn (s .setup .desks) (s .setup .cells) (encodeAt ps s) p ≡ named ps s (getD (names s) p no-name)
+    pub entry-back : (p : ℕ) → p < openCount s → entryIn (s .setup .desks) (s .setup .cells) (encodeAt ps s) p ≡ openNamed ps s (getD (names s) p no-name)
     unfolding openPart
     entry-back p h =
         rw (part-4 ps wd s (p / opens-in ps) (p % opens-in ps) (block-of (opens-in ps) (openCount s) p (some-opens ps wd) h) (mod-lt p (some-opens ps wd)), div-add-mod p (opens-in ps))
-        (getD-map-in (named ps s) (names s) p no-name (replicate (open-bytes ps) 0) (omega (arith, length-names s)))
+        (getD-map-in (openNamed ps s) (names s) p no-name (replicate (open-bytes ps) 0) (omega (arith, length-names s)))
 
     shows-open : (u k : ℕ) (o : Option Open) → s .opens u k ≡ o → isOpen s u k ≡ true → Shows s u k (openBytes ps u o)
     shows-open u k none e t = clash (sym (ap (λ (o : Option Open). not (isNone o)) e) ∙ t)
@@ -171,7 +157,7 @@ module _ (ps : ℕ) where
         let o = each-in (OpenName s) (names s) no-name (names-open s) p (omega (arith, length-names s)) in
         rw (entry-back p h) (shows-open (w .writer) (w .number) (s .opens (w .writer) (w .number)) refl (o .is-open))
 
-    same-name : (l : List ℕ) (v j u k : ℕ) (w : Open) → Shows s v j l → writerIn l ≡ u → numberIn ps l ≡ k → w ≡ openOf ps l → some w ≡ s .opens u k
+    same-name : (l : List ℕ) (v j u k : ℕ) (w : Open) → Shows s v j l → writerIn l ≡ u → numberIn ps l ≡ k → w ≡ openRead ps l → some w ≡ s .opens u k
     same-name l v j u k w h a b e = let hw = h .writer in let hn = h .number in let hh = h .whole in cc
 
     -- an open write has its name
@@ -185,7 +171,7 @@ module _ (ps : ℕ) where
     at-entry : (p : ℕ) → p < openCount s → let w : Name = getD (names s) p no-name in Shows s (w .writer) (w .number) (getD entries p [])
     at-entry p h = rw (getD-tab (entryIn (s .setup .desks) (s .setup .cells) (encodeAt ps s)) (openCount s) p [] h) (shows-at p h)
 
-    found-is : (u k : ℕ) (w : Open) → FoundAt (bears u k) (openOf ps) entries [] w → some w ≡ s .opens u k
+    found-is : (u k : ℕ) (w : Open) → FoundAt (bears u k) (openRead ps) entries [] w → some w ≡ s .opens u k
     found-is u k w f =
         let h = at-entry (f .at) (omega (arith, f .small, length-tab (entryIn (s .setup .desks) (s .setup .cells) (encodeAt ps s)) (openCount s))) in
         let b = says-bears u k (getD entries (f .at) []) .to (f .passes) in
@@ -199,11 +185,11 @@ module _ (ps : ℕ) where
         let h : Shows s u k (getD entries (p .at) []) = rw (p .is) at (at-entry (p .at) l) in
         apart (bears u k (getD entries (p .at) []))
         (says-bears u k (getD entries (p .at) []) .from (h .writer, h .number))
-        (first-not (bears u k) (openOf ps) [] entries e (p .at) (omega (arith, l, length-tab (entryIn (s .setup .desks) (s .setup .cells) (encodeAt ps s)) (openCount s))))
+        (first-not (bears u k) (openRead ps) [] entries e (p .at) (omega (arith, l, length-tab (entryIn (s .setup .desks) (s .setup .cells) (encodeAt ps s)) (openCount s))))
 
     find-is : (u k : ℕ) (o : Option Open) → findIn entries u k ≡ o → o ≡ s .opens u k
     find-is u k none e = none-is u k e (s .opens u k) refl
-    find-is u k (some w) e = found-is u k w (first-is (bears u k) (openOf ps) [] entries w e)
+    find-is u k (some w) e = found-is u k w (first-is (bears u k) (openRead ps) [] entries w e)
 
     -- each open write is found by its name, and no other is
     pub find-back : (u k : ℕ) → findIn (entriesIn (s .setup .desks) (s .setup .cells) (encodeAt ps s)) u k ≡ s .opens u k

@@ -1,16 +1,10 @@
 -- Document 01, "Saved image": the bytes of a table. Desks and cells count from 1, so where i counts from 0 the desk is suc i.
-use Prim.Native.Nat.{ℕ, suc, _+_, _-_, _*_, _/_, _%_}
-use mathlib.Core.List.{List, [], _∷_, _++_, map}
-use mathlib.Core.Option.{Option, none, some}
-use lib.ListN.{length, getD, replicate}
-use Rattle.laws.specs.Tab.{tab}
-use Rattle.laws.specs.Cat.{cat}
-use Rattle.machine.specs.Table.{Vec, Name, Cell, blank, set, Open, State}
-use Rattle.machine.specs.Steps.{openCount}
-use Rattle.image.specs.Names.{names}
-use Rattle.image.specs.Check.{checkOf}
+use Rattle.laws.specs.Kit.{ℕ, suc, _+_, _-_, _*_, _/_, _%_, List, [], _∷_, _++_, map, Option, none, some, length, getD, replicate}
+use Rattle.laws.specs.{Tab.{tab}, Cat.{cat}}
+use Rattle.machine.specs.{Table.{Vec, Name, Cell, blank, set, Open, State}, Steps.{openCount}}
+use Rattle.image.specs.{OpenNames.{names}, Check.{checkOf}, Limits.{payload-bytes, cell-bytes, open-bytes, cells-in, opens-in}}
+use Rattle.image.specs.Limits.{blocks-for}
 use Rattle.clock.specs.Vectors.{places}
-use Rattle.image.specs.Limits.{payload-bytes, cell-bytes, open-bytes, cells-in, opens-in, blocks-for}
 
 -- "numbers little-endian": of 16 bits, of 32 bits
 abbrev pub word : ℕ → List ℕ
@@ -38,8 +32,8 @@ block1 s = block 1 0 (s .setup .desks ∷ s .setup .cells ∷ openCount s ∷ []
 -- as fit (edition-1).
 module _ (p : ℕ) where
   -- "8 vector places of 16 bits"
-  unfoldable pub words : Vec → List ℕ
-  words v = cat (λ t. word (v (suc t))) p
+  unfoldable pub vectorWords : Vec → List ℕ
+  vectorWords v = cat (λ t. word (v (suc t))) p
 
   -- "for each of 8 desks 0 not received, 1 held, 2 applied"
   unfoldable pub markBytes : Vec → List ℕ
@@ -47,7 +41,7 @@ module _ (p : ℕ) where
 
   -- "Kind 2, one for each desk: desk number, 3 zeros, 8 applied counts, 8 clock places, 16 bits each."
   unfoldable pub deskBytes : ℕ → Vec → Vec → List ℕ
-  deskBytes i applied clock = i ∷ 0 ∷ 0 ∷ 0 ∷ (words applied ++ words clock)
+  deskBytes i applied clock = i ∷ 0 ∷ 0 ∷ 0 ∷ (vectorWords applied ++ vectorWords clock)
 
   abbrev pub block2 : State → ℕ → List ℕ
   block2 s i = block 2 (1 + i) (deskBytes (suc i) (s .applied (suc i)) (s .clock (suc i)))
@@ -55,7 +49,7 @@ module _ (p : ℕ) where
   -- "20 bytes each: writer (0 unset, then all zero), status, 2 zeros, 8 vector places"
   unfoldable pub cellBytes : Cell → List ℕ
   cellBytes blank = replicate (cell-bytes p) 0
-  cellBytes (set v u w) = u ∷ v ∷ 0 ∷ 0 ∷ words w
+  cellBytes (set v u w) = u ∷ v ∷ 0 ∷ 0 ∷ vectorWords w
 
   -- "Kind 3, desk by desk, each desk from a new block, 25 cells to a block": those of the q-th block of a desk, j from 0
   unfoldable pub cellPart : State → ℕ → ℕ → ℕ → List ℕ
@@ -70,14 +64,14 @@ module _ (p : ℕ) where
   -- "28 bytes each: writer, status, cell, zero, 8 vector places, then for each of 8 desks .."
   unfoldable pub openBytes : ℕ → Option Open → List ℕ
   openBytes u none = replicate (open-bytes p) 0
-  openBytes u (some w) = u ∷ w .status ∷ w .cell ∷ 0 ∷ (words (w .vector) ++ markBytes (w .marks))
+  openBytes u (some w) = u ∷ w .status ∷ w .cell ∷ 0 ∷ (vectorWords (w .vector) ++ markBytes (w .marks))
 
-  abbrev pub named : State → Name → List ℕ
-  named s w = openBytes (w .writer) (s .opens (w .writer) (w .number))
+  abbrev pub openNamed : State → Name → List ℕ
+  openNamed s w = openBytes (w .writer) (s .opens (w .writer) (w .number))
 
   -- "Kind 4, 18 open writes to a block, by writer then number": those of the q-th block, and zeros past the last
   unfoldable pub openPart : State → ℕ → ℕ → List ℕ
-  openPart s q j = getD (map (named s) (names s)) (opens-in p * q + j) (replicate (open-bytes p) 0)
+  openPart s q j = getD (map (openNamed s) (names s)) (opens-in p * q + j) (replicate (open-bytes p) 0)
 
   -- "No kind 4 block when nothing is open."
   abbrev pub openBlocks : State → ℕ

@@ -1,24 +1,12 @@
 -- The readers of a field, and that they read what was written.
-use Prim.Native.Nat.{ℕ, zero, suc, _+_, _*_, _≤_}
-use mathlib.Core.Path.{_≡_, refl, sym, _∙_}
-use mathlib.Core.List.{List, [], _∷_, _++_}
-use mathlib.Core.Option.{Option, none, some}
-use native.Mathlib.Omega.{arith}
-use native.Mathlib.Nat.{div-add-mod', add-zero}
-use lib.Dec.{eqb}
-use borrow.Author.Tests.{ne-eqb}
-use lib.ListN.{length, getD, replicate, length-append, length-replicate, replicate-append-replicate}
-use lib.Seq.{ext-getD}
-use Rattle.laws.specs.Loop.{pick}
-use Rattle.laws.specs.Update.{same-or}
-use Rattle.laws.specs.Tab.{tab, length-tab, getD-tab}
-use Rattle.laws.specs.From.{from1, from1-is}
-use Rattle.laws.specs.Cat.{cat, part, part-whole, part-right, part-left, getD-cat, length-cat}
-use Rattle.machine.specs.Table.{Vec, Cell, blank, set, Open}
-use Rattle.machine.specs.Rules.{Flat}
-use Rattle.image.specs.Encode.{word, words, markBytes, deskBytes, cellBytes, openBytes}
-use Rattle.table.specs.Begin.{zeros-at}
-use Rattle.image.specs.Limits.{vector-at, vector-bytes, after-vector, desk-bytes, cell-bytes, open-bytes}
+use Rattle.laws.specs.Kit.{ℕ, zero, suc, _+_, _*_, _≤_, _≡_, refl, _∙_, List, [], _∷_, _++_, Option, none, some, arith, div-add-mod'}
+use Rattle.laws.specs.Kit.{add-zero, eqb, length, getD, replicate, length-append, length-replicate, replicate-append-replicate, ne-eqb}
+use Rattle.laws.specs.{Loop.{pick}, Update.{same-or}, Tab.{tab, length-tab, getD-tab}, FromOne.{from1, from1-is}, Cat.{cat, part}}
+use Rattle.laws.specs.Cat.{part-whole, part-right, part-left, getD-cat, length-cat}
+use Rattle.machine.specs.{Table.{Vec, Cell, blank, set, Open}, Rules.{Flat}}
+use Rattle.image.specs.{Encode.{word, vectorWords, markBytes, deskBytes, cellBytes, openBytes}, Limits.{vector-at, vector-bytes}}
+use Rattle.image.specs.Limits.{after-vector, desk-bytes, cell-bytes, open-bytes}
+use Rattle.table.specs.Beginning.{zeros-at}
 
 abbrev pub writerIn : List ℕ → ℕ
 writerIn l = getD l 0 0
@@ -28,8 +16,8 @@ pub flat-out : (n : ℕ) (v : Vec) → Flat n v → (t : ℕ) → (1 ≤ t → t
 flat-out n v f t o = same-or (v t) 0 (λ e. e) (λ e. absurd (let h = f t (omega arith) in o (h .0) (h .1)))
 
 -- a vector of zeros
-pub zero-words : (ps : ℕ) → words ps (λ t. 0) ≡ replicate (vector-bytes ps) 0
-unfolding words cat
+pub zero-words : (ps : ℕ) → vectorWords ps (λ t. 0) ≡ replicate (vector-bytes ps) 0
+unfolding vectorWords cat
 zero-words zero = refl
 zero-words (suc ps) =
     let e : vector-bytes (suc ps) ≡ vector-bytes ps + 2 = omega arith in
@@ -45,26 +33,26 @@ module _ (ps : ℕ) where
   unfoldable pub marksOf : List ℕ → Vec
   marksOf l = from1 0 ps (λ t. getD l t 0)
 
-  unfoldable pub cellOf : List ℕ → Cell
-  cellOf l = pick (eqb (getD l 0 0) 0) blank (set (getD l 1 0) (getD l 0 0) (vecOf (part vector-at (vector-bytes ps) l)))
+  unfoldable pub cellRead : List ℕ → Cell
+  cellRead l = pick (eqb (getD l 0 0) 0) blank (set (getD l 1 0) (getD l 0 0) (vecOf (part vector-at (vector-bytes ps) l)))
 
   -- an open write's number is its writer's place in its vector
   unfoldable pub numberIn : List ℕ → ℕ
   numberIn l = vecOf (part vector-at (vector-bytes ps) l) (writerIn l)
 
-  unfoldable pub openOf : List ℕ → Open
-  openOf l = record { cell = getD l 2 0; status = getD l 1 0; vector = vecOf (part vector-at (vector-bytes ps) l); marks = marksOf (part (after-vector ps) ps l) }
+  unfoldable pub openRead : List ℕ → Open
+  openRead l = record { cell = getD l 2 0; status = getD l 1 0; vector = vecOf (part vector-at (vector-bytes ps) l); marks = marksOf (part (after-vector ps) ps l) }
 
-  pub length-words : (v : Vec) → length (words ps v) ≡ vector-bytes ps
-  unfolding words
+  pub length-words : (v : Vec) → length (vectorWords ps v) ≡ vector-bytes ps
+  unfolding vectorWords
   length-words v = length-cat (λ t. word (v (suc t))) 2 (λ j. refl) ps
 
   pub length-marks : (v : Vec) → length (markBytes ps v) ≡ ps
   unfolding markBytes
   length-marks v = length-tab (λ t. v (suc t)) ps
 
-  pub vec-words : (v : Vec) → Flat ps v → vecOf (words ps v) ≡ v
-  unfolding vecOf words
+  pub vec-words : (v : Vec) → Flat ps v → vecOf (vectorWords ps v) ≡ v
+  unfolding vecOf vectorWords
   vec-words v f =
       let w : ℕ → List ℕ = λ t. word (v (suc t)) in
       from1-is 0 ps (λ t. getD (cat w ps) (2 * t + 0) 0 + 256 * getD (cat w ps) (2 * t + 1) 0) v
@@ -78,34 +66,34 @@ module _ (ps : ℕ) where
   marks-bytes v f =
       from1-is 0 ps (λ t. getD (tab ps (λ t. v (suc t))) t 0) v (λ t h. getD-tab (λ t. v (suc t)) ps t 0 h) (flat-out ps v f)
 
-  pub cell-blank : cellOf (cellBytes ps blank) ≡ blank
-  unfolding cellOf cellBytes
+  pub cell-blank : cellRead (cellBytes ps blank) ≡ blank
+  unfolding cellRead cellBytes
   cell-blank = rw (zeros-at (cell-bytes ps) 0)
 
-  pub cell-set : (v u : ℕ) (w : Vec) → 1 ≤ u → Flat ps w → cellOf (cellBytes ps (set v u w)) ≡ set v u w
-  unfolding cellOf cellBytes
+  pub cell-set : (v u : ℕ) (w : Vec) → 1 ≤ u → Flat ps w → cellRead (cellBytes ps (set v u w)) ≡ set v u w
+  unfolding cellRead cellBytes
   cell-set v u w h f =
       rw (
-        part-right (u ∷ v ∷ 0 ∷ 0 ∷ []) (words ps w) vector-at 0 (vector-bytes ps) refl,
-        part-whole (words ps w) (vector-bytes ps) (length-words w),
+        part-right (u ∷ v ∷ 0 ∷ 0 ∷ []) (vectorWords ps w) vector-at 0 (vector-bytes ps) refl,
+        part-whole (vectorWords ps w) (vector-bytes ps) (length-words w),
         vec-words w f,
         ne-eqb u 0 (λ e. omega arith),
       )
 
   -- a vector behind 4 bytes, and what follows it
   module _ (a b c d : ℕ) (v : Vec) (r : List ℕ) where
-    pub vector-part : part vector-at (vector-bytes ps) (a ∷ b ∷ c ∷ d ∷ (words ps v ++ r)) ≡ words ps v
+    pub vector-part : part vector-at (vector-bytes ps) (a ∷ b ∷ c ∷ d ∷ (vectorWords ps v ++ r)) ≡ vectorWords ps v
     vector-part =
         rw (
-          part-right (a ∷ b ∷ c ∷ d ∷ []) (words ps v ++ r) vector-at 0 (vector-bytes ps) refl,
-          part-left (words ps v) r 0 (vector-bytes ps) (omega (arith, length-words v)),
-          part-whole (words ps v) (vector-bytes ps) (length-words v),
+          part-right (a ∷ b ∷ c ∷ d ∷ []) (vectorWords ps v ++ r) vector-at 0 (vector-bytes ps) refl,
+          part-left (vectorWords ps v) r 0 (vector-bytes ps) (omega (arith, length-words v)),
+          part-whole (vectorWords ps v) (vector-bytes ps) (length-words v),
         )
 
-    pub rest-part : (w : ℕ) → length r ≡ w → part (after-vector ps) w (a ∷ b ∷ c ∷ d ∷ (words ps v ++ r)) ≡ r
+    pub rest-part : (w : ℕ) → length r ≡ w → part (after-vector ps) w (a ∷ b ∷ c ∷ d ∷ (vectorWords ps v ++ r)) ≡ r
     rest-part w e =
-        part-right (a ∷ b ∷ c ∷ d ∷ []) (words ps v ++ r) vector-at (vector-bytes ps) w refl
-        ∙ rw add-zero at (part-right (words ps v) r (vector-bytes ps) 0 w (length-words v)) ∙ part-whole r w e
+        part-right (a ∷ b ∷ c ∷ d ∷ []) (vectorWords ps v ++ r) vector-at (vector-bytes ps) w refl
+        ∙ rw add-zero at (part-right (vectorWords ps v) r (vector-bytes ps) 0 w (length-words v)) ∙ part-whole r w e
 
   module _ (u : ℕ) (w : Open) (fv : Flat ps (w .vector)) where
     vector-back : vecOf (part vector-at (vector-bytes ps) (openBytes ps u (some w))) ≡ w .vector
@@ -125,15 +113,15 @@ module _ (ps : ℕ) where
     unfolding numberIn
     number-back = rw (vector-back, writer-back)
 
-    pub open-back : Flat ps (w .marks) → openOf (openBytes ps u (some w)) ≡ w
-    unfolding openOf openBytes
+    pub open-back : Flat ps (w .marks) → openRead (openBytes ps u (some w)) ≡ w
+    unfolding openRead openBytes
     open-back fm = rw (vector-back, marks-back fm)
 
   -- lengths --
 
   pub length-desk : (i : ℕ) (a c : Vec) → length (deskBytes ps i a c) ≡ desk-bytes ps
   unfolding deskBytes
-  length-desk i a c = rw (length-append (words ps a) (words ps c), length-words a, length-words c) (omega arith)
+  length-desk i a c = rw (length-append (vectorWords ps a) (vectorWords ps c), length-words a, length-words c) (omega arith)
 
   pub length-cell : (c : Cell) → length (cellBytes ps c) ≡ cell-bytes ps
   unfolding cellBytes
@@ -143,4 +131,4 @@ module _ (ps : ℕ) where
   pub length-open : (u : ℕ) (o : Option Open) → length (openBytes ps u o) ≡ open-bytes ps
   unfolding openBytes
   length-open u none = length-replicate {A = ℕ} (open-bytes ps) 0
-  length-open u (some w) = rw (length-append (words ps (w .vector)) (markBytes ps (w .marks)), length-words (w .vector), length-marks (w .marks)) (omega arith)
+  length-open u (some w) = rw (length-append (vectorWords ps (w .vector)) (markBytes ps (w .marks)), length-words (w .vector), length-marks (w .marks)) (omega arith)

@@ -1,9 +1,7 @@
 -- Document 01, "Saved image": the numbers of the layout, each named once. A vector has p places: 8 in edition 1, and from that the document's
 -- 20, 25, 28, 18 and 37 follow (edition-1).
-use Prim.Native.Nat.{ℕ, _+_, _-_, _*_, _/_, _<_, _≤_}
-use mathlib.Core.Path.{_≡_, refl}
-use native.Mathlib.Omega.{arith}
-use native.Mathlib.Nat.{mul-div-le, div-mul-le-self, le-div-iff-mul-le, div-lt-iff-lt-mul, lt-div-mul-add}
+use Rattle.laws.specs.Kit.{ℕ, _+_, _-_, _*_, _/_, _<_, _≤_, _≡_, refl, arith, mul-div-le, div-mul-le-self, le-div-iff-mul-le}
+use Rattle.laws.specs.Kit.{div-lt-iff-lt-mul, lt-div-mul-add}
 use Rattle.machine.specs.Table.{most-writes, most-cells, most-open}
 use Rattle.clock.specs.Vectors.{places}
 

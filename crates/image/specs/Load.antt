@@ -1,24 +1,11 @@
 -- Loading: what an image is accepted as, and which number refuses it.
-use Prim.Native.Nat.{ℕ}
-use mathlib.Core.Path.{_≡_, refl, sym, ap, _∙_}
-use mathlib.Core.Logic.{_↔_}
-use mathlib.Core.Bool.{Bool, true}
-use mathlib.Core.List.{List}
-use Rattle.laws.specs.Loop.{pick, cases}
-use Rattle.laws.specs.Says.{Says, apart}
+use Rattle.laws.specs.{Kit.{ℕ, _≡_, refl, sym, ap, _∙_, _↔_, Bool, true, List, arith}, Loop.{pick, cases}, Says.{Says, apart}}
 use Rattle.laws.specs.Tests.{same, says-same}
-use Rattle.machine.specs.Table.{State}
-use Rattle.machine.specs.Answer.{Refusal, damaged, broken}
-use Rattle.machine.specs.Rules.{Rules}
-use Rattle.image.specs.Encode.{encode}
-use Rattle.image.specs.Decode.{decode, decode-encode}
-use Rattle.image.specs.Sound.{Sound, Damaged, sound, says-sound, sound-encode}
-use Rattle.machine.specs.Keeps.{keeps}
-use Rattle.machine.specs.Tells.{says-rules}
-use Rattle.image.specs.Shape.{shaped}
-use native.Mathlib.Omega.{arith}
+use Rattle.machine.specs.{Table.{State}, Answer.{Refusal, damaged, broken}, Rules.{Rules}, RulesTest.{keeps}}
+use Rattle.machine.specs.Proofs.RulesTestTells.{says-rules}
+use Rattle.image.specs.{Encode.{encode}, Decode.{decode, decode-encode}, Damage.{Undamaged, Damaged, sound, says-sound, sound-encode}}
+use Rattle.image.specs.{Link.ReadShape.{shaped}, Limits.{wide}}
 use Rattle.clock.specs.Vectors.{places}
-use Rattle.image.specs.Limits.{wide}
 
 pub data Loaded : Type 0 where
   refused : Refusal → Loaded
@@ -34,11 +21,11 @@ load b =
 -- what loading b comes to, said without reading: b is the image of a table that keeps the rules, or it is refused
 pub data Loads (b : List ℕ) : Loaded → Type 0 where
   by-damage : Damaged b → Loads b (refused damaged)
-  by-rule : Sound b → ((s : State) → Rules s → encode s ≡ b → ⊥) → Loads b (refused broken)
+  by-rule : Undamaged b → ((s : State) → Rules s → encode s ≡ b → ⊥) → Loads b (refused broken)
   as-saved : (s : State) → Rules s → encode s ≡ b → Loads b (loaded s)
 
 -- an image is not damaged
-image-sound : (b : List ℕ) (s : State) → encode s ≡ b → Sound b
+image-sound : (b : List ℕ) (s : State) → encode s ≡ b → Undamaged b
 image-sound b s e = rw e at (sound-encode places wide s)
 
 -- Any reader loads right that reads images right: what it reads has its rules tested, is saved again and compared.
@@ -92,7 +79,7 @@ load-loads b =
 is-damaged : (b : List ℕ) → Loads b (refused damaged) → Damaged b
 is-damaged b (by-damage h) = h
 
-is-broken : (b : List ℕ) → Loads b (refused broken) → Sound b × ((s : State) → Rules s → encode s ≡ b → ⊥)
+is-broken : (b : List ℕ) → Loads b (refused broken) → Undamaged b × ((s : State) → Rules s → encode s ≡ b → ⊥)
 is-broken b (by-rule h f) = (h, f)
 
 is-saved : (b : List ℕ) (s : State) → Loads b (loaded s) → Rules s × (encode s ≡ b)
@@ -101,7 +88,7 @@ is-saved b s (as-saved t r e) = (r, e)
 pub load-12 : (b : List ℕ) → (load b ≡ refused damaged) ↔ Damaged b
 load-12 b = (λ e. is-damaged b (rw e at (load-loads b)), λ h. sym (loads-is b (refused damaged) (by-damage h)))
 
-pub load-13 : (b : List ℕ) → (load b ≡ refused broken) ↔ (Sound b × ((s : State) → Rules s → encode s ≡ b → ⊥))
+pub load-13 : (b : List ℕ) → (load b ≡ refused broken) ↔ (Undamaged b × ((s : State) → Rules s → encode s ≡ b → ⊥))
 load-13 b = (λ e. is-broken b (rw e at (load-loads b)), λ h. sym (loads-is b (refused broken) (by-rule (h .0) (h .1))))
 
 pub load-is : (b : List ℕ) (s : State) → (load b ≡ loaded s) ↔ (Rules s × (encode s ≡ b))

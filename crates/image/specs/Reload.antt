@@ -1,24 +1,13 @@
 -- Saving a table and loading it again, as a step of a schedule: demand 3, the condition on blanks and the paper's run with nothing assumed.
-use mathlib.Core.Path.{_≡_, ap}
-use mathlib.Core.List.{List, List·Memᴰ}
-use mathlib.Core.Logic.{_↔_}
-use Prim.Native.Nat.{ℕ}
-use Rattle.machine.specs.Table.{most-desks, most-cells, Name, State, fresh}
-use Rattle.machine.specs.Answer.{unset}
-use Rattle.machine.specs.Steps.{shownAt, Deliver, step}
-use Rattle.machine.specs.Rules.{In, Rules}
-use Rattle.machine.specs.Refusals.{Accepted}
-use Rattle.machine.specs.History.{Event, Act, run, history}
-use Rattle.machine.specs.Blanks.{Unwritten}
-use Rattle.machine.specs.Demand3.{Demand3}
-use Rattle.machine.specs.PaperRuns.{RunsAsPaper, ReceivedIsSent}
-use Rattle.machine.specs.Past.{X-co-safe, Enabling}
+use Rattle.laws.specs.Kit.{_≡_, ap, List, List·Memᴰ, _↔_, ℕ}
+use Rattle.machine.specs.{Table.{most-desks, most-cells, Name, State, fresh}, Answer.{unset}, Steps.{shownAt, Deliver, step}}
+use Rattle.machine.specs.{Rules.{In, Rules}, Refusals.{Accepted}, History.{Event, Act, run, history}, Blanks.{Unwritten}, Demand3.{Demand3}}
+use Rattle.machine.specs.{PaperRuns.{RunsAsPaper, ReceivedIsSent}, Past.{X-co-safe, Enabling}}
 use Rattle.machine.specs.Proofs.Blanks as blanks
 use Rattle.machine.specs.Proofs.PaperRuns as paper
 use Rattle.machine.specs.Proofs.Past as past
 use Rattle.machine.specs.Proofs.Demand3 as machine
-use Rattle.image.specs.Encode.{encode}
-use Rattle.image.specs.Load.{Loaded, refused, loaded, load, load-encode}
+use Rattle.image.specs.{Encode.{encode}, Load.{Loaded, refused, loaded, load, load-encode}}
 
 -- a refused image leaves the table that was
 abbrev pub afterLoad : State → Loaded → State

@@ -1,16 +1,8 @@
 -- The answer to a save: document 01's number and values for every case of it, and what it leaves in the buffer.
-use Prim.Native.Nat.{ℕ, _<_, _≤_}
-use mathlib.Core.Path.{_≡_}
-use mathlib.Core.List.{List}
-use lib.ListN.{length}
-use lib.Seq.{sets}
+use Rattle.laws.specs.Kit.{ℕ, _<_, _≤_, _≡_, List, length, sets}
 use Rattle.machine.specs.Answer.{Refusal, broken, short}
-use Rattle.table.specs.declared.Table.{Table}
-use Rattle.table.specs.Model.{modelOf}
-use Rattle.table.specs.Sound.{SoundTable}
-use Rattle.image.specs.declared.Saving.{Saving}
-use Rattle.image.specs.declared.Saving.the-variants.{Length, Broken, Short}
-use Rattle.image.specs.Encode.{encode}
+use Rattle.table.specs.{declared.Table.{Table}, Model.{modelOf}, Sound.{SoundTable}}
+use Rattle.image.specs.{declared.Saving.{Saving}, declared.Saving.the-variants.{Length, Broken, Short}, Encode.{encode}}
 
 -- the image's length, or a refusal
 pub data SaveAnswer : Type 0 where

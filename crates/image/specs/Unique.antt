@@ -1,21 +1,9 @@
 -- A save comes to one answer and one buffer.
-use Prim.Native.Nat.{ℕ}
-use mathlib.Core.Path.{_≡_, refl, sym, ap, _∙_}
-use mathlib.Core.Bool.{Bool, true, false}
-use mathlib.Core.List.{List}
-use borrow.Author.Tests.{le-leb, lt-leb}
-use lib.Dec.{eqb, leb}
-use lib.ListN.{length}
-use lib.Seq.{sets}
-use Rattle.laws.specs.Loop.{pick, cases}
-use Rattle.laws.specs.Says.{Says, clash}
+use Rattle.laws.specs.Kit.{ℕ, _≡_, refl, sym, ap, _∙_, Bool, true, false, List, le-leb, lt-leb, eqb, leb, length, sets}
+use Rattle.laws.specs.{Loop.{pick, cases}, Says.{Says, clash}}
 use Rattle.machine.specs.Answer.{broken, short, numberOf}
-use Rattle.table.specs.declared.Table.{Table}
-use Rattle.table.specs.Model.{modelOf}
-use Rattle.table.specs.Sound.{SoundTable}
-use Rattle.image.specs.declared.Saving.{Saving}
-use Rattle.image.specs.declared.Saving.the-variants.{Length, Broken, Short}
-use Rattle.image.specs.Encode.{encode}
+use Rattle.table.specs.{declared.Table.{Table}, Model.{modelOf}, Sound.{SoundTable}}
+use Rattle.image.specs.{declared.Saving.{Saving}, declared.Saving.the-variants.{Length, Broken, Short}, Encode.{encode}}
 use Rattle.image.specs.Saving.{SaveAnswer, long, refused, savingOf, Saves, by-rule, by-room, as-image}
 
 -- the answer and the buffer, by whether the value keeps the rules

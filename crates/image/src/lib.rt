@@ -9,36 +9,52 @@ ghost use Rattle.laws.specs.Cat.{cat};
 ghost use Rattle.clock.specs.Vectors.{places, place};
 ghost use Rattle.image.specs.Limits.{block-bytes, check-at, vector-bytes, after-vector, open-bytes, cells-in, opens-in, blocks-for, row-most, rows-most, opens-most};
 ghost use Rattle.image.specs.Check.{checkOf};
-ghost use Rattle.image.specs.Encode.{word, long, words, markBytes, deskBytes, block, perDesk, encode};
-ghost use Rattle.image.specs.Sound.{rightCheck, sound};
-ghost use Rattle.image.specs.Block.{head, openRaw, SmallOpen};
-ghost use Rattle.image.specs.Parts.{CellsFit, cellPiece, OrderFits, openPiece};
+ghost use Rattle.image.specs.Encode.{word, long, vectorWords, markBytes, deskBytes, block, perDesk, encode};
+ghost use Rattle.image.specs.Damage.{rightCheck, sound};
+ghost use Rattle.image.specs.Mirror.Block.{head, openRaw, SmallOpen};
+ghost use Rattle.image.specs.Mirror.TableBytes.{CellsFit, cellPiece, OrderFits, openPiece};
 ghost use Rattle.machine.specs.Table.{most-writes};
 ghost use Rattle.machine.specs.Rules.{In};
 ghost use Rattle.table.specs.Value.{desk-cells, entries};
 ghost use Rattle.table.specs.Model.{appliedM, opensM, model, modelOf, tableWith};
 ghost use Rattle.table.specs.Sound.{Sound};
-ghost use Rattle.image.specs.Counted.{low, counted};
-ghost use Rattle.image.specs.Order.{Listed, Ordered, Known};
-ghost use Rattle.image.specs.Places.{blockAt};
-ghost use Rattle.image.specs.Saved.{Planned, Saved};
+ghost use Rattle.image.specs.Link.OrderFromCounts.{low, counted};
+ghost use Rattle.image.specs.Mirror.EntryOrder.{Listed, InOrder, Known};
+ghost use Rattle.image.specs.Link.FieldPlaces.{blockAt};
+ghost use Rattle.image.specs.Link.SavedIsImage.{Planned, Saved};
 ghost use Rattle.image.specs.Saving.{Saves, savingOf};
 use clock::PLACES;
-use table::CELL;
 use table::CELLS;
 use table::Cell;
+use table::Cells;
 use table::Core;
 use table::Desk;
 use table::Found;
-use table::OPEN;
 use table::OPENS;
 use table::Open;
+use table::Opens;
 use table::Table;
 
 // Bytes to a block.
 pub const BLOCK: usize = 512;
 // Where its payload stands.
 pub const PAYLOAD_AT: usize = 4;
+// What the payload of kind 1 begins with: desks, cells, open writes.
+pub const DESKS_AT: usize = PAYLOAD_AT;
+
+pub const CELLS_AT: usize = PAYLOAD_AT + 1;
+
+pub const COUNT_AT: usize = PAYLOAD_AT + 2;
+// The edition, and the kinds of a block.
+const EDITION: u8 = 1;
+
+const SIZE_KIND: u8 = 1;
+
+const DESK_KIND: u8 = 2;
+
+const CELL_KIND: u8 = 3;
+
+const OPEN_KIND: u8 = 4;
 // Where its check stands.
 pub const CHECK: usize = 508;
 // Where the vector of a desk, a cell and an open write stands: behind 4 bytes.
@@ -159,7 +175,7 @@ fn put_word(b: &mut [u8; BLOCK], at: usize, x: u16)
 
 fn put_words(b: &mut [u8; BLOCK], at: usize, v: [u16; PLACES])
     requires { ⌜ at + vector-bytes places ≤ block-bytes ⌝ }
-    ensures { λ _. ⌜ now (b .exit) ≡ sets (now (b .entry)) at (words places (place v)) ⌝ }
+    ensures { λ _. ⌜ now (b .exit) ≡ sets (now (b .entry)) at (vectorWords places (place v)) ⌝ }
 {
     let mut t = 0;
     while t < PLACES {
@@ -183,7 +199,7 @@ fn put_marks(b: &mut [u8; BLOCK], at: usize, v: [u16; PLACES])
 // What begins with 4 bytes and a vector: a desk, a cell, an open write.
 fn put_record(b: &mut [u8; BLOCK], at: usize, x: u16, y: u16, z: u16, v: [u16; PLACES])
     requires { ⌜ (at + after-vector places ≤ block-bytes) × ((x < 256) × ((y < 256) × (z < 256))) ⌝ }
-    ensures { λ _. ⌜ now (b .exit) ≡ sets (now (b .entry)) at (x ∷ y ∷ z ∷ 0 ∷ words places (place v)) ⌝ }
+    ensures { λ _. ⌜ now (b .exit) ≡ sets (now (b .entry)) at (x ∷ y ∷ z ∷ 0 ∷ vectorWords places (place v)) ⌝ }
 {
     b[at] = byte(x);
     b[at + 1] = byte(y);
@@ -207,7 +223,7 @@ fn put_head(b: &mut [u8; BLOCK], kind: u8, at: u16)
     ensures { λ _. ⌜ now (b .exit) ≡ sets (now (b .entry)) 0 (head kind at) ⌝ }
 {
     b[0] = kind;
-    b[1] = 1;
+    b[1] = EDITION;
     put_word(b, 2, at);
 }
 
@@ -217,7 +233,7 @@ fn desk_block(k: u16, d: Desk) -> [u8; BLOCK]
     ensures { λ r. ⌜ r ≡ block 2 k (deskBytes places k (place (d .applied)) (place (d .clock .at))) ⌝ }
 {
     let mut b = [0u8; BLOCK];
-    put_head(&mut b, 2, k);
+    put_head(&mut b, DESK_KIND, k);
     let applied = d.applied;
     put_record(&mut b, PAYLOAD_AT, k, 0, 0, applied);
     let clock = d.clock;
@@ -233,10 +249,10 @@ fn size_block(n: u16, m: u16, count: u16) -> [u8; BLOCK]
     ensures { λ r. ⌜ r ≡ block 1 0 (n ∷ m ∷ count ∷ []) ⌝ }
 {
     let mut b = [0u8; BLOCK];
-    put_head(&mut b, 1, 0);
-    b[4] = byte(n);
-    b[5] = byte(m);
-    b[6] = byte(count);
+    put_head(&mut b, SIZE_KIND, 0);
+    b[DESKS_AT] = byte(n);
+    b[CELLS_AT] = byte(m);
+    b[COUNT_AT] = byte(count);
     seal(&mut b);
     b
 }
@@ -248,12 +264,12 @@ fn least(a: usize, b: usize) -> usize
 }
 
 // Block q of the cells of desk i, from 0.
-fn cell_block(at: u16, cells: &[u16; PLACES * CELLS * CELL], i: usize, q: usize) -> [u8; BLOCK]
+fn cell_block(at: u16, cells: &Cells, i: usize, q: usize) -> [u8; BLOCK]
     requires { ⌜ (i < places) × ((q < row-most places) × CellsFit places (now cells)) ⌝ }
     ensures { λ r. ⌜ r ≡ block 3 at (cat (cellPiece places (now (cells .entry)) i q) (cells-in places)) ⌝ }
 {
     let mut b = [0u8; BLOCK];
-    put_head(&mut b, 3, at);
+    put_head(&mut b, CELL_KIND, at);
     let first = CELLS_IN * q;
     let end = least(CELLS, first + CELLS_IN);
     let mut j = 0;
@@ -275,18 +291,12 @@ fn cell_block(at: u16, cells: &[u16; PLACES * CELLS * CELL], i: usize, q: usize)
 }
 
 // Block q of the open writes.
-fn open_block(
-    at: u16,
-    opens: &[u16; OPENS * OPEN],
-    order: &[usize; OPENS],
-    count: usize,
-    q: usize,
-) -> [u8; BLOCK]
+fn open_block(at: u16, opens: &Opens, order: &[usize; OPENS], count: usize, q: usize) -> [u8; BLOCK]
     requires { ⌜ (q < opens-most places) × OrderFits (now opens) (now order) count ⌝ }
     ensures { λ r. ⌜ r ≡ block 4 at (cat (openPiece places (now (opens .entry)) (now (order .entry)) count q) (opens-in places)) ⌝ }
 {
     let mut b = [0u8; BLOCK];
-    put_head(&mut b, 4, at);
+    put_head(&mut b, OPEN_KIND, at);
     let first = OPENS_IN * q;
     let end = least(count, first + OPENS_IN);
     let mut j = 0;
@@ -317,8 +327,8 @@ pub fn copy(part: &[u8], len: usize, out: &mut [u8], at: usize)
 // The block at place k: the sizes, the desks, then their cells, c blocks to a desk, and from place e on the open writes.
 fn block_at(
     core: Core,
-    cells: &[u16; PLACES * CELLS * CELL],
-    opens: &[u16; OPENS * OPEN],
+    cells: &Cells,
+    opens: &Opens,
     order: &[usize; OPENS],
     count: usize,
     c: usize,
@@ -348,8 +358,8 @@ fn block_at(
 
 fn save_blocks(
     core: Core,
-    cells: &[u16; PLACES * CELLS * CELL],
-    opens: &[u16; OPENS * OPEN],
+    cells: &Cells,
+    opens: &Opens,
     order: &[usize; OPENS],
     count: usize,
     c: usize,
@@ -425,14 +435,7 @@ fn open_count(desks: [Desk; PLACES], n: usize) -> usize
 }
 
 // The entries of desk u's writes lo + 1 to own, u from 1, put into the order from place p on.
-fn order_of(
-    opens: &[u16; OPENS * OPEN],
-    u: usize,
-    lo: u16,
-    own: u16,
-    order: &mut [usize],
-    p: usize,
-) -> usize
+fn order_of(opens: &Opens, u: usize, lo: u16, own: u16, order: &mut [usize], p: usize) -> usize
     requires { ⌜ (In places u) × ((lo ≤ own) × (p + (own - lo) ≤ length (now order))) ⌝ }
     requires { ⌜ ((k : ℕ) → lo < k → k ≤ own → opensM (now opens) u k ≡ none → ⊥) ⌝ }
     ensures { λ r. ⌜ Listed (now (opens .entry)) u lo own p (now (order .entry)) (now (order .exit)) r ⌝ }
@@ -452,14 +455,9 @@ fn order_of(
 }
 
 // The entries of all open writes in their order, and how many there are.
-fn order_all(
-    opens: &[u16; OPENS * OPEN],
-    desks: [Desk; PLACES],
-    n: usize,
-    order: &mut [usize],
-) -> usize
+fn order_all(opens: &Opens, desks: [Desk; PLACES], n: usize, order: &mut [usize]) -> usize
     requires { ⌜ (n ≤ places) × ((length (now order) ≡ entries) × Known n desks (now opens)) ⌝ }
-    ensures { λ r. ⌜ Ordered (now (opens .entry)) (counted n (appliedM desks)) (now (order .exit)) r ⌝ }
+    ensures { λ r. ⌜ InOrder (now (opens .entry)) (counted n (appliedM desks)) (now (order .exit)) r ⌝ }
 {
     let mut count = 0;
     let mut u = 0;
@@ -520,12 +518,7 @@ pub fn image_length(core: Core) -> usize
 }
 
 // The image of a table that keeps the rules, into a buffer that is long enough. The result is the image's length.
-pub fn save_parts(
-    core: Core,
-    cells: &[u16; PLACES * CELLS * CELL],
-    opens: &[u16; OPENS * OPEN],
-    out: &mut [u8],
-) -> usize
+pub fn save_parts(core: Core, cells: &Cells, opens: &Opens, out: &mut [u8]) -> usize
     requires { ⌜ Sound (core .n) (core .m) (core .desks) (now cells) (now opens) ⌝ }
     requires { ⌜ length (encode (model (core .n) (core .m) (core .desks) (now cells) (now opens))) ≤ length (now out) ⌝ }
     ensures { λ r. ⌜ Saved (model (core .n) (core .m) (core .desks) (now (cells .entry)) (now (opens .entry))) (now (out .entry)) (now (out .exit)) r ⌝ }

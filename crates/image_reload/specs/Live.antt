@@ -1,16 +1,10 @@
 -- A table value that a schedule goes on from: it keeps the rules, or is the zeros of no table.
-use mathlib.Core.Path.{refl}
-use mathlib.Core.List.{List}
-use mathlib.Core.Option.{some}
+use mathlib.Core.{Path.{refl}, List.{List}, Option.{some}}
 use Prim.Native.Nat.{ℕ}
-use Rattle.table.specs.declared.Table.{Table}
-use Rattle.table.specs.declared.Begun.{Begun}
-use Rattle.table.specs.Begin.{freshTable, beginTable, Begins}
-use Rattle.table.specs.Model.{modelOf}
+use Rattle.table.specs.{declared.Table.{Table}, declared.Begun.{Begun}, Beginning.{freshTable, beginTable, Begins}, Model.{modelOf}}
 use Rattle.session.specs.Holds.{SomeSession, zero-holds}
-use Rattle.load.specs.declared.Outcome.{Outcome}
+use Rattle.load.specs.{declared.Outcome.{Outcome}, Loading.{Answers}}
 use Rattle.load.specs.declared.Outcome.the-variants as outcome
-use Rattle.load.specs.Loading.{Answers}
 
 abbrev pub Live : Table → Type 0
 Live t = SomeSession t

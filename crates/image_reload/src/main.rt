@@ -3,16 +3,11 @@
 // The schedule on standard input is run on two tables. The first is never saved; the second is saved and reloaded, in a first run where a line S
 // stands, in a second run after every step. For each step: the answers of both, whether these are the same, and whether the saved images are.
 ghost use Rattle.image_reload.specs.Live.{Live};
-use clock::PLACES;
 use image::IMAGE;
 use image::Saving;
 use libc::STDIN_FILENO;
 use libc::STDOUT_FILENO;
 use load::Outcome;
-use table::CELL;
-use table::CELLS;
-use table::OPEN;
-use table::OPENS;
 use table::Table;
 
 // The most bytes of the schedule.

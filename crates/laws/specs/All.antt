@@ -1,9 +1,5 @@
 -- A test of each of the n indexes from at on.
-use Prim.Native.Nat.{ℕ, zero, suc, _+_, _-_, _<_, _≤_}
-use mathlib.Core.Path.{_≡_, refl, sym, ap, _∙_}
-use mathlib.Core.Bool.{Bool, true, false, not}
-use native.Mathlib.Omega.{arith}
-use borrow.Author.Tests.{not-false}
+use Rattle.laws.specs.Kit.{ℕ, zero, suc, _+_, _-_, _<_, _≤_, _≡_, refl, sym, ap, _∙_, Bool, true, false, not, arith, not-false}
 use Rattle.laws.specs.Loop.{scan, turns, scan-miss, scan-here, scan-next, scan-end, scan-same, cases}
 
 unfoldable pub all : (ℕ → Bool) → ℕ → ℕ → Bool

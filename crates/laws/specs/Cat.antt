@@ -1,13 +1,7 @@
 -- Lists put together of pieces, f 0, f 1, ..; and a part of a list, cut out.
-use Prim.Native.Nat.{ℕ, zero, suc, _+_, _*_, _<_, _≤_}
-use mathlib.Core.Path.{_≡_, refl, _∙_}
-use mathlib.Core.Logic.{inl, inr}
-use mathlib.Core.List.{List, [], _++_}
-use native.Mathlib.Omega.{arith}
-use native.Mathlib.Nat.{eq-or-lt-of-le, add-zero}
-use lib.ListN.{length, getD, take, drop, length-append, length-drop, List·getD-append}
-use lib.Seq.{drop-append-add, drop-append-le, take-append-le, getD-append-add, take-length}
-use Rattle.laws.specs.Sum.{sum}
+use Rattle.laws.specs.Kit.{ℕ, zero, suc, _+_, _*_, _<_, _≤_, _≡_, refl, _∙_, inl, inr, List, [], _++_, arith, eq-or-lt-of-le}
+use Rattle.laws.specs.Kit.{add-zero, length, getD, take, drop, length-append, length-drop, List·getD-append, drop-append-add}
+use Rattle.laws.specs.{Kit.{drop-append-le, take-append-le, getD-append-add, take-length}, Sum.{sum}}
 
 -- f 0 ++ .. ++ f (n - 1)
 unfoldable pub cat : {A : Type 0} → (ℕ → List A) → ℕ → List A
@@ -53,11 +47,6 @@ module _ {A : Type 0} (f : ℕ → List A) where
         | inl q ↦ let z : u ≡ n = omega arith in rw z (part-right (cat f n) (f n) k p w (rw z at e))
         | inr q ↦ part-left (cat f n) (f n) (k + p) w (omega (arith, cat-le n u (omega arith))) ∙ part-cat n u k p w (omega arith) e g
       ]
-
-  -- .. where something follows the pieces
-  pub part-in : (rest : List A) (n u k p w : ℕ) → u < n → length (cat f u) ≡ k → p + w ≤ length (f u) → part (k + p) w (cat f n ++ rest) ≡ part p w (f u)
-  part-in rest n u k p w h e g =
-      part-left (cat f n) rest (k + p) w (omega (arith, cat-le n u h)) ∙ part-cat n u k p w h e g
 
   -- .. and the whole piece
   pub piece-cat : (n u k w : ℕ) → u < n → length (cat f u) ≡ k → length (f u) ≡ w → part k w (cat f n) ≡ f u

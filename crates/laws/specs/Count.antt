@@ -1,10 +1,5 @@
 -- How many elements pass a test, and what a store does to that.
-use Prim.Native.Nat.{ℕ, zero, suc, _+_, _-_, _<_, _≤_}
-use mathlib.Core.Path.{_≡_, refl, sym, ap, _∙_}
-use mathlib.Core.List.{List, [], _∷_, _++_}
-use mathlib.Core.Bool.{Bool, true, false}
-use native.Mathlib.Omega.{arith}
-use lib.ListN.{length, getD, set}
+use Rattle.laws.specs.Kit.{ℕ, zero, suc, _+_, _<_, _≤_, _≡_, refl, List, [], _∷_, _++_, Bool, true, false, arith, length, getD, set}
 use Rattle.laws.specs.Loop.{pick, cases}
 
 unfoldable pub count : {A : Type 0} → (A → Bool) → List A → ℕ

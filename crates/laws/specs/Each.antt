@@ -1,11 +1,6 @@
 -- What holds of each element of a list.
-use Prim.Native.Nat.{ℕ, zero, suc, _+_, _<_}
-use mathlib.Core.Path.{_≡_, refl, _∙_}
-use mathlib.Core.List.{List, [], _∷_, _++_, map}
-use native.Mathlib.Omega.{arith}
-use lib.ListN.{length, getD, replicate}
-use Rattle.laws.specs.Tab.{tab, tabFrom}
-use Rattle.laws.specs.Cat.{cat, cat-le, getD-cat}
+use Rattle.laws.specs.Kit.{ℕ, zero, suc, _+_, _<_, _≡_, refl, _∙_, List, [], _∷_, _++_, map, arith, length, getD, replicate}
+use Rattle.laws.specs.{Tab.{tab, tabFrom}, Cat.{cat, cat-le, getD-cat}}
 
 pub data Each {A : Type 0} (P : A → Type 0) : List A → Type 0 where
   no : Each P []
@@ -50,12 +45,12 @@ module _ {A : Type 0} (P : A → Type 0) where
   each-map f Q h l (and {x = b} {l = r} q e) = and (h b q) (each-map f Q h r e)
 
 -- a stands in l
-pub record Has {A : Type 0} (l : List A) (d a : A) : Type 0 where
+pub record StandsAt {A : Type 0} (l : List A) (d a : A) : Type 0 where
   pub at : ℕ
   pub small : at < length l
   pub is : getD l at d ≡ a
 
-pub has-cat : {A : Type 0} (f : ℕ → List A) (n u : ℕ) (d a : A) → u < n → Has (f u) d a → Has (cat f n) d a
+pub has-cat : {A : Type 0} (f : ℕ → List A) (n u : ℕ) (d a : A) → u < n → StandsAt (f u) d a → StandsAt (cat f n) d a
 has-cat f n u d a h g =
     record {
       at = length (cat f u) + g .at;

@@ -1,11 +1,6 @@
 -- A list with one more element at its end.
-use Prim.Native.Nat.{ℕ, zero, suc, _<_}
-use mathlib.Core.Path.{_≡_, refl, sym, ap, _∙_, subst}
-use mathlib.Core.List.{List, [], _∷_, _++_, append-nil, append-assoc, List·Memᴰ, List·Memᴰ·head, List·Memᴰ·tail}
-use mathlib.Core.Option.{some}
-use native.Mathlib.Omega.{arith}
-use lib.ListN.{length, getElem?}
-use Rattle.laws.specs.Says.{clash}
+use Rattle.laws.specs.Kit.{ℕ, zero, suc, _<_, _≡_, refl, sym, ap, _∙_, subst, List, [], _∷_, _++_, append-nil, append-assoc}
+use Rattle.laws.specs.{Kit.{List·Memᴰ, List·Memᴰ·head, List·Memᴰ·tail, some, arith, length, getElem?}, Says.{clash}}
 
 -- the element b stands at the place p of l, or is the new one
 pub data AtEnd {A : Type 0} (l : List A) (a : A) (p : ℕ) (b : A) : Type 0 where

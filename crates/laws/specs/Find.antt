@@ -1,14 +1,6 @@
 -- The first element of a list that passes a test, and what a store does to that.
-use Prim.Native.Nat.{ℕ, zero, suc, _+_, _-_, _<_, _≤_}
-use mathlib.Core.Path.{_≡_, refl, sym, ap, _∙_}
-use mathlib.Core.Bool.{Bool, true, false}
-use mathlib.Core.List.{List, [], _∷_}
-use mathlib.Core.Option.{Option, none, some}
-use native.Mathlib.Omega.{arith}
-use native.Mathlib.Nat.{not-suc-le-zero, le-of-suc-le-suc}
-use lib.ListN.{length, getD, set}
-use lib.Seq.{set-getD}
-use Rattle.laws.specs.Loop.{pick, cases}
+use Rattle.laws.specs.Kit.{ℕ, zero, suc, _<_, _≡_, refl, sym, ap, _∙_, Bool, true, false, List, [], _∷_, Option, none, some, arith}
+use Rattle.laws.specs.{Kit.{not-suc-le-zero, le-of-suc-le-suc, length, getD, set, set-getD}, Loop.{pick, cases}}
 
 unfoldable pub firstOf : {A B : Type 0} → (A → Bool) → (A → B) → List A → Option B
 firstOf p g [] = none

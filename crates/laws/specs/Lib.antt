@@ -1,3 +1,4 @@
+pub mod Kit
 pub mod Loop
 pub mod All
 pub mod Says
@@ -8,13 +9,12 @@ pub mod Ends
 pub mod Find
 pub mod Count
 pub mod Tab
-pub mod Put
-pub mod Own
 pub mod Cat
 pub mod Each
-pub mod Chunk
-pub mod From
 pub mod Tests
 pub mod Stores
 pub mod Text
 pub mod Rows
+pub mod FromOne
+pub mod Owned
+pub mod StoresRead

@@ -1,15 +1,7 @@
 -- Tests of a list's elements.
-use mathlib.Core.Path.{_≡_, refl, sym, ap, _∙_}
-use mathlib.Core.Logic.{_↔_, ⊎-elim}
-use mathlib.Core.Bool.{Bool, true, false, _&&_}
-use mathlib.Core.List.{List, [], _∷_, map, List·Memᴰ, List·Memᴰ·head, List·Memᴰ·tail, List·Memᴰ·not-nil, List·Memᴰ·cases-cons}
-use Prim.Native.Nat.{ℕ, zero, suc, _+_, _<_, _≤_}
-use native.Mathlib.Omega.{arith}
-use native.Mathlib.Numerals.{add-one}
-use lib.ListN.{length, getD, drop, drop-of-length-le}
-use lib.Seq.{drop-cons}
-use Rattle.laws.specs.Loop.{cases}
-use Rattle.laws.specs.Says.{Says, says-as, clash, apart}
+use Rattle.laws.specs.Kit.{_≡_, refl, sym, ap, _∙_, ⊎-elim, Bool, true, false, List, [], _∷_, map, List·Memᴰ, List·Memᴰ·head}
+use Rattle.laws.specs.Kit.{List·Memᴰ·tail, List·Memᴰ·not-nil, List·Memᴰ·cases-cons, ℕ, zero, suc, _+_, _<_, _≤_, arith, add-one}
+use Rattle.laws.specs.{Kit.{length, getD, drop, drop-of-length-le, drop-cons}, Loop.{cases}, Says.{Says, says-as, clash, apart}}
 
 unfoldable pub any : {A : Type 0} → (A → Bool) → List A → Bool
 any p [] = false

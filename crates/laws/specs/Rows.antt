@@ -1,18 +1,8 @@
 -- A flat list of numbers as rows of one width: a part of it, a row stored, one number of a row stored. Of every width and count.
-use Prim.Native.Nat.{ℕ, zero, suc, _+_, _*_, _<_, _≤_}
-use mathlib.Core.Path.{_≡_, refl, sym, ap, _∙_}
-use mathlib.Core.List.{List, [], _∷_, _++_}
-use native.Mathlib.Omega.{arith}
-use native.Mathlib.Numerals.{add-one}
-use native.Mathlib.Nat.{suc-mul, mul-le-mul-right, add-zero}
-use borrow.Author.Tests.{ltb-true, ltb-false}
-use lib.Dec.{ltb}
-use lib.ListN.{length, getD, set, drop, length-set, drop-of-length-le}
-use lib.Seq.{sets, getD-set-same, getD-set-other, ext-getD, drop-cons}
-use Rattle.laws.specs.Loop.{cases}
-use Rattle.laws.specs.Tab.{tab, tabFrom, getD-tab, length-tab}
-use Rattle.laws.specs.Update.{same-or}
-use Rattle.laws.specs.Put.{getD-sets, getD-sets-below, getD-sets-above}
+use Rattle.laws.specs.Kit.{ℕ, zero, suc, _+_, _*_, _<_, _≤_, _≡_, refl, sym, ap, _∙_, List, arith, add-one, suc-mul, mul-le-mul-right}
+use Rattle.laws.specs.Kit.{ltb-true, ltb-false, ltb, length, getD, set, drop, length-set, drop-of-length-le, sets, getD-set-same}
+use Rattle.laws.specs.{Kit.{getD-set-other, ext-getD, drop-cons}, Loop.{cases}, Tab.{tab, tabFrom, getD-tab, length-tab}}
+use Rattle.laws.specs.{Update.{same-or}, StoresRead.{getD-sets, getD-sets-below, getD-sets-above}}
 
 -- two lists given by functions that agree on the indexes
 pub tab-same : {A : Type 0} (n : ℕ) (f g : ℕ → A) → ((k : ℕ) → k < n → f k ≡ g k) → tab n f ≡ tab n g
@@ -41,60 +31,60 @@ tab-of l =
     (λ k h. getD-tab (λ k. getD l k 0) (length l) k 0 (rw (length-tab (λ k. getD l k 0) (length l)) at h))
 
 -- the n numbers from p on
-unfoldable pub part : List ℕ → ℕ → ℕ → List ℕ
-part l p n = tab n (λ k. getD l (p + k) 0)
+unfoldable pub numbersFrom : List ℕ → ℕ → ℕ → List ℕ
+numbersFrom l p n = tab n (λ k. getD l (p + k) 0)
 
-pub length-part : (l : List ℕ) (p n : ℕ) → length (part l p n) ≡ n
-unfolding part
+pub length-part : (l : List ℕ) (p n : ℕ) → length (numbersFrom l p n) ≡ n
+unfolding numbersFrom
 length-part l p n = length-tab (λ k. getD l (p + k) 0) n
 
-pub part-at : (l : List ℕ) (p n k : ℕ) → k < n → getD (part l p n) k 0 ≡ getD l (p + k) 0
-unfolding part
+pub part-at : (l : List ℕ) (p n k : ℕ) → k < n → getD (numbersFrom l p n) k 0 ≡ getD l (p + k) 0
+unfolding numbersFrom
 part-at l p n k h = getD-tab (λ k. getD l (p + k) 0) n k 0 h
 
-pub part-same : (l : List ℕ) (p : ℕ) (m : List ℕ) (q n : ℕ) → ((k : ℕ) → k < n → getD l (p + k) 0 ≡ getD m (q + k) 0) → part l p n ≡ part m q n
-unfolding part
+pub part-same : (l : List ℕ) (p : ℕ) (m : List ℕ) (q n : ℕ) → ((k : ℕ) → k < n → getD l (p + k) 0 ≡ getD m (q + k) 0) → numbersFrom l p n ≡ numbersFrom m q n
+unfolding numbersFrom
 part-same l p m q n h = tab-same n (λ k. getD l (p + k) 0) (λ k. getD m (q + k) 0) h
 
 -- a part of a part
-pub part-part : (l : List ℕ) (p w a n : ℕ) → a + n ≤ w → part (part l p w) a n ≡ part l (p + a) n
-part-part l p w a n h =
-    part-same (part l p w) a l (p + a) n
+pub numbers-of-numbers : (l : List ℕ) (p w a n : ℕ) → a + n ≤ w → numbersFrom (numbersFrom l p w) a n ≡ numbersFrom l (p + a) n
+numbers-of-numbers l p w a n h =
+    part-same (numbersFrom l p w) a l (p + a) n
     (λ k b. let e : p + (a + k) ≡ p + a + k = omega arith in rw (part-at l p w (a + k) (omega arith), e))
 
 -- all of a list
-pub part-all : (l : List ℕ) → part l 0 (length l) ≡ l
-unfolding part
+pub part-all : (l : List ℕ) → numbersFrom l 0 (length l) ≡ l
+unfolding numbersFrom
 part-all l = tab-same (length l) (λ k. getD l (0 + k) 0) (λ k. getD l k 0) (λ k h. ap (λ (j : ℕ). getD l j 0) (omega arith)) ∙ tab-of l
 
 -- stores: the list itself, and what lies apart --
 
-pub part-sets : (l r : List ℕ) (p : ℕ) → p + length r ≤ length l → part (sets l p r) p (length r) ≡ r
+pub part-sets : (l r : List ℕ) (p : ℕ) → p + length r ≤ length l → numbersFrom (sets l p r) p (length r) ≡ r
 part-sets l r p h =
     part-same (sets l p r) p r 0 (length r)
     (λ k b. let e : 0 + k ≡ k = omega arith in rw (getD-sets 0 r l p k h b, e))
     ∙ part-all r
 
-pub part-sets-off : (l r : List ℕ) (p q n : ℕ) → (q + length r ≤ p → part (sets l q r) p n ≡ part l p n) × (p + n ≤ q → part (sets l q r) p n ≡ part l p n)
+pub part-sets-off : (l r : List ℕ) (p q n : ℕ) → (q + length r ≤ p → numbersFrom (sets l q r) p n ≡ numbersFrom l p n) × (p + n ≤ q → numbersFrom (sets l q r) p n ≡ numbersFrom l p n)
 part-sets-off l r p q n = (
   λ h. part-same (sets l q r) p l p n (λ k b. getD-sets-above 0 r l q (p + k) (omega arith)),
   λ h. part-same (sets l q r) p l p n (λ k b. getD-sets-below 0 r l q (p + k) (omega arith)),
 )
 
-pub part-set : (l : List ℕ) (p n j x : ℕ) → j < n → p + n ≤ length l → part (set l (p + j) x) p n ≡ set (part l p n) j x
-unfolding part
+pub part-set : (l : List ℕ) (p n j x : ℕ) → j < n → p + n ≤ length l → numbersFrom (set l (p + j) x) p n ≡ set (numbersFrom l p n) j x
+unfolding numbersFrom
 part-set l p n j x h b =
     tab-one n (λ k. getD l (p + k) 0) (λ k. getD (set l (p + j) x) (p + k) 0) j x
     (getD-set-same l (p + j) x 0 (omega arith))
     (λ k c ne. getD-set-other l (p + j) (p + k) x 0 (λ q. ne (omega arith)))
 
-pub part-set-off : (l : List ℕ) (p n j x : ℕ) → ((k : ℕ) → k < n → p + k ≡ j → ⊥) → part (set l j x) p n ≡ part l p n
+pub part-set-off : (l : List ℕ) (p n j x : ℕ) → ((k : ℕ) → k < n → p + k ≡ j → ⊥) → numbersFrom (set l j x) p n ≡ numbersFrom l p n
 part-set-off l p n j x h = part-same (set l j x) p l p n (λ k b. getD-set-other l j (p + k) x 0 (h k b))
 
 -- rows --
 
 abbrev pub row : List ℕ → ℕ → ℕ → List ℕ
-row l w e = part l (e * w) w
+row l w e = numbersFrom l (e * w) w
 
 abbrev pub putRow : List ℕ → ℕ → ℕ → List ℕ → List ℕ
 putRow l w e r = sets l (e * w) r

@@ -1,11 +1,6 @@
 -- What a test says, both ways: the laws follow the test's form.
-use Prim.Native.Nat.{ℕ, zero, suc, _+_, _-_, _<_, _≤_}
-use mathlib.Core.Path.{_≡_, refl, sym, ap, _∙_}
-use mathlib.Core.Bool.{Bool, true, false, not, _&&_}
-use native.Mathlib.Omega.{arith}
-use borrow.Author.Tests.{leb-true, ltb-true, eqb-true, le-leb, lt-ltb, eq-eqb, not-true, not-false, leb-false}
-use lib.Dec.{eqb, leb, ltb}
-use Rattle.laws.specs.Loop.{pick, cases, scan, turns}
+use Rattle.laws.specs.Kit.{ℕ, zero, suc, _+_, _<_, _≤_, _≡_, refl, sym, _∙_, Bool, true, false, not, _&&_, arith, leb-true, ltb-true}
+use Rattle.laws.specs.{Kit.{eqb-true, le-leb, lt-ltb, eq-eqb, eqb, leb, ltb}, Loop.{pick, cases, scan, turns}}
 use Rattle.laws.specs.All.{all, all-at, all-true}
 
 pub record Says (b : Bool) (P : Type 0) : Type 0 where

@@ -1,11 +1,6 @@
 -- Runs of stores, put together.
-use Prim.Native.Nat.{ℕ, zero, suc, _+_, _<_, _≤_}
-use mathlib.Core.Path.{_≡_, refl, sym, ap, _∙_}
-use mathlib.Core.List.{List, [], _∷_, _++_, append-nil}
-use native.Mathlib.Omega.{arith}
-use native.Mathlib.Nat.{add-zero}
-use lib.ListN.{length, set, length-set, length-append}
-use lib.Seq.{sets, set-comm, length-sets}
+use Rattle.laws.specs.Kit.{ℕ, suc, _+_, _≡_, refl, sym, ap, _∙_, List, [], _∷_, _++_, append-nil, arith, add-zero, length, set}
+use Rattle.laws.specs.Kit.{length-append, sets, set-comm, length-sets}
 
 module _ {A : Type 0} where
   -- one run after another
@@ -28,7 +23,7 @@ pub record Stored {A : Type 0} (before : List A) (at : ℕ) (vs : List A) (after
   pub behind : r ≡ at + length vs
 
 -- a writer under way: what is left, vs from place p of out on, makes the whole, all from place at of begun on
-pub record Left {A : Type 0} (begun : List A) (at : ℕ) (all : List A) (out : List A) (p : ℕ) (vs : List A) : Type 0 where
+pub record StoresLeft {A : Type 0} (begun : List A) (at : ℕ) (all : List A) (out : List A) (p : ℕ) (vs : List A) : Type 0 where
   pub same : sets out p vs ≡ sets begun at all
   pub next : p + length vs ≡ at + length all
   pub long : length out ≡ length begun
@@ -42,15 +37,15 @@ module _ {A : Type 0} where
   stored-long {before} {after} {vs} {at} s = ap length (s .stored) ∙ length-sets before at vs
 
   -- nothing was put yet; the parts may be bracketed as the writer needs them
-  pub left-start : {out : List A} {at : ℕ} {all : List A} → Left out at all out at all
+  pub left-start : {out : List A} {at : ℕ} {all : List A} → StoresLeft out at all out at all
   left-start = record { same = refl; next = refl; long = refl }
 
-  pub left-from : {out : List A} {at : ℕ} {all vs : List A} → all ≡ vs → Left out at all out at vs
+  pub left-from : {out : List A} {at : ℕ} {all vs : List A} → all ≡ vs → StoresLeft out at all out at vs
   left-from e = rw e left-start
 
 module _ {A : Type 0} {begun : List A} {at : ℕ} {all : List A} where
   -- a part was put
-  pub left-put : {out after : List A} {p r : ℕ} {xs vs : List A} → Stored out p xs after r → Left begun at all out p (xs ++ vs) → Left begun at all after r vs
+  pub left-put : {out after : List A} {p r : ℕ} {xs vs : List A} → Stored out p xs after r → StoresLeft begun at all out p (xs ++ vs) → StoresLeft begun at all after r vs
   left-put {out} {after} {p} {r} {xs} {vs} s w =
       rw (s .stored, s .behind) record {
         same = sym (sets-append xs vs out p) ∙ w .same;
@@ -59,9 +54,9 @@ module _ {A : Type 0} {begun : List A} {at : ℕ} {all : List A} where
       }
 
   -- nothing is left
-  pub left-none : {out : List A} {p : ℕ} → Left begun at all out p [] → Stored begun at all out p
+  pub left-none : {out : List A} {p : ℕ} → StoresLeft begun at all out p [] → Stored begun at all out p
   left-none w = record { stored = w .same; behind = omega (arith, w .next) }
 
   -- the last part was put
-  pub left-last : {out after : List A} {p r : ℕ} {xs : List A} → Stored out p xs after r → Left begun at all out p xs → Stored begun at all after r
+  pub left-last : {out after : List A} {p r : ℕ} {xs : List A} → Stored out p xs after r → StoresLeft begun at all out p xs → Stored begun at all after r
   left-last {xs} s w = left-none (left-put s (rw append-nil w))

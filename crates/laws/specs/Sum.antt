@@ -1,9 +1,5 @@
 -- Sums f 1 + .. + f n, and how many of 1 .. n pass a test.
-use Prim.Native.Nat.{ℕ, zero, suc, _+_, _-_, _*_, _<_, _≤_}
-use mathlib.Core.Path.{_≡_, refl, sym, ap, _∙_}
-use mathlib.Core.Bool.{Bool, true, false}
-use native.Mathlib.Omega.{arith}
-use Rattle.laws.specs.Loop.{cases}
+use Rattle.laws.specs.{Kit.{ℕ, zero, suc, _+_, _-_, _*_, _<_, _≤_, _≡_, refl, sym, _∙_, Bool, true, false, arith}, Loop.{cases}}
 use Rattle.laws.specs.Update.{same-or}
 
 unfoldable pub sum : ℕ → (ℕ → ℕ) → ℕ

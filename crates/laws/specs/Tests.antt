@@ -1,13 +1,7 @@
 -- More of what a test says (Says): of an implication, of the numbers 1 to n, of two lists.
-use Prim.Native.Nat.{ℕ, _≤_, _<_}
-use mathlib.Core.Path.{_≡_, refl, sym}
-use mathlib.Core.Bool.{Bool, true, false, not, _&&_}
-use mathlib.Core.List.{List, [], _∷_}
-use native.Mathlib.Omega.{arith}
-use lib.Dec.{eqb, leb, ltb}
-use Rattle.laws.specs.Loop.{pick}
-use Rattle.laws.specs.All.{all, all-at, all-true}
-use Rattle.laws.specs.Says.{Says, says-both, says-if, says-not, says-all, says-as, says-eqb, says-leb, says-ltb, clash}
+use Rattle.laws.specs.Kit.{ℕ, _≤_, _<_, _≡_, refl, sym, Bool, true, false, not, _&&_, List, [], _∷_, arith, eqb, leb, ltb}
+use Rattle.laws.specs.{Loop.{pick}, All.{all, all-at, all-true}, Says.{Says, says-both, says-if, says-not, says-all, says-as}}
+use Rattle.laws.specs.Says.{says-eqb, says-leb, says-ltb, clash}
 
 pub says-yes : Says true Unit
 says-yes = record { to = λ e. tt; from = λ h. refl }
@@ -40,8 +34,8 @@ abbrev pub yes : Test
 yes = record { passes = true; holds = Unit; says = says-yes }
 
 -- b is false
-abbrev pub fails : Bool → Test
-fails b = record { passes = not b; holds = b ≡ false; says = says-false b }
+abbrev pub isFalse : Bool → Test
+isFalse b = record { passes = not b; holds = b ≡ false; says = says-false b }
 
 abbrev pub none-of : Test → Test
 none-of a = record { passes = not (a .passes); holds = a .holds → ⊥; says = says-not _ (a .says) }

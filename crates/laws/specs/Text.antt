@@ -1,10 +1,6 @@
 -- The bytes of a text in ASCII.
-use Prim.Native.Nat.{ℕ}
-use Prim.Native.Char.{code}
-use Prim.Native.String.{String}
+use Rattle.laws.specs.Kit.{ℕ, code, String, List, [], _∷_, _≡_, refl}
 use Prim.Native.String as string
-use mathlib.Core.List.{List, [], _∷_}
-use mathlib.Core.Path.{_≡_, refl}
 
 abbrev pub text : String → List ℕ
 text string.[] = []

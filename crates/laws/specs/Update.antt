@@ -1,15 +1,6 @@
 -- Functions of a number, updated at one place; of two numbers, at one pair; and how a store into a list is such an update.
-use Prim.Native.Nat.{ℕ, zero, suc, _+_, _-_, _<_, _≤_}
-use mathlib.Core.Path.{_≡_, refl, sym, ap, _∙_, fun-ext}
-use mathlib.Core.List.{List, [], _∷_}
-use mathlib.Core.Bool.{Bool, true, false}
-use mathlib.Core.Option.{Option, some}
-use native.Mathlib.Omega.{arith}
-use borrow.Author.Tests.{eqb-true, eqb-false, eq-eqb, ne-eqb}
-use lib.Dec.{eqb}
-use lib.ListN.{length, getD, set}
-use lib.Seq.{getD-set-same, getD-set-other}
-use Rattle.laws.specs.Loop.{cases}
+use Rattle.laws.specs.Kit.{ℕ, zero, suc, _<_, _≡_, refl, sym, ap, _∙_, fun-ext, List, [], _∷_, true, false, Option, some, arith}
+use Rattle.laws.specs.{Kit.{eqb-true, eqb-false, eq-eqb, ne-eqb, eqb, length, getD, set, getD-set-same, getD-set-other}, Loop.{cases}}
 
 -- f with a at i
 unfoldable pub upd : {A : Type 0} → (ℕ → A) → ℕ → A → ℕ → A
@@ -120,9 +111,9 @@ pub lift-keep1 : {A B : Type 0} (g : A → B) (l : List A) (i : ℕ) (a d : A) �
 lift-keep1 g l i a d h e = lift-keep g (d ∷ l) (suc i) a d (omega arith) e
 
 -- what a store does not change stays, wherever it is
-pub kept : {A B : Type 0} (g : A → B) (l : List A) (i j : ℕ) (a d : A) → g a ≡ g (getD l i d) → g (getD (set l i a) j d) ≡ g (getD l j d)
-kept g [] i j a d e = refl
-kept g (x ∷ l) zero zero a d e = e
-kept g (x ∷ l) zero (suc j) a d e = refl
-kept g (x ∷ l) (suc i) zero a d e = refl
-kept g (x ∷ l) (suc i) (suc j) a d e = kept g l i j a d e
+pub store-keeps : {A B : Type 0} (g : A → B) (l : List A) (i j : ℕ) (a d : A) → g a ≡ g (getD l i d) → g (getD (set l i a) j d) ≡ g (getD l j d)
+store-keeps g [] i j a d e = refl
+store-keeps g (x ∷ l) zero zero a d e = e
+store-keeps g (x ∷ l) zero (suc j) a d e = refl
+store-keeps g (x ∷ l) (suc i) zero a d e = refl
+store-keeps g (x ∷ l) (suc i) (suc j) a d e = store-keeps g l i j a d e

@@ -1,6 +1,5 @@
-pub mod Read
-pub mod Spread
-pub mod Back
 pub mod Loading
 pub mod Unique
 pub mod Roundtrip
+pub mod Mirror
+pub mod Link

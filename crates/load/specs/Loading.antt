@@ -1,30 +1,15 @@
 -- The answer to a load: document 01's number and values for every case of it.
-use Prim.Native.Nat.{ℕ, _+_, _<_, _≤_}
-use mathlib.Core.Path.{_≡_, sym, ap, _∙_}
-use mathlib.Core.Bool.{Bool, true, false}
-use mathlib.Core.List.{List}
-use native.Mathlib.Omega.{arith}
-use native.Mathlib.Nat.{zero-add}
-use lib.ListN.{length, getD, take, drop, replicate, length-replicate}
-use lib.Seq.{sets, sets-eq, take-append-seam, length-sets, ext-getD, getD-take, length-take-le}
+use Rattle.laws.specs.Kit.{ℕ, _+_, _<_, _≤_, _≡_, sym, ap, _∙_, Bool, true, false, List, arith, zero-add, length, getD, take, drop}
+use Rattle.laws.specs.Kit.{replicate, length-replicate, sets, sets-eq, take-append-seam, length-sets, ext-getD, getD-take, length-take-le}
 use Rattle.laws.specs.Says.{Says, apart, says-as}
-use Rattle.machine.specs.Table.{State}
-use Rattle.machine.specs.Answer.{damaged, broken}
-use Rattle.machine.specs.Rules.{Rules}
-use Rattle.table.specs.declared.Table.{Table}
-use Rattle.table.specs.Begin.{freshTable}
-use Rattle.table.specs.Model.{modelOf}
-use Rattle.table.specs.Sound.{SoundTable}
-use Rattle.image.specs.Encode.{encode}
-use Rattle.image.specs.Bytes.{most-blocks}
-use Rattle.image.specs.Places.{length-encode}
-use Rattle.image.specs.Sound as whole
-use Rattle.image.specs.Load.{Loaded, refused, loaded, Loads, by-damage, by-rule, as-saved}
-use Rattle.load.specs.declared.Outcome.{Outcome}
+use Rattle.machine.specs.{Table.{State}, Answer.{damaged, broken}, Rules.{Rules}}
+use Rattle.table.specs.{declared.Table.{Table}, Beginning.{freshTable}, Model.{modelOf}, Sound.{SoundTable}}
+use Rattle.image.specs.{Encode.{encode}, ImageSize.{most-blocks}, Link.FieldPlaces.{length-encode}, Load.{Loaded, refused, loaded, Loads}}
+use Rattle.image.specs.{Load.{by-damage, by-rule, as-saved}, Limits.{wide, image-bytes}}
+use Rattle.image.specs.Damage as whole
+use Rattle.load.specs.{declared.Outcome.{Outcome}, Link.ReadsBack.{ReadsRight}}
 use Rattle.load.specs.declared.Outcome.the-variants as outcome
-use Rattle.load.specs.Back.{Reads}
 use Rattle.clock.specs.Vectors.{places}
-use Rattle.image.specs.Limits.{wide, image-bytes}
 
 -- the table, or a refusal
 abbrev pub loadedOf : Outcome → Table → Loaded
@@ -38,7 +23,7 @@ loadedOf outcome.Broken t = refused broken
 abbrev pub Answers : List ℕ → Outcome → Table → Type 0
 Answers b outcome.Accepted t = SoundTable t × (encode (modelOf t) ≡ b)
 Answers b outcome.Damaged t = whole.Damaged b × (t ≡ freshTable 0 0)
-Answers b outcome.Broken t = (whole.Sound b × ((s : State) → Rules s → encode s ≡ b → ⊥)) × (t ≡ freshTable 0 0)
+Answers b outcome.Broken t = (whole.Undamaged b × ((s : State) → Rules s → encode s ≡ b → ⊥)) × (t ≡ freshTable 0 0)
 
 -- that is what loading comes to, so it comes to one thing only (one-load)
 pub answers-loads : (b : List ℕ) (o : Outcome) (t : Table) → Answers b o t → Loads b (loadedOf o t)
@@ -47,10 +32,10 @@ answers-loads b outcome.Damaged t h = by-damage (h .0)
 answers-loads b outcome.Broken t h = by-rule (h .0 .0) (h .0 .1)
 
 -- the candidate breaks the rules, or its image is another
-pub not-sound : (b : List ℕ) (t : Table) → Reads b t → (SoundTable t → ⊥) → (s : State) → Rules s → encode s ≡ b → ⊥
+pub not-sound : (b : List ℕ) (t : Table) → ReadsRight b t → (SoundTable t → ⊥) → (s : State) → Rules s → encode s ≡ b → ⊥
 not-sound b t r f s ok e = f (r s ok e .1)
 
-pub not-image : (b : List ℕ) (t : Table) → Reads b t → (encode (modelOf t) ≡ b → ⊥) → (s : State) → Rules s → encode s ≡ b → ⊥
+pub not-image : (b : List ℕ) (t : Table) → ReadsRight b t → (encode (modelOf t) ≡ b → ⊥) → (s : State) → Rules s → encode s ≡ b → ⊥
 not-image b t r f s ok e = f (ap encode (r s ok e .0) ∙ e)
 
 -- the comparison: what was saved from the start of a buffer on --

@@ -1,24 +1,9 @@
 -- "A table saved and loaded is the same table", and an image loaded and saved again gives its bytes: of what `save` and `load` promise.
-use Prim.Native.Nat.{ℕ, _≤_}
-use mathlib.Core.Path.{_≡_, refl, ap, _∙_}
-use mathlib.Core.Bool.{true}
-use mathlib.Core.List.{List}
-use borrow.Author.Tests.{le-leb}
-use lib.ListN.{length, take}
-use lib.Seq.{sets}
-use Rattle.table.specs.declared.Table.{Table}
-use Rattle.table.specs.Model.{modelOf}
-use Rattle.table.specs.Same.{Same}
-use Rattle.table.specs.Sound.{SoundTable}
-use Rattle.image.specs.declared.Saving.{Saving}
-use Rattle.image.specs.declared.Saving.the-variants.{Length}
-use Rattle.image.specs.Encode.{encode}
-use Rattle.image.specs.Load.{loaded, load, load-encode}
-use Rattle.image.specs.Saving.{SaveAnswer, long, savingOf, Saves, as-image}
-use Rattle.image.specs.Unique.{saves-is, saving-is}
-use Rattle.load.specs.declared.Outcome.{Outcome}
-use Rattle.load.specs.declared.Outcome.the-variants.{Accepted}
-use Rattle.load.specs.Loading.{Answers, saved-part}
+use Rattle.laws.specs.Kit.{ℕ, _≤_, _≡_, refl, ap, _∙_, true, List, le-leb, length, take, sets}
+use Rattle.table.specs.{declared.Table.{Table}, Model.{modelOf}, SameTable.{Same}, Sound.{SoundTable}}
+use Rattle.image.specs.{declared.Saving.{Saving}, declared.Saving.the-variants.{Length}, Encode.{encode}, Load.{loaded, load, load-encode}}
+use Rattle.image.specs.{Saving.{SaveAnswer, long, savingOf, Saves, as-image}, Unique.{saves-is, saving-is}}
+use Rattle.load.specs.{declared.Outcome.{Outcome}, declared.Outcome.the-variants.{Accepted}, Loading.{Answers, saved-part}}
 use Rattle.load.specs.Unique.{outcomeFor, loaded-is, outcome-is}
 
 saved-image : {t : Table} {before after : List ℕ} {n : ℕ} → Saves t before after (long n) → SoundTable t × (take n after ≡ encode (modelOf t))

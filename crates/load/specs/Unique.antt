@@ -1,19 +1,11 @@
 -- A load has one outcome: the answer as a value; of an accepted table the core and the cells as values, and of its open writes the set; of a
 -- refusal zeros.
-use Prim.Native.Nat.{ℕ}
-use mathlib.Core.Path.{_≡_, refl, sym, ap, _∙_}
-use mathlib.Core.List.{List}
-use lib.Dec.{eqb}
-use Rattle.laws.specs.Loop.{pick}
+use Rattle.laws.specs.{Kit.{ℕ, _≡_, refl, sym, ap, _∙_, List, eqb}, Loop.{pick}}
 use Rattle.machine.specs.Answer.{damaged, numberOf}
-use Rattle.table.specs.declared.Table.{Table}
-use Rattle.table.specs.Shape.{Shaped}
-use Rattle.table.specs.Model.{modelOf}
-use Rattle.table.specs.Same.{Same}
-use Rattle.table.specs.Unique.{Among, same-core, same-cells, same-opens}
+use Rattle.table.specs.{declared.Table.{Table}, TypeShape.{Shaped}, Model.{modelOf}, SameTable.{Same}, Unique.{StandsIn, same-core}}
+use Rattle.table.specs.Unique.{same-cells, same-opens}
 use Rattle.image.specs.Load.{Loaded, refused, loaded, load, loads-is}
-use Rattle.load.specs.declared.Outcome.{Outcome}
-use Rattle.load.specs.declared.Outcome.the-variants.{Accepted, Damaged, Broken}
+use Rattle.load.specs.{declared.Outcome.{Outcome}, declared.Outcome.the-variants.{Accepted, Damaged, Broken}}
 use Rattle.load.specs.Loading.{loadedOf, Answers, answers-loads}
 
 abbrev pub outcomeFor : Loaded → Outcome
@@ -37,7 +29,7 @@ pub record OneLoading (o o′ : Outcome) (t t′ : Table) : Type 0 where
   pub same : Same t t′
   pub core : t .core ≡ t′ .core
   pub cells : t .cells ≡ t′ .cells
-  pub opens : Among (t .opens) (t′ .opens)
+  pub opens : StandsIn (t .opens) (t′ .opens)
   pub refused : (o ≡ Accepted → ⊥) → t ≡ t′
 
 alike : {o : Outcome} {t t′ : Table} → t ≡ t′ → OneLoading o o t t′

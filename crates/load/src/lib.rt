@@ -8,13 +8,13 @@ ghost use Rattle.clock.specs.Vectors.{places};
 ghost use Rattle.table.specs.Value.{all-cells, entries, open-width};
 ghost use Rattle.table.specs.Model.{model};
 ghost use Rattle.table.specs.Sound.{Sound};
-ghost use Rattle.table.specs.Begin.{freshTable};
+ghost use Rattle.table.specs.Beginning.{freshTable};
 ghost use Rattle.image.specs.Limits.{block-bytes, payload-at, payload-bytes, vector-bytes, cell-bytes, open-bytes, row-most, rows-most, opens-most};
 ghost use Rattle.image.specs.Encode.{perDesk, encode};
 ghost use Rattle.image.specs.Decode.{nIn, mIn, countIn, openPlace};
-ghost use Rattle.load.specs.Read.{wordAt, wordsFrom, bytesFrom, cellFrom, openFrom, deskFrom, deskFor, cellFor, Fits, CellsRead};
-ghost use Rattle.load.specs.Spread.{OpensRead};
-ghost use Rattle.load.specs.Back.{ReadAs, Reads};
+ghost use Rattle.load.specs.Mirror.ImageRead.{wordAt, wordsFrom, bytesFrom, cellFrom, openFrom, deskFrom, deskFor, cellFor, Fits, CellsRead};
+ghost use Rattle.load.specs.Link.EntryEach.{OpensRead};
+ghost use Rattle.load.specs.Link.ReadsBack.{ReadAs, ReadsRight};
 ghost use Rattle.load.specs.Loading.{Answers};
 use clock::Clock;
 use clock::PLACES;
@@ -22,7 +22,10 @@ use image::AFTER_VECTOR;
 use image::APPLIED_AT;
 use image::BLOCK;
 use image::CELL_BYTES;
+use image::CELLS_AT;
 use image::CELLS_IN;
+use image::COUNT_AT;
+use image::DESKS_AT;
 use image::IMAGE;
 use image::OPEN_BYTES;
 use image::OPENS_IN;
@@ -32,12 +35,14 @@ use image::VECTOR_BYTES;
 use table::CELL;
 use table::CELLS;
 use table::Cell;
+use table::Cells;
 use table::Core;
 use table::Desk;
 use table::Found;
 use table::OPEN;
 use table::OPENS;
 use table::Open;
+use table::Opens;
 use table::Table;
 
 // Fields --
@@ -144,9 +149,9 @@ fn sizes_fit(b: &[u8]) -> bool
     if b.len() < BLOCK {
         return false;
     }
-    let n = size(b[PAYLOAD_AT]);
-    let m = size(b[5]);
-    let count = size(b[6]);
+    let n = size(b[DESKS_AT]);
+    let m = size(b[CELLS_AT]);
+    let count = size(b[COUNT_AT]);
     if !table::begins(n, m) {
         return false;
     }
@@ -215,7 +220,7 @@ fn cell_or(b: &[u8], n: usize, m: usize, c: usize, s: usize) -> Cell
     }
 }
 
-fn read_cells(b: &[u8], n: usize, m: usize, c: usize, cells: &mut [u16; PLACES * CELLS * CELL])
+fn read_cells(b: &[u8], n: usize, m: usize, c: usize, cells: &mut Cells)
     requires { ⌜ (Fits places (now b)) × ((n ≡ nIn (now b)) × ((m ≡ mIn (now b)) × (c ≡ perDesk places m))) ⌝ }
     ensures { λ _. ⌜ CellsRead places (now (b .entry)) n m (now (cells .exit)) ⌝ }
 {
@@ -250,7 +255,7 @@ fn number_of(o: Open) -> u16 {
 }
 
 // Each goes into the entry where a search for it begins, or a free one behind that.
-fn read_opens(b: &[u8], n: usize, m: usize, c: usize, count: usize, opens: &mut [u16; OPENS * OPEN])
+fn read_opens(b: &[u8], n: usize, m: usize, c: usize, count: usize, opens: &mut Opens)
     requires { ⌜ (Fits places (now b)) × ((n ≡ nIn (now b)) × ((m ≡ mIn (now b)) × ((c ≡ perDesk places m) × (count ≡ countIn (now b))))) ⌝ }
     requires { ⌜ now opens ≡ replicate (entries * open-width) 0 ⌝ }
     ensures { λ _. ⌜ OpensRead places (now (b .entry)) n m count (now (opens .exit)) ⌝ }
@@ -276,7 +281,7 @@ fn zeros() -> Table
 
 // The table that an image seems to hold; zeros where its sizes can't be right.
 fn candidate(b: &[u8]) -> Table
-    ensures { λ r. ⌜ Reads (now (b .entry)) r ⌝ }
+    ensures { λ r. ⌜ ReadsRight (now (b .entry)) r ⌝ }
 {
     if !sizes_fit(b) {
         return zeros();
@@ -288,9 +293,9 @@ fn read_table(b: &[u8]) -> Table
     requires { ⌜ Fits places (now b) ⌝ }
     ensures { λ r. ⌜ ReadAs places (now (b .entry)) r ⌝ }
 {
-    let n = size(b[PAYLOAD_AT]);
-    let m = size(b[5]);
-    let count = size(b[6]);
+    let n = size(b[DESKS_AT]);
+    let m = size(b[CELLS_AT]);
+    let count = size(b[COUNT_AT]);
     let desks = read_desks(b, n);
     let core = Core {
         n: n,
@@ -329,12 +334,7 @@ fn starts(l: &[u8], b: &[u8]) -> bool
 }
 
 // Is b the image of a table that keeps the rules?
-fn saves_to(
-    core: Core,
-    cells: &[u16; PLACES * CELLS * CELL],
-    opens: &[u16; OPENS * OPEN],
-    b: &[u8],
-) -> bool
+fn saves_to(core: Core, cells: &Cells, opens: &Opens, b: &[u8]) -> bool
     requires { ⌜ Sound (core .n) (core .m) (core .desks) (now cells) (now opens) ⌝ }
     ensures { λ r. ⌜ Says r (encode (model (core .n) (core .m) (core .desks) (now (cells .entry)) (now (opens .entry))) ≡ now (b .entry)) ⌝ }
 {

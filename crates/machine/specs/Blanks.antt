@@ -1,11 +1,8 @@
 -- Blank cells and verdicts: the words of "never written reads unset" and "yes means that all read 1".
-use mathlib.Core.Path.{_≡_}
-use mathlib.Core.List.{List, map, List·Memᴰ}
+use mathlib.Core.{Path.{_≡_}, List.{List, map, List·Memᴰ}}
 use Prim.Native.Nat.{ℕ}
 use Rattle.laws.specs.Lists.{Some}
-use Rattle.machine.specs.Table.{State}
-use Rattle.machine.specs.Answer.{Shown, shown, shows, judged}
-use Rattle.machine.specs.Steps.{shownAt, verdict, Read, Trip, step, answers}
+use Rattle.machine.specs.{Table.{State}, Answer.{Shown, shown, shows, judged}, Steps.{shownAt, verdict, Read, Trip, step, answers}}
 use Rattle.machine.specs.History.{Event, write-at, take-step, run}
 
 -- no accepted write names the cell x

@@ -1,14 +1,9 @@
 -- Demand 3, as a statement about a table and the history observed of it.
-use mathlib.Core.Path.{_≡_}
-use mathlib.Core.Logic.{_⊎_, _↔_}
-use mathlib.Core.List.{List, _∷_, _++_, List·Memᴰ}
-use mathlib.Core.Option.{some}
+use mathlib.Core.{Path.{_≡_}, Logic.{_⊎_, _↔_}, List.{List, _∷_, _++_, List·Memᴰ}, Option.{some}}
 use Prim.Native.Nat.{ℕ, suc, _≤_, _<_}
-use Rattle.machine.specs.Table.{Vec, Name, name, set, away, held, done, Open, State, written, place}
-use Rattle.machine.specs.Answer.{Shown, wrote}
-use Rattle.machine.specs.Steps.{openCount, Write, step}
-use Rattle.machine.specs.Rules.{In}
-use Rattle.machine.specs.History.{Event, read-at, write-at, receive-at, Entry, own-read, applied, deskList, latest, At, Precedes, writesOf, openWrites}
+use Rattle.machine.specs.{Table.{Vec, Name, name, set, away, held, done, Open, State, written, markOf}, Answer.{Shown, wrote}}
+use Rattle.machine.specs.{Steps.{openCount, Write, step}, Rules.{In}, History.{Event, read-at, write-at, receive-at, Entry, own-read}}
+use Rattle.machine.specs.History.{applied, deskList, latest, At, Precedes, writesOf, openWrites}
 
 -- the accepted write u.k stands at the place q of the history
 pub record WriteAt (h : List Event) (q u k : ℕ) : Type 0 where
@@ -66,12 +61,12 @@ pub data Received (h : List Event) (i u k : ℕ) : Type 0 where
 -- "a received write is held exactly if some causal predecessor is unapplied there"
 abbrev pub HeldIffCauseMissing : State → List Event → Type 0
 HeldIffCauseMissing s h = (i u k q : ℕ) → In (s .setup .desks) i → WriteAt h q u k → Received h i u k
-    → (place s i u k ≡ held) ↔ CauseMissing h i q
+    → (markOf s i u k ≡ held) ↔ CauseMissing h i q
 
 -- the machine's places are those of the history
 pub record PlacesObserved (s : State) (h : List Event) : Type 0 where
-  pub unreceived : (i u k q : ℕ) → In (s .setup .desks) i → WriteAt h q u k → (place s i u k ≡ away) ↔ (Received h i u k → ⊥)
-  pub applied : (i u k q : ℕ) → In (s .setup .desks) i → WriteAt h q u k → (place s i u k ≡ done) ↔ Has (deskList i h) u k
+  pub unreceived : (i u k q : ℕ) → In (s .setup .desks) i → WriteAt h q u k → (markOf s i u k ≡ away) ↔ (Received h i u k → ⊥)
+  pub applied : (i u k q : ℕ) → In (s .setup .desks) i → WriteAt h q u k → (markOf s i u k ≡ done) ↔ Has (deskList i h) u k
 
 -- "t.j precedes or is that write"
 pub record UpTo (h : List Event) (q t j : ℕ) : Type 0 where

@@ -1,19 +1,13 @@
 -- Document 01, "At each edge" and "Numbers of refusal", computed. Limits and numbers stand here as the document writes them, so that
 -- the definitions are held to them.
-use mathlib.Core.Path.{_≡_, refl}
-use mathlib.Core.List.{List, [], _∷_, map}
-use mathlib.Core.Option.{none}
+use mathlib.Core.{Path.{_≡_, refl}, List.{List, [], _∷_, map}, Option.{none}}
 use Prim.Native.Nat.{ℕ}
 use lib.ListN.{replicate}
-use Rattle.laws.specs.Loop.{turns, scan}
-use Rattle.laws.specs.All.{all}
-use Rattle.laws.specs.Update.{upd, upd2}
-use Rattle.laws.specs.Sum.{sum}
-use Rattle.laws.specs.Lists.{any, every}
-use Rattle.machine.specs.Table.{Vec, zeros, name, blank, sized, State, fresh}
-use Rattle.machine.specs.Answer.{shown, no-step, damaged, broken, short, numberOf, Yes, Answer, began, shows, wrote, holds, applies, judged, refused}
-use Rattle.machine.specs.Steps.{Step, Read, Write, Deliver, Trip, begin, step, answers, failing, everywhere, openCount, firstDue, settle, reads, verdict}
-use Rattle.machine.specs.History.{take-step, run}
+use Rattle.laws.specs.{Loop.{turns, scan}, All.{all}, Update.{upd, upd2}, Sum.{sum}, Lists.{any, every}}
+use Rattle.machine.specs.{Table.{Vec, zeros, name, blank, sized, State, fresh}, Answer.{shown, no-step, damaged, broken, short}}
+use Rattle.machine.specs.{Answer.{numberOf, Yes, Answer, began, shows, wrote, holds, applies, judged, refused}, Steps.{Step, Read}}
+use Rattle.machine.specs.Steps.{Write, Deliver, Trip, begin, step, answers, failing, everywhere, openCount, firstDue, settle, reads}
+use Rattle.machine.specs.{Steps.{verdict}, History.{take-step, run}}
 
 -- an answer, or a refusal's number
 pub data Reply : Type 0 where

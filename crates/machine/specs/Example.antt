@@ -1,19 +1,11 @@
 -- Source document 003, example 1, figure 1 and table 1, computed: a is 1, c is 2, b is 1, d is 2.
-use mathlib.Core.Path.{_≡_, refl}
-use mathlib.Core.List.{List, [], _∷_, _++_, map}
-use mathlib.Core.Bool.{Bool, true, false}
+use mathlib.Core.{Path.{_≡_, refl}, List.{List, [], _∷_, _++_, map}, Bool.{Bool, true, false}}
 use Prim.Native.Nat.{ℕ}
-use Rattle.laws.specs.Loop.{turns, scan}
-use Rattle.laws.specs.All.{all}
-use Rattle.laws.specs.Update.{upd, upd2}
-use Rattle.laws.specs.Sum.{sum}
-use Rattle.laws.specs.Lists.{any, every}
-use Rattle.machine.specs.Table.{Name, name, fresh}
-use Rattle.machine.specs.Answer.{wrote, shows, shown, holds, applies}
-use Rattle.machine.specs.Steps.{Step, Read, Write, Deliver, step, answers, failing, everywhere, openCount, firstDue, settle, reads, verdict}
-use Rattle.machine.specs.History.{Event, read-at, write-at, receive-at, apply-at, take-step, run, history}
-use Rattle.machine.specs.Past.{someBelow, those, linked, beforeBy, inPast, X-co-safe}
-use Rattle.machine.specs.Session.{placesOf}
+use Rattle.laws.specs.{Loop.{turns, scan}, All.{all}, Update.{upd, upd2}, Sum.{sum}, Lists.{any, every}}
+use Rattle.machine.specs.{Table.{Name, name, fresh}, Answer.{wrote, shows, shown, holds, applies}, Steps.{Step, Read, Write, Deliver}}
+use Rattle.machine.specs.{Steps.{step, answers, failing, everywhere, openCount, firstDue, settle, reads, verdict}, History.{Event}}
+use Rattle.machine.specs.{History.{read-at, write-at, receive-at, apply-at, take-step, run, history}, Past.{someBelow, those, linked}}
+use Rattle.machine.specs.{Past.{beforeBy, inPast, X-co-safe}, Session.{placesOf}}
 
 -- the history H1, with run (2) of figure 1 at p_3: w_2(x_2)b is received before w_1(x_1)a
 abbrev pub example-1 : List Step

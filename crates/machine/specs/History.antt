@@ -1,18 +1,11 @@
 -- What is observed of a schedule, from its steps and the answers alone: the history, each desk's list, and the causal order.
 -- The machine keeps none of this.
-use mathlib.Core.Path.{_≡_}
-use mathlib.Core.Bool.{Bool, true, false, not, _&&_}
-use mathlib.Core.List.{List, [], _∷_, _++_, map}
-use mathlib.Core.Option.{Option, none, some}
-use Prim.Native.Nat.{ℕ, zero, suc, _<_}
-use lib.Dec.{eqb}
-use lib.ListN.{getElem?}
-use Rattle.laws.specs.All.{all}
-use Rattle.laws.specs.Count.{count}
-use Rattle.laws.specs.Lists.{any}
-use Rattle.machine.specs.Table.{Name, name, State}
-use Rattle.machine.specs.Answer.{Shown, unset, shown, Answer, began, shows, wrote, holds, applies, judged, refused}
-use Rattle.machine.specs.Steps.{Step, Read, Write, Deliver, Trip, Out, step}
+use mathlib.Core.{Path.{_≡_}, Bool.{Bool, true, false, not, _&&_}, List.{List, [], _∷_, _++_, map}, Option.{Option, none, some}}
+use Prim.Native.Nat.{ℕ, suc, _<_}
+use lib.{Dec.{eqb}, ListN.{getElem?}}
+use Rattle.laws.specs.{All.{all}, Count.{count}, Lists.{any}}
+use Rattle.machine.specs.{Table.{Name, name, State}, Answer.{Shown, unset, shown, Answer, began, shows, wrote, holds, applies}}
+use Rattle.machine.specs.{Answer.{judged, refused}, Steps.{Step, Read, Write, Deliver, Trip, Out, step}}
 
 -- an accepted read with what it showed; an accepted write with its number; a write received at a desk; a write applied there
 pub data Event : Type 0 where

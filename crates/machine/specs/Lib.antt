@@ -4,8 +4,6 @@ pub mod Steps
 pub mod Refusals
 pub mod Rules
 pub mod Within
-pub mod Keeps
-pub mod Tells
 pub mod Blanks
 pub mod History
 pub mod Past
@@ -16,3 +14,4 @@ pub mod Paper
 pub mod PaperRuns
 pub mod Demand3
 pub mod Proofs
+pub mod RulesTest

@@ -8,18 +8,13 @@
 --   thread, lines 3 to 5 section 4.2, "lines 3 to 5 are executed atomically"; line 5: proof of lemma 1, "line 5 of the synchronization
 --                        thread". No sentence says lines 3 and 4 one by one: they are figure 4's, with u for i, by what section 4.1
 --                        says of Apply[u] and section 3.2 of the apply event.
-use mathlib.Core.Path.{_≡_}
-use mathlib.Core.Logic.{_≢_}
-use mathlib.Core.Bool.{true, false}
-use mathlib.Core.List.{List, [], _∷_, map}
-use mathlib.Core.Option.{Option, none, some}
+use mathlib.Core.{Path.{_≡_}, Logic.{_≢_}, Bool.{true, false}, List.{List, [], _∷_, map}, Option.{Option, none, some}}
 use Prim.Native.Nat.{ℕ, suc, _≤_, max}
 use lib.Dec.{eqb}
 use Rattle.laws.specs.Update.{upd, upd2}
-use Rattle.machine.specs.Table.{Vec, zeros, Name, name, Cell, blank, set, held, Open, State}
-use Rattle.machine.specs.Answer.{Shown, unset, shown, Answer, began, shows, wrote, holds, applies, judged, refused}
-use Rattle.machine.specs.Steps.{Step, Read, Write, Deliver, Trip, Out, step}
-use Rattle.machine.specs.Rules.{In}
+use Rattle.machine.specs.{Table.{Vec, zeros, Name, name, Cell, blank, set, held, Open, State}, Answer.{Shown, unset, shown, Answer}}
+use Rattle.machine.specs.{Answer.{began, shows, wrote, holds, applies, judged, refused}, Steps.{Step, Read, Write, Deliver, Trip}}
+use Rattle.machine.specs.{Steps.{Out}, Rules.{In}}
 
 -- The value v that is written: here a status, with the process that writes it.
 pub record Value : Type 0 where
@@ -124,9 +119,9 @@ pub data Does (n i : ℕ) (p : Process) : Action → Process → Type 0 where
   does-receipt : {u : ℕ} {m : Message} → Does n i p (a-receipt u m) (receipt u m p)
   does-thread : {u k : ℕ} (m : Message) → p .waiting u k ≡ some m → Enabled n p u m → Does n i p (a-thread (name u k)) (resume u m p)
 
-pub data Runs (n i : ℕ) : Process → List Action → Process → Type 0 where
-  ends : {p : Process} → Runs n i p [] p
-  then : {p q r : Process} {a : Action} {l : List Action} → Does n i p a q → Runs n i q l r → Runs n i p (a ∷ l) r
+pub data ProcessRuns (n i : ℕ) : Process → List Action → Process → Type 0 where
+  ends : {p : Process} → ProcessRuns n i p [] p
+  then : {p q r : Process} {a : Action} {l : List Action} → Does n i p a q → ProcessRuns n i q l r → ProcessRuns n i p (a ∷ l) r
 
 -- no waiting thread is enabled
 abbrev pub Idle : ℕ → Process → Type 0
@@ -193,7 +188,7 @@ actor (Trip i xs) = i
 
 -- "every accepted step of the machine is a sequence of such actions, and after it no waiting thread is enabled"
 pub record PaperRun (s : State) (a : Step) (o : Out) : Type 0 where
-  pub runs : Runs (s .setup .desks) (actor a) (desk s (actor a)) (actionsOf s a (o .answer)) (desk (o .state) (actor a))
+  pub runs : ProcessRuns (s .setup .desks) (actor a) (desk s (actor a)) (actionsOf s a (o .answer)) (desk (o .state) (actor a))
   pub others : (j : ℕ) → j ≢ actor a → desk (o .state) j ≡ desk s j
   pub idle : (j : ℕ) → Idle (s .setup .desks) (desk (o .state) j)
 

@@ -1,18 +1,13 @@
 -- Source document 003, sections 3.1 and 4, as a whole: n processes and the messages between them; and what a schedule of the machine is
 -- in that system. (Proofs/PaperRuns: `desk-starts`, `runs-as-paper`, `received-is-sent`.)
-use mathlib.Core.Path.{_≡_}
-use mathlib.Core.Bool.{true, false, not, _&&_}
-use mathlib.Core.List.{List, [], _∷_, _++_, map}
-use mathlib.Core.Option.{Option, none, some}
+use mathlib.Core.{Path.{_≡_}, Bool.{true, false, not, _&&_}, List.{List, [], _∷_, _++_, map}, Option.{Option, none, some}}
 use Prim.Native.Nat.{ℕ}
 use lib.Dec.{eqb}
 use Rattle.laws.specs.Update.{upd, upd2}
-use Rattle.machine.specs.Table.{Name, name, away, State, fresh}
-use Rattle.machine.specs.Answer.{Answer, began, shows, wrote, holds, applies, judged, refused}
-use Rattle.machine.specs.Steps.{within, Step, Write, Deliver, Out, step}
-use Rattle.machine.specs.Rules.{In}
-use Rattle.machine.specs.Paper.{Value, Message, Process, start, sent, Action, a-write, a-read, a-receipt, a-thread, Does, desk, markedOf, actionsOf, actor}
-use Rattle.machine.specs.History.{Act, take-step, save-and-load, run}
+use Rattle.machine.specs.{Table.{Name, name, away, State, fresh}, Answer.{Answer, began, shows, wrote, holds, applies, judged}}
+use Rattle.machine.specs.{Answer.{refused}, Steps.{within, Step, Write, Deliver, Out, step}, Rules.{In}, Paper.{Value, Message}}
+use Rattle.machine.specs.Paper.{Process, start, sent, Action, a-write, a-read, a-receipt, a-thread, Does, desk, markedOf, actionsOf}
+use Rattle.machine.specs.{Paper.{actor}, History.{Act, take-step, save-and-load, run}}
 
 -- what was sent to each process and is not received there yet: a message under its sender and its number, as where it waits
 abbrev pub Ways : Type 0

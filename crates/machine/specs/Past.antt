@@ -1,16 +1,11 @@
 -- Source document 003, sections 2 and 3.4: the causal past of a write, and X_co-safe of an apply event, computed from a history.
 -- (Proofs/Past: `before-exactly` says that what is computed is the causal order of History, and `X-co-safe-exactly` that the set is that
 -- of definition 4.)
-use mathlib.Core.Bool.{Bool, true, false, _&&_, _||_}
-use mathlib.Core.List.{List, [], _∷_, List·Memᴰ}
-use mathlib.Core.Option.{Option, none, some}
+use mathlib.Core.{Bool.{Bool, true, false, _&&_, _||_}, List.{List, [], _∷_, List·Memᴰ}, Option.{Option, none, some}}
 use Prim.Native.Nat.{ℕ, zero, suc}
-use lib.Dec.{eqb, ltb}
-use lib.ListN.{length, getElem?}
-use Rattle.machine.specs.Table.{Name}
-use Rattle.machine.specs.Answer.{Shown, unset, shown}
-use Rattle.machine.specs.History.{Event, read-at, write-at, receive-at, apply-at, isName, Precedes}
-use Rattle.machine.specs.Demand3.{WriteAt}
+use lib.{Dec.{eqb, ltb}, ListN.{length, getElem?}}
+use Rattle.machine.specs.{Table.{Name}, Answer.{Shown, unset, shown}, History.{Event, read-at, write-at, receive-at, apply-at}}
+use Rattle.machine.specs.{History.{isName, Precedes}, Demand3.{WriteAt}}
 
 -- does some number below n pass?
 unfoldable pub someBelow : ℕ → (ℕ → Bool) → Bool

@@ -1,13 +1,10 @@
 -- Document 01, "Numbers of refusal": what each step asks, in the document's order, and the number if it is not so.
-use mathlib.Core.Path.{_≡_}
-use mathlib.Core.Logic.{_≢_, _⊎_}
-use mathlib.Core.List.{List, [], _∷_, List·Memᴰ}
+use mathlib.Core.{Path.{_≡_}, Logic.{_≢_, _⊎_}, List.{List, [], _∷_, List·Memᴰ}}
 use Prim.Native.Nat.{ℕ, _≤_, _<_}
 use lib.ListN.{length}
-use Rattle.machine.specs.Table.{most-desks, most-cells, most-open, most-trip, most-writes, most-status, away, State, written, place}
-use Rattle.machine.specs.Answer.{Refusal, no-desk, no-cell, no-status, spent, full, own-write, no-write, received, trip-size, no-size, Answer, refused}
-use Rattle.machine.specs.Steps.{openCount, Step, Read, Write, Deliver, Trip}
-use Rattle.machine.specs.Rules.{In}
+use Rattle.machine.specs.Table.{most-desks, most-cells, most-open, most-trip, most-writes, most-status, away, State, written, markOf}
+use Rattle.machine.specs.Answer.{Refusal, no-desk, no-cell, no-status, spent, full, own-write, no-write, received, trip-size, no-size}
+use Rattle.machine.specs.{Answer.{Answer, refused}, Steps.{openCount, Step, Read, Write, Deliver, Trip}, Rules.{In}}
 
 -- one row: what is asked, and the refusal if it is not so
 pub record Row : Type 1 where
@@ -32,7 +29,7 @@ rowsOf s (Deliver i u k) =
     (In (s .setup .desks) i × In (s .setup .desks) u or no-desk) ∷
     (i ≢ u or own-write) ∷
     (In (written s u) k or no-write) ∷
-    (place s i u k ≡ away or received) ∷ []
+    (markOf s i u k ≡ away or received) ∷ []
 rowsOf s (Trip i xs) =
     (In (s .setup .desks) i or no-desk) ∷
     (In most-trip (length xs) or trip-size) ∷

@@ -1,11 +1,8 @@
 -- Document 01, "Saved image", paragraph "Rules", as they speak of a table: a named part for each sentence.
-use mathlib.Core.Path.{_≡_}
-use mathlib.Core.Logic.{_↔_}
-use mathlib.Core.Bool.{true, false}
-use mathlib.Core.Option.{Option, none, some}
-use Prim.Native.Nat.{ℕ, suc, _≤_, _<_}
-use Rattle.machine.specs.Table.{most-desks, most-cells, most-open, most-writes, most-status, Vec, Cell, set, held, done, Open, State, written}
-use Rattle.machine.specs.Steps.{ready, isOpen, openCount}
+use mathlib.Core.{Path.{_≡_}, Logic.{_↔_}, Bool.{true, false}, Option.{some}}
+use Prim.Native.Nat.{ℕ, _≤_, _<_}
+use Rattle.machine.specs.Table.{most-desks, most-cells, most-open, most-writes, most-status, Vec, set, held, done, Open, State}
+use Rattle.machine.specs.{Table.{written}, Steps.{ready, isOpen, openCount}}
 
 -- 1 to n
 abbrev pub In : ℕ → ℕ → Type 0

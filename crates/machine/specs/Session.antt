@@ -1,17 +1,10 @@
 -- The first fourteen lines of document 01's session, together, and the sentence under it.
-use mathlib.Core.Path.{_≡_, refl}
-use mathlib.Core.List.{List, [], _∷_, _++_, map}
-use mathlib.Core.Option.{Option, none, some}
+use mathlib.Core.{Path.{_≡_, refl}, List.{List, [], _∷_, _++_, map}, Option.{Option, none, some}}
 use Prim.Native.Nat.{ℕ}
-use Rattle.laws.specs.Loop.{turns, scan}
-use Rattle.laws.specs.All.{all}
-use Rattle.laws.specs.Update.{upd, upd2}
-use Rattle.laws.specs.Sum.{sum}
-use Rattle.laws.specs.Lists.{any, every}
-use Rattle.machine.specs.Table.{name, Open, State}
-use Rattle.machine.specs.Answer.{Answer, began, shows, wrote, holds, applies, judged, shown, Yes, No, Unknown}
-use Rattle.machine.specs.Steps.{Step, Read, Write, Deliver, Trip, begin, step, answers, failing, everywhere, openCount, firstDue, settle, reads, verdict}
-use Rattle.machine.specs.History.{take-step, run}
+use Rattle.laws.specs.{Loop.{turns, scan}, All.{all}, Update.{upd, upd2}, Sum.{sum}, Lists.{any, every}}
+use Rattle.machine.specs.{Table.{name, Open, State}, Answer.{Answer, began, shows, wrote, holds, applies, judged, shown, Yes, No}}
+use Rattle.machine.specs.{Answer.{Unknown}, Steps.{Step, Read, Write, Deliver, Trip, begin, step, answers, failing, everywhere}}
+use Rattle.machine.specs.{Steps.{openCount, firstDue, settle, reads, verdict}, History.{take-step, run}}
 
 -- the answers of a schedule that begins with N n m
 abbrev pub answersFrom : Option State → List Step → List Answer

@@ -1,17 +1,12 @@
 -- Document 01, "The four steps" and "Numbers of refusal" (the orders), as total functions on the table.
-use mathlib.Core.Bool.{Bool, true, false, not, _&&_}
-use mathlib.Core.List.{List, [], _∷_}
-use mathlib.Core.Option.{Option, none, some}
-use Prim.Native.Nat.{ℕ, zero, suc, _≤_, _<_, max}
-use lib.Dec.{eqb, leb, ltb}
-use lib.ListN.{length}
-use Rattle.laws.specs.Loop.{scan}
-use Rattle.laws.specs.All.{all}
-use Rattle.laws.specs.Update.{upd, upd2}
-use Rattle.laws.specs.Sum.{sum, tally}
-use Rattle.laws.specs.Lists.{any, every}
-use Rattle.machine.specs.Table.{most-desks, most-cells, most-open, most-trip, most-writes, most-status, Vec, zeros, Name, name, Cell, blank, set, away, held, done, Open, State, fresh, written}
-use Rattle.machine.specs.Answer.{Shown, unset, shown, shownOf, Verdict, Yes, No, Unknown, Refusal, no-desk, no-cell, no-status, spent, full, own-write, no-write, received, trip-size, no-size, Answer, began, shows, wrote, holds, applies, judged, refused}
+use mathlib.Core.{Bool.{Bool, true, false, not, _&&_}, List.{List, [], _∷_}, Option.{Option, none, some}}
+use Prim.Native.Nat.{ℕ, zero, suc, max}
+use lib.{Dec.{eqb, leb, ltb}, ListN.{length}}
+use Rattle.laws.specs.{Loop.{scan}, All.{all}, Update.{upd, upd2}, Sum.{sum, tally}, Lists.{any, every}}
+use Rattle.machine.specs.Table.{most-desks, most-cells, most-open, most-trip, most-writes, most-status, Vec, Name, name, Cell, blank}
+use Rattle.machine.specs.{Table.{set, away, held, done, Open, State, fresh, written}, Answer.{Shown, unset, shown, shownOf, Verdict}}
+use Rattle.machine.specs.Answer.{Yes, No, Unknown, Refusal, no-desk, no-cell, no-status, spent, full, own-write, no-write, received}
+use Rattle.machine.specs.Answer.{trip-size, no-size, Answer, began, shows, wrote, holds, applies, judged, refused}
 
 pub record Out : Type 0 where
   pub answer : Answer

@@ -92,9 +92,9 @@ abbrev pub written : State → ℕ → ℕ
 written s u = s .applied u u
 
 -- where the accepted write u.k is at desk i: "a write is open until it is applied at all n desks"
-abbrev pub placeOf : Option Open → ℕ → ℕ
-placeOf none i = done
-placeOf (some w) i = w .marks i
+abbrev pub markIn : Option Open → ℕ → ℕ
+markIn none i = done
+markIn (some w) i = w .marks i
 
-abbrev pub place : State → ℕ → ℕ → ℕ → ℕ
-place s i u k = placeOf (s .opens u k) i
+abbrev pub markOf : State → ℕ → ℕ → ℕ → ℕ
+markOf s i u k = markIn (s .opens u k) i

@@ -1,7 +1,5 @@
 -- No choice is left: a reader is its schedule and its place. (Of a line, `schedule`'s `line-at-unique` says so.)
-use Prim.Native.Nat.{ℕ}
-use mathlib.Core.Path.{_≡_, sym, _∙_}
-use mathlib.Core.List.{List}
+use Rattle.laws.specs.Kit.{ℕ, _≡_, sym, _∙_, List}
 use denote.Ref.{RefT}
 use Rattle.reader.specs.declared.Reader.{Reader}
 

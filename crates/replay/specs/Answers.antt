@@ -1,23 +1,12 @@
 -- The answers to a whole text, part by part.
-use mathlib.Core.Path.{_≡_, refl, sym, ap, _∙_}
-use mathlib.Core.List.{List, [], _++_, append-assoc, append-nil}
-use mathlib.Core.Option.{none}
-use Prim.Native.Nat.{ℕ, _+_, _-_, _*_, _<_, _≤_}
-use native.Mathlib.Omega.{arith}
-use lib.ListN.{length, take, drop, length-append}
-use lib.Seq.{take-at, drop-at}
+use Rattle.laws.specs.Kit.{_≡_, refl, sym, ap, _∙_, List, [], _++_, append-assoc, append-nil, none, ℕ, _+_, _-_, _*_, _<_, _≤_, arith}
+use Rattle.laws.specs.{Kit.{length, take, drop, length-append, take-at, drop-at}, Text.{text as bytes}}
 use Rattle.io.specs.Counts.{Counts}
-use Rattle.replay.specs.declared.Input.{Input}
-use Rattle.replay.specs.declared.Input.the-variants.{Read, Failed}
-use Rattle.table.specs.declared.Core.{Core}
-use Rattle.table.specs.Model.{tableWith}
-use Rattle.session.specs.Session.{Session}
-use Rattle.session.specs.Transcript.{transcriptFrom, most-text, transcript}
-use Rattle.laws.specs.Text.{text as bytes}
-use Rattle.session.specs.Laws.{from-end, transcript-run, transcript-long}
-use Rattle.session.specs.Holds.{zeroCells, zeroOpens, zeroCore, Holds}
-use Rattle.session.specs.Run.{Ran, ran-rest, ran-part}
-use Rattle.session.specs.AnswersBound.{each-byte, transcript-bound}
+use Rattle.replay.specs.{declared.Input.{Input}, declared.Input.the-variants.{Read, Failed}}
+use Rattle.table.specs.{declared.Core.{Core}, Model.{tableWith}}
+use Rattle.session.specs.{Session.{Session}, Transcript.{transcriptFrom, most-text, transcript}}
+use Rattle.session.specs.{TranscriptLaws.{from-end, transcript-run, transcript-long}, Holds.{zeroCells, zeroOpens, zeroCore, Holds}}
+use Rattle.session.specs.{Run.{Ran, ran-rest, ran-part}, AnswersBound.{each-byte, transcript-bound}}
 
 -- the part is what stands in the list behind so many bytes, up to so many
 pub record Comes (all : List ℕ) (sent next : ℕ) (part : List ℕ) : Type 0 where

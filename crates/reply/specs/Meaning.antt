@@ -1,15 +1,11 @@
 -- What the code's answers mean: the machine's answer for every case, and so document 01's numbers and values.
-use Prim.Native.Nat.{ℕ, _+_, _*_, _≤_, min}
-use mathlib.Core.Path.{_≡_}
-use mathlib.Core.List.{List}
-use lib.ListN.{getD}
-use Rattle.laws.specs.Tab.{tab}
+use Rattle.laws.specs.{Kit.{ℕ, _+_, _*_, _≤_, min, _≡_, List, getD}, Tab.{tab}}
 use Rattle.machine.specs.Table.{Name, name, most-open}
 use Rattle.machine.specs.Answer as machine
-use Rattle.reply.specs.declared.Refusal.{Refusal}
-use Rattle.reply.specs.declared.Refusal.the-variants.{NoDesk, NoCell, NoStatus, Spent, Full, OwnWrite, NoWrite, Received, TripSize, NoStep, NoSize, Damaged, Broken, Short}
-use Rattle.reply.specs.declared.Answer.{Answer}
-use Rattle.reply.specs.declared.Answer.the-variants.{Begun, Unset, Shown, Wrote, Held, Applied, Yes, No, Unknown, Refused}
+use Rattle.reply.specs.{declared.Refusal.{Refusal}, declared.Refusal.the-variants.{NoDesk, NoCell, NoStatus, Spent, Full, OwnWrite}}
+use Rattle.reply.specs.declared.Refusal.the-variants.{NoWrite, Received, TripSize, NoStep, NoSize, Damaged, Broken, Short}
+use Rattle.reply.specs.{declared.Answer.{Answer}, declared.Answer.the-variants.{Begun, Unset, Shown, Wrote, Held, Applied, Yes, No}}
+use Rattle.reply.specs.declared.Answer.the-variants.{Unknown, Refused}
 
 abbrev pub refusalOf : Refusal → machine.Refusal
 refusalOf NoDesk = machine.no-desk

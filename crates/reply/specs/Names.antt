@@ -1,11 +1,6 @@
 -- The names of an answer, for whoever fills the array.
-use Prim.Native.Nat.{ℕ, _+_, _*_, _<_, _≤_, min}
-use mathlib.Core.Path.{_≡_, refl, _∙_}
-use mathlib.Core.List.{List, [], _∷_, _++_}
-use native.Mathlib.Omega.{arith}
-use lib.ListN.{length, getD, set, length-set}
-use lib.Seq.{getD-set-same, getD-set-other}
-use Rattle.laws.specs.Tab.{tab, tabFrom, length-tab, tab-more, tab-ext}
+use Rattle.laws.specs.Kit.{ℕ, _+_, _*_, _<_, _≤_, min, _≡_, refl, _∙_, List, [], _∷_, _++_, arith, length, getD, set, length-set}
+use Rattle.laws.specs.{Kit.{getD-set-same, getD-set-other}, Tab.{tab, tabFrom, length-tab, tab-more, tab-ext}}
 use Rattle.machine.specs.Table.{name, most-open}
 use Rattle.reply.specs.Meaning.{nameAt, namesOf}
 

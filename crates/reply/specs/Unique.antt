@@ -1,15 +1,11 @@
 -- Of the code's answers one only stands for an answer of the machine.
-use Prim.Native.Nat.{ℕ, min}
-use mathlib.Core.Path.{_≡_, refl, sym, ap, _∙_}
-use mathlib.Core.List.{List}
-use lib.ListN.{length}
+use Rattle.laws.specs.Kit.{ℕ, min, _≡_, refl, sym, ap, _∙_, List, length}
 use Rattle.machine.specs.Table.{Name, most-open}
 use Rattle.machine.specs.Answer as machine
-use Rattle.reply.specs.declared.Refusal.{Refusal}
-use Rattle.reply.specs.declared.Refusal.the-variants.{NoDesk, NoCell, NoStatus, Spent, Full, OwnWrite, NoWrite, Received, TripSize, NoStep, NoSize, Damaged, Broken, Short}
-use Rattle.reply.specs.declared.Answer.{Answer}
-use Rattle.reply.specs.declared.Answer.the-variants.{Begun, Unset, Shown, Wrote, Held, Applied, Yes, No, Unknown, Refused}
-use Rattle.reply.specs.Meaning.{refusalOf, namesOf, answerOf, Counted}
+use Rattle.reply.specs.{declared.Refusal.{Refusal}, declared.Refusal.the-variants.{NoDesk, NoCell, NoStatus, Spent, Full, OwnWrite}}
+use Rattle.reply.specs.declared.Refusal.the-variants.{NoWrite, Received, TripSize, NoStep, NoSize, Damaged, Broken, Short}
+use Rattle.reply.specs.{declared.Answer.{Answer}, declared.Answer.the-variants.{Begun, Unset, Shown, Wrote, Held, Applied, Yes, No}}
+use Rattle.reply.specs.{declared.Answer.the-variants.{Unknown, Refused}, Meaning.{refusalOf, namesOf, answerOf, Counted}}
 use Rattle.reply.specs.Names.{length-names}
 
 -- back from the machine's --

@@ -1,9 +1,4 @@
-pub mod Test
-pub mod Few
-pub mod Gap
-pub mod Box
-pub mod To
-pub mod From
-pub mod Whole
-pub mod Walk
 pub mod Unique
+pub mod TestIsRules
+pub mod Mirror
+pub mod Link

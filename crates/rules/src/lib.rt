@@ -9,20 +9,23 @@ ghost use Rattle.machine.specs.Table.{most-writes};
 ghost use Rattle.machine.specs.Rules.{In};
 ghost use Rattle.clock.specs.Vectors.{places, place};
 ghost use Rattle.table.specs.Value.{entries, openAt};
-ghost use Rattle.table.specs.Names.{number};
+ghost use Rattle.table.specs.EntryNames.{entryNumber};
 ghost use Rattle.table.specs.Sound.{SoundTable};
 ghost use Rattle.table.specs.Model.{tableWith};
-ghost use Rattle.rules.specs.Test.{has, owns, gapOf, gaps, lastOf, nought, ranges, due, used, entry, allEntries, live, counts, setCell, blankCell, cell, allCells, waits, liveMark, mark, allMarks, desk, allDesks, ownTest};
+ghost use Rattle.rules.specs.Mirror.Test.{has, owns, gapOf, gaps, lastOf, nought, rangesTest, dueTest, usedTest, entryTest, allEntries, liveTest, countsTest, setCell, blankCell, cellTest, allCells, waitsTest, liveMark, markTest, allMarks, deskTest, allDesks, ownTest};
 use clock::PLACES;
-use table::CELL;
 use table::CELLS;
 use table::Cell;
+use table::Cells;
 use table::Core;
+use table::DONE;
 use table::Desk;
 use table::Found;
-use table::OPEN;
+use table::HELD;
+use table::MOST_STATUS;
 use table::OPENS;
 use table::Open;
+use table::Opens;
 use table::Table;
 
 // Tests as values: what is joined by these runs without a branch.
@@ -81,7 +84,7 @@ fn numbers(l: &[u16])
 }
 
 // Is write k of desk u (from 1) open?
-fn has(opens: &[u16; OPENS * OPEN], u: usize, k: u16) -> bool
+fn has(opens: &Opens, u: usize, k: u16) -> bool
     requires { ⌜ In places u ⌝ }
     ensures { λ r. ⌜ r ≡ has (now (opens .entry)) u k ⌝ }
 {
@@ -92,7 +95,7 @@ fn has(opens: &[u16; OPENS * OPEN], u: usize, k: u16) -> bool
 }
 
 // Of desk u, whose last write is most, the latest write that is not open. (At most 64 are found on the way down.)
-fn gap(opens: &[u16; OPENS * OPEN], u: usize, most: u16) -> u16
+fn gap(opens: &Opens, u: usize, most: u16) -> u16
     requires { ⌜ In places u ⌝ }
     ensures { λ r. ⌜ r ≡ gapOf (has (now (opens .entry)) u) most ⌝ }
 {
@@ -106,7 +109,7 @@ fn gap(opens: &[u16; OPENS * OPEN], u: usize, most: u16) -> u16
     k
 }
 
-fn gap_counts(own: [u16; PLACES], opens: &[u16; OPENS * OPEN]) -> [u16; PLACES]
+fn gap_counts(own: [u16; PLACES], opens: &Opens) -> [u16; PLACES]
     ensures { λ r. ⌜ r ≡ gaps own (now (opens .entry)) ⌝ }
 {
     let mut v = [0u16; PLACES];
@@ -119,7 +122,7 @@ fn gap_counts(own: [u16; PLACES], opens: &[u16; OPENS * OPEN]) -> [u16; PLACES]
 }
 
 // Entries. Does no entry after e hold write k of desk u (from 1)?
-fn last_of(opens: &[u16; OPENS * OPEN], u: usize, k: u16, e: usize) -> bool
+fn last_of(opens: &Opens, u: usize, k: u16, e: usize) -> bool
     requires { ⌜ (In places u) × (e < entries) ⌝ }
     ensures { λ r. ⌜ r ≡ lastOf (now (opens .entry)) u k e ⌝ }
 {
@@ -134,42 +137,31 @@ fn last_of(opens: &[u16; OPENS * OPEN], u: usize, k: u16, e: usize) -> bool
 }
 
 fn ranges_ok(n: usize, m: usize, o: Open) -> bool
-    ensures { λ r. ⌜ r ≡ ranges n m o .passes ⌝ }
+    ensures { λ r. ⌜ r ≡ rangesTest n m o .passes ⌝ }
 {
     let x = table::wide(o.cell);
-    let cell = both(both(le(1, x), le(x, m)), le(table::wide(o.status), 2));
+    let cell = both(
+        both(le(1, x), le(x, m)),
+        le(table::wide(o.status), MOST_STATUS),
+    );
     both(le(table::wide(o.writer), n), cell)
 }
 
 // Its number is k.
-fn due_ok(
-    n: usize,
-    own: [u16; PLACES],
-    opens: &[u16; OPENS * OPEN],
-    e: usize,
-    o: Open,
-    k: u16,
-) -> bool
+fn due_ok(n: usize, own: [u16; PLACES], opens: &Opens, e: usize, o: Open, k: u16) -> bool
     requires { ⌜ (n ≤ places) × (e < entries) ⌝ }
-    requires { ⌜ (o ≡ openAt (now opens) e) × (k ≡ number o) ⌝ }
-    ensures { λ r. ⌜ r ≡ due n own o .passes ⌝ }
+    requires { ⌜ (o ≡ openAt (now opens) e) × (k ≡ entryNumber o) ⌝ }
+    ensures { λ r. ⌜ r ≡ dueTest n own o .passes ⌝ }
 {
     let v = o.vector;
     let open = both(clock::covers(own, v), !table::all_applied(opens, e, n));
     both(le(1, table::wide(k)), open)
 }
 
-fn used_ok(
-    n: usize,
-    m: usize,
-    own: [u16; PLACES],
-    opens: &[u16; OPENS * OPEN],
-    e: usize,
-    o: Open,
-) -> bool
+fn used_ok(n: usize, m: usize, own: [u16; PLACES], opens: &Opens, e: usize, o: Open) -> bool
     requires { ⌜ (n ≤ places) × (e < entries) ⌝ }
     requires { ⌜ (o ≡ openAt (now opens) e) × (1 ≤ o .writer) ⌝ }
-    ensures { λ r. ⌜ r ≡ used n m own (now (opens .entry)) e o .passes ⌝ }
+    ensures { λ r. ⌜ r ≡ usedTest n m own (now (opens .entry)) e o .passes ⌝ }
 {
     if !ranges_ok(n, m, o) {
         return false;
@@ -181,9 +173,9 @@ fn used_ok(
     both(due, last_of(opens, u, k, e))
 }
 
-fn entry_ok(n: usize, m: usize, own: [u16; PLACES], opens: &[u16; OPENS * OPEN], e: usize) -> bool
+fn entry_ok(n: usize, m: usize, own: [u16; PLACES], opens: &Opens, e: usize) -> bool
     requires { ⌜ (n ≤ places) × (e < entries) ⌝ }
-    ensures { λ r. ⌜ r ≡ entry n m own (now (opens .entry)) e .passes ⌝ }
+    ensures { λ r. ⌜ r ≡ entryTest n m own (now (opens .entry)) e .passes ⌝ }
 {
     let o = table::open_at(opens, e);
     let w = o.writer;
@@ -193,7 +185,7 @@ fn entry_ok(n: usize, m: usize, own: [u16; PLACES], opens: &[u16; OPENS * OPEN],
     used_ok(n, m, own, opens, e, o)
 }
 
-fn entries_ok(n: usize, m: usize, own: [u16; PLACES], opens: &[u16; OPENS * OPEN]) -> bool
+fn entries_ok(n: usize, m: usize, own: [u16; PLACES], opens: &Opens) -> bool
     requires { ⌜ n ≤ places ⌝ }
     ensures { λ r. ⌜ r ≡ allEntries n m own (now (opens .entry)) .passes ⌝ }
 {
@@ -209,7 +201,7 @@ fn entries_ok(n: usize, m: usize, own: [u16; PLACES], opens: &[u16; OPENS * OPEN
 
 // What a desk must have applied: gap of one in use, nothing past n.
 fn live_ok(n: usize, a: [u16; PLACES], gap: [u16; PLACES], i: usize) -> bool
-    ensures { λ r. ⌜ r ≡ live n a gap i .passes ⌝ }
+    ensures { λ r. ⌜ r ≡ liveTest n a gap i .passes ⌝ }
 {
     if lt(i, n) {
         clock::covers(a, gap)
@@ -221,7 +213,7 @@ fn live_ok(n: usize, a: [u16; PLACES], gap: [u16; PLACES], i: usize) -> bool
 // Desk i, from 0: its counts and its clock.
 fn counts_ok(n: usize, own: [u16; PLACES], gap: [u16; PLACES], i: usize, d: Desk) -> bool
     requires { ⌜ i < places ⌝ }
-    ensures { λ r. ⌜ r ≡ counts n own gap i d .passes ⌝ }
+    ensures { λ r. ⌜ r ≡ countsTest n own gap i d .passes ⌝ }
 {
     let a = d.applied;
     let clock = d.clock;
@@ -240,7 +232,10 @@ fn set_ok(m: usize, a: [u16; PLACES], x: usize, c: Cell) -> bool
     let v = c.vector;
     let first = table::wide(table::at_place(v, table::wide(c.writer)));
     let vector = both(le(1, first), clock::covers(a, v));
-    both(lt(x, m), both(le(table::wide(c.status), 2), vector))
+    both(
+        lt(x, m),
+        both(le(table::wide(c.status), MOST_STATUS), vector),
+    )
 }
 
 fn blank_ok(c: Cell) -> bool
@@ -251,7 +246,7 @@ fn blank_ok(c: Cell) -> bool
 }
 
 fn cell_ok(m: usize, a: [u16; PLACES], x: usize, c: Cell) -> bool
-    ensures { λ r. ⌜ r ≡ cell m a x c .passes ⌝ }
+    ensures { λ r. ⌜ r ≡ cellTest m a x c .passes ⌝ }
 {
     if same(c.writer, 0) {
         blank_ok(c)
@@ -260,7 +255,7 @@ fn cell_ok(m: usize, a: [u16; PLACES], x: usize, c: Cell) -> bool
     }
 }
 
-fn cells_ok(m: usize, a: [u16; PLACES], i: usize, cells: &[u16; PLACES * CELLS * CELL]) -> bool
+fn cells_ok(m: usize, a: [u16; PLACES], i: usize, cells: &Cells) -> bool
     requires { ⌜ i < places ⌝ }
     ensures { λ r. ⌜ r ≡ allCells m a i (now (cells .entry)) .passes ⌝ }
 {
@@ -277,13 +272,13 @@ fn cells_ok(m: usize, a: [u16; PLACES], i: usize, cells: &[u16; PLACES * CELLS *
 
 // The mark p of o at a desk with the counts a, where the desk has not applied it; and in any case.
 fn wait_ok(a: [u16; PLACES], p: u16, o: Open) -> bool
-    ensures { λ r. ⌜ r ≡ waits a p o .passes ⌝ }
+    ensures { λ r. ⌜ r ≡ waitsTest a p o .passes ⌝ }
 {
     let v = o.vector;
     if same(p, 0) {
         true
     } else {
-        both(same(p, 1), !clock::ready(a, v, table::wide(o.writer)))
+        both(same(p, HELD), !clock::ready(a, v, table::wide(o.writer)))
     }
 }
 
@@ -294,7 +289,7 @@ fn mark_live(a: [u16; PLACES], p: u16, o: Open) -> bool
     let v = o.vector;
     let k = table::wide(table::at_place(v, u));
     if le(k, table::wide(table::at_place(a, u))) {
-        both(same(p, 2), clock::covers(a, v))
+        both(same(p, DONE), clock::covers(a, v))
     } else {
         wait_ok(a, p, o)
     }
@@ -302,7 +297,7 @@ fn mark_live(a: [u16; PLACES], p: u16, o: Open) -> bool
 
 fn mark_ok(n: usize, a: [u16; PLACES], i: usize, o: Open) -> bool
     requires { ⌜ i < places ⌝ }
-    ensures { λ r. ⌜ r ≡ mark n a i o .passes ⌝ }
+    ensures { λ r. ⌜ r ≡ markTest n a i o .passes ⌝ }
 {
     let p = o.marks[i];
     if same(o.writer, 0) {
@@ -315,7 +310,7 @@ fn mark_ok(n: usize, a: [u16; PLACES], i: usize, o: Open) -> bool
     }
 }
 
-fn marks_ok(n: usize, a: [u16; PLACES], i: usize, opens: &[u16; OPENS * OPEN]) -> bool
+fn marks_ok(n: usize, a: [u16; PLACES], i: usize, opens: &Opens) -> bool
     requires { ⌜ i < places ⌝ }
     ensures { λ r. ⌜ r ≡ allMarks n a i (now (opens .entry)) .passes ⌝ }
 {
@@ -337,11 +332,11 @@ fn desk_ok(
     gap: [u16; PLACES],
     i: usize,
     d: Desk,
-    cells: &[u16; PLACES * CELLS * CELL],
-    opens: &[u16; OPENS * OPEN],
+    cells: &Cells,
+    opens: &Opens,
 ) -> bool
     requires { ⌜ i < places ⌝ }
-    ensures { λ r. ⌜ r ≡ desk n m own gap (now (cells .entry)) (now (opens .entry)) i d .passes ⌝ }
+    ensures { λ r. ⌜ r ≡ deskTest n m own gap (now (cells .entry)) (now (opens .entry)) i d .passes ⌝ }
 {
     let a = d.applied;
     both(
@@ -356,8 +351,8 @@ fn desks_ok(
     own: [u16; PLACES],
     gap: [u16; PLACES],
     desks: [Desk; PLACES],
-    cells: &[u16; PLACES * CELLS * CELL],
-    opens: &[u16; OPENS * OPEN],
+    cells: &Cells,
+    opens: &Opens,
 ) -> bool
     ensures { λ r. ⌜ r ≡ allDesks n m own gap (now (cells .entry)) (now (opens .entry)) desks .passes ⌝ }
 {
@@ -377,8 +372,8 @@ fn passes(
     m: usize,
     own: [u16; PLACES],
     desks: [Desk; PLACES],
-    cells: &[u16; PLACES * CELLS * CELL],
-    opens: &[u16; OPENS * OPEN],
+    cells: &Cells,
+    opens: &Opens,
 ) -> bool
     ensures { λ r. ⌜ r ≡ ownTest n m own desks (now (cells .entry)) (now (opens .entry)) .passes ⌝ }
 {
@@ -391,11 +386,7 @@ fn passes(
 }
 
 // Does the table keep the rules? Its model does, its unset cells are all zero, and no name stands in two of its entries.
-pub fn keeps_rules(
-    core: Core,
-    cells: &[u16; PLACES * CELLS * CELL],
-    opens: &[u16; OPENS * OPEN],
-) -> bool
+pub fn keeps_rules(core: Core, cells: &Cells, opens: &Opens) -> bool
     ensures { λ r. ⌜ Says r (SoundTable (tableWith core (now (cells .entry)) (now (opens .entry)))) ⌝ }
 {
     let desks = core.desks;

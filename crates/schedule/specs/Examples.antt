@@ -1,18 +1,9 @@
 -- Lines at the edges of the grammar, computed.
-use Prim.Native.Nat.{ℕ, zero, suc}
-use Prim.Native.String.{String}
-use mathlib.Core.Path.{_≡_, refl}
-use mathlib.Core.List.{List, [], _∷_, _++_, map}
-use mathlib.Core.Bool.{true, false}
-use mathlib.Core.Option.{Option, none, some, bind}
-use lib.ListN.{replicate}
-use Rattle.laws.specs.Lists.{every}
-use Rattle.laws.specs.Text.{text}
+use Rattle.laws.specs.Kit.{ℕ, zero, suc, String, _≡_, refl, List, [], _∷_, _++_, map, true, false, Option, none, some, bind, replicate}
+use Rattle.laws.specs.{Lists.{every}, Text.{text}}
 use Rattle.machine.specs.Steps.{Read, Write, Deliver, Trip}
-use Rattle.schedule.specs.Lines.{untilLF, fromLF, lineAt, endedAt}
-use Rattle.text.specs.Number.{isDigit, readOn, number}
-use Rattle.text.specs.Words.{words, numbers}
-use Rattle.schedule.specs.Grammar.{Line, begin-line, step-line, form, lineOf}
+use Rattle.schedule.specs.{Lines.{untilLF, fromLF, lineAt, endedAt}, Grammar.{Line, begin-line, step-line, form, lineOf}}
+use Rattle.text.specs.{Number.{isDigit, readOn, number}, Words.{words, numbers}}
 
 unfoldable pub said : String → Option Line
 said t = lineOf (text t)

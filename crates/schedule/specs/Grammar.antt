@@ -1,11 +1,5 @@
 -- Document 01, "Schedule text": what a line says, as a function of its bytes.
-use Prim.Native.Nat.{ℕ}
-use Prim.Native.Char.{code}
-use mathlib.Core.List.{List, [], _∷_}
-use mathlib.Core.Option.{Option, none, some, bind}
-use lib.ListN.{length}
-use lib.Dec.{eqb, leb}
-use Rattle.laws.specs.Loop.{pick}
+use Rattle.laws.specs.{Kit.{ℕ, code, List, [], _∷_, Option, none, some, bind, length, eqb, leb}, Loop.{pick}}
 use Rattle.text.specs.Words.{words, numbers}
 use Rattle.machine.specs.Steps.{Step, Read, Write, Deliver, Trip}
 

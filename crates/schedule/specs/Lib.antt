@@ -1,8 +1,7 @@
 pub mod Lines
 pub mod Grammar
 pub mod Examples
-pub mod Value
-pub mod LineLaws
-pub mod Forms
-pub mod Cells
-pub mod Facts
+pub mod LineFacts
+pub mod LineValue
+pub mod Mirror
+pub mod Link

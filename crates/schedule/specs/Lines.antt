@@ -1,11 +1,6 @@
 -- Document 01, "Schedule text": the lines of a schedule.
-use Prim.Native.Nat.{ℕ, _+_, _-_, min}
-use mathlib.Core.List.{List, [], _∷_}
-use mathlib.Core.Bool.{Bool}
+use Rattle.laws.specs.{Kit.{ℕ, _+_, _-_, min, List, [], _∷_, Bool, length, drop, eqb, ltb}, Loop.{pick}}
 use denote.Ref.{RefT}
-use lib.ListN.{length, drop}
-use lib.Dec.{eqb, ltb}
-use Rattle.laws.specs.Loop.{pick}
 
 abbrev pub LF : ℕ
 LF = 10

@@ -4,9 +4,9 @@ ghost use Prim.Native.Nat.{_<_, _≤_};
 ghost use lib.ListN.{length};
 ghost use Rattle.schedule.specs.Lines.{lineAt, endAt, placeIn};
 ghost use Rattle.schedule.specs.Grammar.{most-bytes, lineOf, two, three, oneOrMore};
-ghost use Rattle.schedule.specs.Value.{lineValue, SaidBy};
-ghost use Rattle.schedule.specs.Forms.{sayAt, PairTells, pairs, triples, travels, Told};
-ghost use Rattle.schedule.specs.Cells.{CellsTell};
+ghost use Rattle.schedule.specs.LineValue.{lineValue, SaidBy};
+ghost use Rattle.schedule.specs.Mirror.Forms.{sayAt, PairTells, pairs, triples, travels, ToldLine};
+ghost use Rattle.schedule.specs.Link.TripCells.{CellsTell};
 use text::Field;
 
 const LONGEST_LINE: usize = 128;
@@ -125,7 +125,7 @@ fn trip_cells(s: &[u8], from: usize, cells: &mut [u16; LIST]) -> Field
 // T i x x ..
 fn trip(s: &[u8], cells: &mut [u16; LIST]) -> Line
     requires { ⌜ length (now s) ≤ most-bytes ⌝ }
-    ensures { λ r. ⌜ Told (sayAt (now (s .entry)) 1 (oneOrMore travels)) r (now (cells .entry)) (now (cells .exit)) ⌝ }
+    ensures { λ r. ⌜ ToldLine (sayAt (now (s .entry)) 1 (oneOrMore travels)) r (now (cells .entry)) (now (cells .exit)) ⌝ }
 {
     let Field::Num(i, at) = text::next_field(s, 1) else {
         return Line::NoStep;

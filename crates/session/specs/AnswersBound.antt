@@ -1,34 +1,18 @@
 -- How long the answers to a text are, all together: 5 bytes for each byte of text, and a name for each write that was held before.
 -- An empty line is one byte and its answer, `E 10` and LF, is 5. The answer to a delivery that is held is short: that line pays for the name
 -- that is printed when the write is applied.
-use Prim.Native.Nat.{ℕ, suc, _+_, _-_, _*_, _<_, _≤_}
-use mathlib.Core.Path.{_≡_, refl}
-use mathlib.Core.Bool.{Bool, true, false}
-use mathlib.Core.List.{List, [], _∷_}
-use mathlib.Core.Option.{Option, none, some}
-use native.Mathlib.Omega.{arith}
-use lib.Dec.{eqb, leb}
-use borrow.Author.Tests.{leb-true}
-use lib.ListN.{length, drop, length-append, length-drop}
-use Rattle.laws.specs.Each.{Each, no, and}
-use Rattle.laws.specs.Loop.{pick, cases}
-use Rattle.laws.specs.Sum.{one}
-use Rattle.machine.specs.Table.{most-desks, most-open, Name, State}
-use Rattle.machine.specs.Answer.{Answer, began, shows, wrote, holds, applies, judged, refused, unset, shown, Yes, No, Unknown, Refusal, numberOf, no-desk, no-cell, no-status, spent, full, own-write, no-write, received, trip-size, no-step, no-size, damaged, broken, short}
-use Rattle.machine.specs.Rules.{Frame, Rules}
-use Rattle.machine.specs.Steps.{step}
-use Rattle.machine.specs.Proofs.Kept.{step-keeps-rules}
-use Rattle.machine.specs.Proofs.Refusals.{begin-cases}
-use Rattle.machine.specs.Proofs.HeldCount.{heldCount, held-few, fresh-held, Made, Counted, step-counted}
-use Rattle.schedule.specs.Grammar.{Line, begin-line, step-line, lineOf}
-use Rattle.schedule.specs.Lines.{LF}
-use Rattle.schedule.specs.Facts.{step-bytes}
-use Rattle.answer.specs.Bytes.{nameBytes, namesBytes, answerLine}
-use Rattle.answer.specs.Names.{name-length, shown-length}
-use Rattle.session.specs.Session.{Session, Turn, turn, begun}
-use Rattle.session.specs.Transcript.{TextLine, textLine, onto, linesOf, answersOf, sessionOf, printed, transcriptFrom, most-text, transcript}
-use Rattle.session.specs.Kept.{Kept, turn-kept}
-use Rattle.session.specs.Bounds.{decimal-short, number-short}
+use Rattle.laws.specs.Kit.{ℕ, suc, _+_, _-_, _*_, _<_, _≤_, _≡_, refl, Bool, true, false, List, [], _∷_, Option, none, some, arith, eqb}
+use Rattle.laws.specs.{Kit.{leb, length, drop, length-append, length-drop, leb-true}, Each.{Each, no, and}, Loop.{pick, cases}, Sum.{one}}
+use Rattle.machine.specs.{Table.{most-desks, most-open, Name, State}, Answer.{Answer, began, shows, wrote, holds, applies, judged, refused}}
+use Rattle.machine.specs.Answer.{unset, shown, Yes, No, Unknown, Refusal, numberOf, no-desk, no-cell, no-status, spent, full, own-write}
+use Rattle.machine.specs.{Answer.{no-write, received, trip-size, no-step, no-size, damaged, broken, short}, Rules.{Frame, Rules}}
+use Rattle.machine.specs.{Steps.{step}, Proofs.RulesKept.{step-keeps-rules}, Proofs.Refusals.{begin-cases}, Proofs.HeldCount.{heldCount}}
+use Rattle.machine.specs.Proofs.HeldCount.{held-few, fresh-held, Made, HeldCounted, step-counted}
+use Rattle.schedule.specs.{Grammar.{Line, begin-line, step-line, lineOf}, Lines.{LF}, LineFacts.{step-bytes}}
+use Rattle.answer.specs.{Bytes.{nameBytes, namesBytes, answerLine}, Link.NameLengths.{name-length, shown-length}}
+use Rattle.session.specs.{Session.{Session, Turn, turn, begun}, Transcript.{TextLine, textLine, ontoLine, linesOf, answersOf}}
+use Rattle.session.specs.Transcript.{sessionOf, printed, transcriptFrom, most-text, transcript}
+use Rattle.session.specs.{Link.SessionRules.{SessionKept, turn-kept}, LineBounds.{decimal-short, number-short}}
 
 -- the bytes of answers for each byte of text
 abbrev pub each-byte : ℕ
@@ -57,7 +41,7 @@ unfolding linesOf allBytes
 lines-bytes [] = refl
 lines-bytes (b ∷ t) = cases (eqb b LF) (λ e. rw e (omega (arith, lines-bytes t))) (λ e. rw e (go (linesOf t) (lines-bytes t)))
   where
-    go : (ls : List TextLine) → allBytes ls ≡ length t → allBytes (onto b ls) ≡ suc (length t)
+    go : (ls : List TextLine) → allBytes ls ≡ length t → allBytes (ontoLine b ls) ≡ suc (length t)
     go [] h = omega arith
     go (l ∷ ls) h = omega arith
 
@@ -66,7 +50,7 @@ unfolding linesOf
 lines-each [] = no
 lines-each (b ∷ t) = cases (eqb b LF) (λ e. rw e (and {x = textLine [] true} (omega arith) (lines-each t))) (λ e. rw e (go (linesOf t) (lines-each t)))
   where
-    go : (ls : List TextLine) → Each (λ l. 1 ≤ lineBytes l) ls → Each (λ l. 1 ≤ lineBytes l) (onto b ls)
+    go : (ls : List TextLine) → Each (λ l. 1 ≤ lineBytes l) ls → Each (λ l. 1 ≤ lineBytes l) (ontoLine b ls)
     go ls no = and {x = textLine (b ∷ []) false} (omega arith) no
     go ls (and {x = l} h e) = and {x = textLine (b ∷ l .bytes) (l .ended)} (omega arith) e
 
@@ -107,7 +91,7 @@ module _ {s : State} (f : Frame s) where
   names-bytes l (and {x = w} {l = m} h e) = simp length-append (omega (arith, name-bytes w h, names-bytes m e))
 
 -- a step's line is 4 bytes at least with its LF
-step-bound : {s s′ : State} → Rules s → Rules s′ → (a : Answer) → Counted s a s′
+step-bound : {s s′ : State} → Rules s → Rules s′ → (a : Answer) → HeldCounted s a s′
     → length (answerLine a) + each-name * heldCount s′ ≤ each-byte * 4 + each-name * heldCount s
 step-bound {s} {s′} r r′ began c = omega arith
 step-bound {s} {s′} r r′ (shows unset) c = omega arith
@@ -128,7 +112,7 @@ Within n z t = length (answerLine (t .answer)) + each-name * heldIn (t .session)
 refused-within : (n : ℕ) (z : Session) (r : Refusal) → 1 ≤ n → Within n z (record { answer = refused r; session = z })
 refused-within n z r h = omega (arith, refused-bytes r)
 
-turn-within : (n : ℕ) (z : Session) (o : Option Line) → Kept z → 1 ≤ n → ((x : Line) → o ≡ some x → 4 ≤ n) → Within n z (turn z o)
+turn-within : (n : ℕ) (z : Session) (o : Option Line) → SessionKept z → 1 ≤ n → ((x : Line) → o ≡ some x → 4 ≤ n) → Within n z (turn z o)
 turn-within n z none k h g = refused-within n z no-step h
 turn-within n none (some (begin-line d m)) k h g =
     begin-cases (λ b. Within n none (begun b)) (λ _ _. omega (arith, fresh-held d m)) (λ _. refused-within n none no-size h)
@@ -151,7 +135,7 @@ said-bytes l x = go (l .ended)
 
 -- all lines --
 
-lines-within : (ls : List TextLine) (z : Session) → Kept z → Each (λ l. 1 ≤ lineBytes l) ls
+lines-within : (ls : List TextLine) (z : Session) → SessionKept z → Each (λ l. 1 ≤ lineBytes l) ls
     → length (printed (answersOf z ls)) + each-name * heldIn (sessionOf z ls) ≤ each-byte * allBytes ls + each-name * heldIn z
 unfolding printed answersOf sessionOf allBytes said
 lines-within ls z k no = omega arith
@@ -166,7 +150,7 @@ lines-within ls z k (and {x = l} {l = more} h e) =
     )
 
 -- from a place on, where the lines before it left the session z
-pub answers-bound : (z : Session) → Kept z → (text : List ℕ) (at : ℕ)
+pub answers-bound : (z : Session) → SessionKept z → (text : List ℕ) (at : ℕ)
     → length (transcriptFrom z text at) ≤ each-byte * (length text - at) + each-name * heldIn z
 unfolding transcriptFrom
 answers-bound z k text at =
@@ -176,11 +160,11 @@ answers-bound z k text at =
 abbrev pub answersBound : ℕ → ℕ
 answersBound n = each-byte * n + each-name * ((most-desks - 1) * most-open)
 
-held-bound : (z : Session) → Kept z → heldIn z ≤ (most-desks - 1) * most-open
+held-bound : (z : Session) → SessionKept z → heldIn z ≤ (most-desks - 1) * most-open
 held-bound none k = omega arith
 held-bound (some s) k = held-few (k .frame)
 
-pub answers-fit : (z : Session) → Kept z → (text : List ℕ) → length (transcriptFrom z text 0) ≤ answersBound (length text)
+pub answers-fit : (z : Session) → SessionKept z → (text : List ℕ) → length (transcriptFrom z text 0) ≤ answersBound (length text)
 answers-fit z k text = omega (arith, answers-bound z k text 0, held-bound z k)
 
 -- the whole: a text that is too long is answered in one line

@@ -1,17 +1,8 @@
 -- Document 01, "Whole session", bytes to bytes, and texts at the edges.
-use mathlib.Core.Path.{_≡_, refl}
-use mathlib.Core.List.{List, [], _∷_, _++_, map}
-use mathlib.Core.Option.{bind}
-use Prim.Native.Nat.{ℕ}
-use Rattle.laws.specs.Loop.{turns, scan}
-use Rattle.laws.specs.All.{all}
-use Rattle.laws.specs.Update.{upd, upd2}
-use Rattle.laws.specs.Sum.{sum}
-use Rattle.laws.specs.Lists.{any, every}
-use Rattle.laws.specs.Text.{text}
+use Rattle.laws.specs.{Kit.{_≡_, refl, List, [], _∷_, _++_, map, bind, ℕ}, Loop.{turns, scan}, All.{all}, Update.{upd, upd2}, Sum.{sum}}
+use Rattle.laws.specs.{Lists.{any, every}, Text.{text}}
 use Rattle.machine.specs.Steps.{begin, step, failing, everywhere, openCount, firstDue, settle, reads, verdict}
-use Rattle.text.specs.Number.{digits, decimal, isDigit, readOn, number}
-use Rattle.text.specs.Words.{words, numbers}
+use Rattle.text.specs.{Number.{digits, decimal, isDigit, readOn, number}, Words.{words, numbers}}
 use Rattle.schedule.specs.Grammar.{form, lineOf}
 use Rattle.answer.specs.Bytes.{nameBytes, namesBytes}
 use Rattle.session.specs.Transcript.{linesOf, answersOf, printed, transcriptFrom, transcript}

@@ -1,25 +1,12 @@
 -- What the code's values have to do with a session: with no table every number is zero; a table keeps the rules.
-use mathlib.Core.Path.{_≡_, refl, ap, _∙_}
-use mathlib.Core.List.{List}
-use mathlib.Core.Option.{Option, none, some}
-use Prim.Native.Nat.{ℕ, _+_, _-_, _*_, _<_, _≤_}
-use native.Mathlib.Omega.{arith}
-use lib.ListN.{length, getD, set, replicate}
-use lib.Seq.{getD-set-same, getD-set-other}
+use Rattle.laws.specs.Kit.{_≡_, refl, ap, _∙_, List, none, some, ℕ, _+_, _-_, _*_, _<_, _≤_, arith, length, getD, set, replicate}
+use Rattle.laws.specs.{Kit.{getD-set-same, getD-set-other}, Rows.{tab-one, part-at}}
 use Rattle.clock.specs.Vectors.{places, place, place-at}
-use Rattle.machine.specs.Table.{State, fresh, most-desks, most-cells}
-use Rattle.machine.specs.Rules.{In}
-use Rattle.machine.specs.Proofs.Kept.{fresh-rules}
-use Rattle.laws.specs.Rows.{tab-one, part-at}
-use Rattle.table.specs.declared.Core.{Core}
-use Rattle.table.specs.declared.Desk.{Desk}
-use Rattle.table.specs.declared.Table.{Table}
-use Rattle.table.specs.Value.{desk0, all-cells, cell-width, entries, open-width, cellAt, full-cellAt, cell-status, cell-vector}
-use Rattle.table.specs.Model.{modelOf, tableOf, tableWith}
-use Rattle.table.specs.Sound.{AllZero, SoundTable}
-use Rattle.table.specs.Begin.{freshDesk, freshTable, fresh-model, zeros-at, unique-zeros}
-use Rattle.rules.specs.Test.{ownAt, owns}
-use Rattle.rules.specs.Box.{zero-all}
+use Rattle.machine.specs.{Table.{State, fresh, most-desks, most-cells}, Rules.{In}, Proofs.RulesKept.{fresh-rules}}
+use Rattle.table.specs.{declared.Core.{Core}, declared.Desk.{Desk}, declared.Table.{Table}, Value.{desk0, all-cells, cell-width, entries}}
+use Rattle.table.specs.{Value.{open-width, cellAt, full-cellAt, cell-status, cell-vector}, Model.{modelOf, tableOf, tableWith}}
+use Rattle.table.specs.{Sound.{AllZero, SoundTable}, Beginning.{freshDesk, freshTable, fresh-model, zeros-at, unique-zeros}}
+use Rattle.rules.specs.{Mirror.Test.{ownAt, owns}, Link.ArrayLimits.{zero-all}}
 use Rattle.session.specs.Session.{Session}
 
 abbrev pub zeroDesks : List Desk

@@ -1,11 +1,10 @@
 pub mod Session
 pub mod Transcript
-pub mod Laws
-pub mod Bounds
-pub mod Kept
 pub mod AnswersBound
 pub mod Examples
-pub mod Line
 pub mod Holds
-pub mod Act
 pub mod Run
+pub mod TranscriptLaws
+pub mod LineBounds
+pub mod Link
+pub mod Mirror

@@ -1,33 +1,16 @@
 -- A run over the lines of a text: how far it got, what it wrote, and the session it left.
-use mathlib.Core.Path.{_≡_, refl, sym, ap, subst, _∙_}
-use mathlib.Core.List.{List, [], _++_, append-assoc, append-nil}
-use mathlib.Core.Option.{Option, none}
-use mathlib.Core.Bool.{Bool, true}
-use Prim.Native.Nat.{ℕ, _+_, _<_, _≤_, min, max}
-use native.Mathlib.Omega.{arith}
-use native.Mathlib.Nat.{zero-add}
-use lib.Dec.{leb, ltb}
-use borrow.Author.Tests.{le-leb}
-use lib.ListN.{length, getD, take, drop, length-append}
-use lib.Seq.{sets, sets-eq, length-sets, take-at}
-use Rattle.laws.specs.Loop.{pick}
-use Rattle.laws.specs.Update.{same-or}
-use Rattle.laws.specs.Stores.{Stored, sets-append}
+use Rattle.laws.specs.Kit.{_≡_, refl, sym, ap, subst, _∙_, List, [], _++_, append-assoc, append-nil, Option, none, Bool, true, ℕ, _+_, _<_}
+use Rattle.laws.specs.Kit.{_≤_, min, max, arith, zero-add, leb, ltb, length, take, drop, length-append, sets, sets-eq, take-at, le-leb}
+use Rattle.laws.specs.{Loop.{pick}, Update.{same-or}, Stores.{Stored, sets-append}}
 use Rattle.machine.specs.Answer as machine
-use Rattle.schedule.specs.Grammar.{Line as Said, lineOf}
-use Rattle.schedule.specs.Lines.{lineAt, endedAt, nextAt}
-use Rattle.schedule.specs.LineLaws.{ended-is, next-is, next-more, next-le}
-use Rattle.answer.specs.Bytes.{answerLine, most-answer}
-use Rattle.answer.specs.Outcome.{upto, writtenOf, written, buffer}
-use Rattle.answer.specs.declared.Written.{Written}
+use Rattle.schedule.specs.{Grammar.{Line as Said, lineOf}, Lines.{lineAt, endedAt, nextAt}, Link.LineLaws.{ended-is, next-is, next-more}}
+use Rattle.schedule.specs.Link.LineLaws.{next-le}
+use Rattle.answer.specs.{Bytes.{answerLine, most-answer}, Outcome.{upto, writtenOf, putAnswer, buffer}, declared.Written.{Written}}
 use Rattle.answer.specs.declared.Written.the-variants.{Upto, Short}
 use Rattle.table.specs.declared.Table.{Table}
-use Rattle.rules.specs.Test.{owns}
-use Rattle.session.specs.Session.{Session, Turn, turn}
-use Rattle.session.specs.Transcript.{transcriptFrom, sessionFrom}
-use Rattle.session.specs.Laws.{turnAt, from-line, left-line}
-use Rattle.session.specs.Holds.{Holds}
-use Rattle.session.specs.Act.{Turned}
+use Rattle.rules.specs.Mirror.Test.{owns}
+use Rattle.session.specs.{Session.{Session, Turn, turn}, Transcript.{transcriptFrom, sessionFrom}}
+use Rattle.session.specs.{TranscriptLaws.{turnAt, from-line, left-line}, Holds.{Holds}, Link.LineTurn.{LineTurned}}
 
 -- Lines one by one, while there is text and room for a line of any answer: each is answered by its turn, and the answer's line stands behind those
 -- before it. From the session z at a place, with len bytes of the room in use, to the session and the place reached.
@@ -148,7 +131,7 @@ module _ {z : Session} {text : List ℕ} {from : ℕ} {out : List ℕ} {t : Tabl
   -- one line more
   pub going-on : {t′ : Table} (answer : machine.Answer) {o : Option Said} {at′ len′ : ℕ} {out″ : List ℕ}
       → at < length text → len + most-answer ≤ length out
-      → Turned t′ answer (turn (g .session) o)
+      → LineTurned t′ answer (turn (g .session) o)
       → o ≡ pick (endedAt text at) (lineOf (lineAt text at)) none
       → Stored out′ len (answerLine answer) out″ len′ → len′ ≤ length out
       → at′ ≡ nextAt text at
@@ -201,7 +184,7 @@ next-place text at {line} {end} {at′} h el ee ea =
 
 -- a line that has room
 module _ (out : List ℕ) (at : ℕ) (line out′ : List ℕ) (w : Written) (h : at + most-answer ≤ length out)
-    (e : (writtenOf w ≡ written out at line) × ((out′ ≡ buffer out at line) × (length line ≤ most-answer))) where
+    (e : (writtenOf w ≡ putAnswer out at line) × ((out′ ≡ buffer out at line) × (length line ≤ most-answer))) where
   room : leb (at + length line) (length out) ≡ true
   room = le-leb (at + length line) (length out) (omega (arith, e .1 .1))
 

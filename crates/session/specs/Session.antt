@@ -1,12 +1,6 @@
 -- Document 01, "Schedule text": a line against "no table yet" or a table.
-use mathlib.Core.Bool.{Bool}
-use mathlib.Core.List.{List}
-use mathlib.Core.Option.{Option, none, some}
-use Prim.Native.Nat.{ℕ}
-use Rattle.laws.specs.Loop.{pick}
-use Rattle.machine.specs.Table.{State}
-use Rattle.machine.specs.Answer.{Answer, refused, no-step}
-use Rattle.machine.specs.Steps.{Out, step, Begun, begin}
+use Rattle.laws.specs.{Kit.{Bool, List, Option, none, some, ℕ}, Loop.{pick}}
+use Rattle.machine.specs.{Table.{State}, Answer.{Answer, refused, no-step}, Steps.{Out, step, Begun, begin}}
 use Rattle.schedule.specs.Grammar.{Line, begin-line, step-line, lineOf}
 
 -- no table yet, or a table

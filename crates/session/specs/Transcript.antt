@@ -1,11 +1,5 @@
 -- Document 01, "Schedule text": all that `replay` prints, as a function of all that it reads.
-use mathlib.Core.Bool.{Bool, true, false}
-use mathlib.Core.List.{List, [], _∷_, _++_}
-use mathlib.Core.Option.{none}
-use Prim.Native.Nat.{ℕ}
-use lib.Dec.{eqb, leb}
-use lib.ListN.{length, drop}
-use Rattle.laws.specs.Loop.{pick}
+use Rattle.laws.specs.{Kit.{Bool, true, false, List, [], _∷_, _++_, none, ℕ, eqb, leb, length, drop}, Loop.{pick}}
 use Rattle.machine.specs.Answer.{Answer, refused, short}
 use Rattle.schedule.specs.Lines.{LF}
 use Rattle.answer.specs.Bytes.{answerLine}
@@ -20,14 +14,14 @@ abbrev pub textLine : List ℕ → Bool → TextLine
 textLine l e = record { bytes = l; ended = e }
 
 -- a byte in front of the first line; in front of nothing it is a last line without LF
-abbrev pub onto : ℕ → List TextLine → List TextLine
-onto b [] = textLine (b ∷ []) false ∷ []
-onto b (l ∷ ls) = textLine (b ∷ l .bytes) (l .ended) ∷ ls
+abbrev pub ontoLine : ℕ → List TextLine → List TextLine
+ontoLine b [] = textLine (b ∷ []) false ∷ []
+ontoLine b (l ∷ ls) = textLine (b ∷ l .bytes) (l .ended) ∷ ls
 
 -- the lines of a text: each LF ends one, and behind the last LF there is one more only if bytes follow
 unfoldable pub linesOf : List ℕ → List TextLine
 linesOf [] = []
-linesOf (b ∷ l) = pick (eqb b LF) (textLine [] true ∷ linesOf l) (onto b (linesOf l))
+linesOf (b ∷ l) = pick (eqb b LF) (textLine [] true ∷ linesOf l) (ontoLine b (linesOf l))
 
 -- each line's answer, from the session that the lines before it left
 unfoldable pub answersOf : Session → List TextLine → List Answer

@@ -7,17 +7,17 @@ ghost use Rattle.laws.specs.Loop.{pick};
 ghost use Rattle.clock.specs.Vectors.{places};
 ghost use Rattle.machine.specs.Steps.{begins};
 ghost use Rattle.schedule.specs.Grammar.{lineOf};
-ghost use Rattle.schedule.specs.Value.{most-listed, cellCount};
-ghost use Rattle.session.specs.Line.{Means, actor, seatOf};
+ghost use Rattle.schedule.specs.LineValue.{most-listed, cellCount};
+ghost use Rattle.session.specs.Mirror.LineValue.{Means, lineActor, seatOf};
 ghost use Rattle.session.specs.Holds.{zeroCore, SomeSession};
-ghost use Rattle.session.specs.Act.{Acting, Acts, SomeSeat, Turns, nextOf, begunOf, noStepOf, firstOf};
+ghost use Rattle.session.specs.Link.LineTurn.{Acting, LineActs, SomeSeat, Turns, nextOf, firstBegun, noStepOf, firstTurn};
 ghost use Rattle.reply.specs.declared.Answer.the-variants.{Refused};
 ghost use Rattle.answer.specs.Bytes.{answerLine, most-answer};
 ghost use Rattle.reply.specs.Meaning.{answerOf};
 ghost use Rattle.laws.specs.Stores.{Stored};
 ghost use Rattle.session.specs.Run.{Runs};
 ghost use Rattle.machine.specs.Steps.{Trip};
-ghost use Rattle.steps.specs.LookTurn.{SomeLook, Looks};
+ghost use Rattle.steps.specs.Mirror.Look.{SomeLook, Looks};
 use answer::LONGEST_ANSWER;
 use answer::Written;
 use clock::Clock;
@@ -28,12 +28,10 @@ use reply::Refusal;
 use schedule::LIST;
 use schedule::Line;
 use steps::Turn;
-use table::CELL;
-use table::CELLS;
+use table::Cells;
 use table::Core;
 use table::Desk;
-use table::OPEN;
-use table::OPENS;
+use table::Opens;
 ghost use Rattle.table.specs.Model.{tableWith};
 
 // The size of the table after a line, 0 while there is none, the acting desk, and the answer.
@@ -46,7 +44,7 @@ struct Next {
 
 // The desk that a line names first; 0 where it names none.
 fn actor(s: Line) -> usize
-    ensures { λ r. ⌜ r ≡ actor s ⌝ }
+    ensures { λ r. ⌜ r ≡ lineActor s ⌝ }
 {
     match s {
         Line::New(_, _) => 0,
@@ -82,7 +80,7 @@ fn none_yet(d: Desk, why: Refusal) -> Next
 
 // N n m: every number of the table is 0 already.
 fn begun(d: Desk, n: usize, m: usize) -> Next
-    ensures { λ r. ⌜ r ≡ begunOf d n m ⌝ }
+    ensures { λ r. ⌜ r ≡ firstBegun d n m ⌝ }
 {
     if table::begins(n, m) {
         return Next {
@@ -97,7 +95,7 @@ fn begun(d: Desk, n: usize, m: usize) -> Next
 
 // A line before there is a table.
 fn first(d: Desk, s: Line) -> Next
-    ensures { λ r. ⌜ r ≡ firstOf d s ⌝ }
+    ensures { λ r. ⌜ r ≡ firstTurn d s ⌝ }
 {
     match s {
         Line::New(n, m) => begun(d, n, m),
@@ -110,15 +108,7 @@ fn first(d: Desk, s: Line) -> Next
 }
 
 // T i x x ..: the cells are the first of the list.
-fn trip(
-    n: usize,
-    m: usize,
-    d: Desk,
-    cells: &[u16; PLACES * CELLS * CELL],
-    i: usize,
-    list: &[u16],
-    count: usize,
-) -> Turn
+fn trip(n: usize, m: usize, d: Desk, cells: &Cells, i: usize, list: &[u16], count: usize) -> Turn
     requires { ⌜ (count ≤ length (now list)) × (SomeLook n m (now cells) i d) ⌝ }
     ensures { λ r. ⌜ Looks n m (now (cells .entry)) i d (Trip i (take count (now (list .entry)))) r ⌝ }
 {
@@ -140,14 +130,14 @@ fn act(
     m: usize,
     d: Desk,
     own: [u16; PLACES],
-    cells: &mut [u16; PLACES * CELLS * CELL],
-    opens: &mut [u16; OPENS * OPEN],
+    cells: &mut Cells,
+    opens: &mut Opens,
     names: &mut [u16; NAMES],
     list: &[u16; LIST],
     s: Line,
 ) -> Turn
-    requires { ⌜ (cellCount s ≤ most-listed) × (Acting n m (now cells) (now opens) own (actor s) d) ⌝ }
-    ensures { λ r. ⌜ Acts n m d own (now (cells .entry)) (now (opens .entry)) (now (list .entry)) s r (now (cells .exit)) (now (opens .exit)) (now (names .exit)) ⌝ }
+    requires { ⌜ (cellCount s ≤ most-listed) × (Acting n m (now cells) (now opens) own (lineActor s) d) ⌝ }
+    ensures { λ r. ⌜ LineActs n m d own (now (cells .entry)) (now (opens .entry)) (now (list .entry)) s r (now (cells .exit)) (now (opens .exit)) (now (names .exit)) ⌝ }
 {
     match s {
         Line::Deliver(i, u, k) => {
@@ -167,13 +157,13 @@ fn turn(
     m: usize,
     d: Desk,
     own: [u16; PLACES],
-    cells: &mut [u16; PLACES * CELLS * CELL],
-    opens: &mut [u16; OPENS * OPEN],
+    cells: &mut Cells,
+    opens: &mut Opens,
     names: &mut [u16; NAMES],
     list: &[u16; LIST],
     s: Line,
 ) -> Next
-    requires { ⌜ (cellCount s ≤ most-listed) × (SomeSeat n m (now cells) (now opens) own (actor s) d) ⌝ }
+    requires { ⌜ (cellCount s ≤ most-listed) × (SomeSeat n m (now cells) (now opens) own (lineActor s) d) ⌝ }
     ensures { λ r. ⌜ Turns n m d own (now (cells .entry)) (now (opens .entry)) (now (list .entry)) s r (now (cells .exit)) (now (opens .exit)) (now (names .exit)) ⌝ }
 {
     if n == 0 {
@@ -258,8 +248,8 @@ pub fn start() -> Core
 // Runs the lines from a place on, while there are any and an answer of any length has room.
 pub fn run(
     core: Core,
-    cells: &mut [u16; PLACES * CELLS * CELL],
-    opens: &mut [u16; OPENS * OPEN],
+    cells: &mut Cells,
+    opens: &mut Opens,
     text: &[u8],
     at: usize,
     out: &mut [u8],

@@ -1,14 +1,5 @@
 pub mod Stepped
-pub mod LookTurn
-pub mod LookStepped
-pub mod LookLink
-pub mod LookTrip
-pub mod LookTripLink
-pub mod WriteTurn
-pub mod WriteCount
-pub mod WriteLink
-pub mod Cascade
-pub mod CascadeSearch
-pub mod DeliverReceive
-pub mod Deliver
 pub mod Unique
+pub mod Link
+pub mod Mirror
+pub mod OpenCount

@@ -1,22 +1,10 @@
 -- What a step on a desk by value and the two lent arrays must do: the machine's step.
-use mathlib.Core.Path.{_≡_}
-use mathlib.Core.List.{List, []}
-use Prim.Native.Nat.{ℕ, _-_, _*_}
-use lib.ListN.{length, getD, set}
-use lib.Seq.{set-getD}
-use Rattle.laws.specs.Loop.{pick, cases}
+use Rattle.laws.specs.{Kit.{_≡_, List, [], ℕ, _-_, _*_, length, getD, set, set-getD}, Loop.{pick, cases}}
 use Rattle.clock.specs.Vectors.{places, place}
 use Rattle.machine.specs.Answer as machine
-use Rattle.machine.specs.Steps.{Step, within, step}
-use Rattle.machine.specs.Rules.{In}
-use Rattle.machine.specs.Proofs.Ready.{says-within}
-use Rattle.table.specs.declared.Core.{Core}
-use Rattle.table.specs.declared.Desk.{Desk}
-use Rattle.table.specs.declared.Table.{Table}
-use Rattle.table.specs.Value.{desk0, all-cells, cell-width, entries, open-width}
-use Rattle.table.specs.Shape.{DesksShape}
-use Rattle.table.specs.Model.{appliedM, modelOf, tableOf}
-use Rattle.table.specs.Sound.{SoundTable}
+use Rattle.machine.specs.{Steps.{Step, within, step}, Rules.{In}, Within.{says-within}}
+use Rattle.table.specs.{declared.Core.{Core}, declared.Desk.{Desk}, declared.Table.{Table}, Value.{desk0, all-cells, cell-width, entries}}
+use Rattle.table.specs.{Value.{open-width}, TypeShape.{DesksShape}, Model.{appliedM, modelOf, tableOf}, Sound.{SoundTable}}
 
 -- d is desk i of a table that keeps the rules (any desk where i is none), and own holds each desk's own count
 pub record Placed (t : Table) (own : List ℕ) (i : ℕ) (d : Desk) : Type 0 where

@@ -1,40 +1,17 @@
 -- The contracts of the four steps leave one outcome: the answer, the desk and the cells as values, and the names beside the answer. Of the open
 -- writes it is the set: document 01 leaves open which entry holds one.
-use Prim.Native.Nat.{ℕ, _-_, _*_}
-use mathlib.Core.Path.{_≡_, refl, sym, ap, _∙_}
-use mathlib.Core.Logic.{inl}
-use mathlib.Core.Bool.{true}
-use mathlib.Core.List.{List, []}
-use native.Mathlib.Omega.{arith}
-use lib.ListN.{length, getD, length-set}
-use lib.Seq.{getD-set-same, getD-set-other}
-use Rattle.laws.specs.Loop.{cases}
-use Rattle.laws.specs.Says.{apart}
-use Rattle.laws.specs.Update.{same-or}
+use Rattle.laws.specs.Kit.{ℕ, _-_, _*_, _≡_, refl, sym, ap, _∙_, inl, true, List, [], arith, length, getD, length-set, getD-set-same}
+use Rattle.laws.specs.{Kit.{getD-set-other}, Loop.{cases}, Says.{apart}, Update.{same-or}}
 use Rattle.machine.specs.Answer as machine
-use Rattle.machine.specs.Table.{State}
-use Rattle.machine.specs.Rules.{In}
-use Rattle.machine.specs.Steps.{Step, Read, Write, Deliver, Trip, within, step}
-use Rattle.machine.specs.Paper.{actor}
+use Rattle.machine.specs.{Table.{State}, Rules.{In}, Steps.{Step, Read, Write, Deliver, Trip, within, step}, Paper.{actor}}
 use Rattle.machine.specs.Proofs.Refusals.{says-within, refusal-exactly, step-cases}
-use Rattle.reply.specs.declared.Answer.{Answer}
-use Rattle.reply.specs.declared.Answer.the-variants.{Refused}
-use Rattle.reply.specs.declared.Refusal.{Refusal}
-use Rattle.reply.specs.Meaning.{answerOf, refusalOf, Counted}
-use Rattle.reply.specs.Unique.{answer-is, Silent, silent-counted}
-use Rattle.table.specs.declared.Core.{Core}
-use Rattle.table.specs.declared.Desk.{Desk}
-use Rattle.table.specs.declared.Table.{Table}
-use Rattle.table.specs.Value.{desk0, all-cells, cell-width, entries, open-width}
-use Rattle.table.specs.Shape.{DeskShape, DesksShape, Shaped}
-use Rattle.table.specs.Model.{modelOf, tableOf}
-use Rattle.table.specs.Unique.{Among, same-core, same-cells, same-opens}
-use Rattle.steps.specs.declared.Turn.{Turn}
-use Rattle.steps.specs.Stepped.{Placed, Stepped, putDesk, tableAfter}
-use Rattle.steps.specs.LookStepped.{in-places}
-use Rattle.steps.specs.LookTurn.{SomeLook, Looks}
-use Rattle.steps.specs.WriteTurn.{SomeTable, Writes}
-use Rattle.steps.specs.Deliver.{Part, Delivers}
+use Rattle.reply.specs.{declared.Answer.{Answer}, declared.Answer.the-variants.{Refused}, declared.Refusal.{Refusal}}
+use Rattle.reply.specs.{Meaning.{answerOf, refusalOf, Counted}, Unique.{answer-is, Silent, silent-counted}}
+use Rattle.table.specs.{declared.Core.{Core}, declared.Desk.{Desk}, declared.Table.{Table}, Value.{desk0, all-cells, cell-width, entries}}
+use Rattle.table.specs.{Value.{open-width}, TypeShape.{DeskShape, DesksShape, Shaped}, Model.{modelOf, tableOf}, Unique.{StandsIn}}
+use Rattle.table.specs.Unique.{same-core, same-cells, same-opens}
+use Rattle.steps.specs.{declared.Turn.{Turn}, Stepped.{Placed, Stepped, putDesk, tableAfter}, Link.LookStepped.{in-places}}
+use Rattle.steps.specs.{Mirror.Look.{SomeLook, Looks}, Mirror.Write.{SomeTable, Writes}, Link.Deliver.{Part, Delivers}}
 
 outside : (s : State) (a : Step) → (In (s .setup .desks) (actor a) → ⊥) → step s a .answer ≡ machine.refused machine.no-desk
 outside s (Read i x) f = refusal-exactly s (Read i x) machine.no-desk .1 (inl (f, refl))
@@ -90,7 +67,7 @@ module _ {whole : Table} {own : List ℕ} {i : ℕ} {d : Desk} (p : Placed whole
   pub one-cells : cs′ ≡ cs″
   one-cells = same-cells (tableAfter (whole .core) i d′ cs′ os′) (tableAfter (whole .core) i d″ cs″ os″) (shaped hf) (shaped hg) (f .sound) (g .sound) same
 
-  pub one-opens : Among os′ os″
+  pub one-opens : StandsIn os′ os″
   one-opens = same-opens (tableAfter (whole .core) i d′ cs′ os′) (tableAfter (whole .core) i d″ cs″ os″) (shaped hf) (shaped hg) (f .sound) (g .sound) same
 
   pub one-desk : d′ ≡ d″
@@ -143,7 +120,7 @@ module _ {n m : ℕ} {cs : List ℕ} {i : ℕ} {d : Desk} {r r′ : Turn} (w : S
 pub record OneOutcome (r r′ : Turn) (cs cs′ os os′ : List ℕ) : Type 0 where
   pub turn : r ≡ r′
   pub cells : cs ≡ cs′
-  pub opens : Among os os′
+  pub opens : StandsIn os os′
   pub refused : (x : Refusal) → r .answer ≡ Refused x → os ≡ os′
 
 one-outcome : {t : Table} {own : List ℕ} {i : ℕ} {d : Desk} (p : Placed t own i d) {a : Step}

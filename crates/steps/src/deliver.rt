@@ -9,10 +9,10 @@ ghost use Rattle.clock.specs.Readiness.{readyAt};
 ghost use Rattle.machine.specs.Rules.{In};
 ghost use Rattle.machine.specs.Steps.{failing};
 ghost use Rattle.table.specs.Value.{desk-cells, entries, openAt};
-ghost use Rattle.table.specs.Opens.{Unique};
-ghost use Rattle.steps.specs.Cascade.{AppliedAt, DueSays, NamePut, Starts, Cascades};
-ghost use Rattle.steps.specs.DeliverReceive.{Arrives, Received};
-ghost use Rattle.steps.specs.Deliver.{Part, Delivers, Tested};
+ghost use Rattle.table.specs.Link.OpensModel.{Unique};
+ghost use Rattle.steps.specs.Link.Cascade.{AppliedAt, DueSays, NamePut, CascadeStarts, CascadeDoes};
+ghost use Rattle.steps.specs.Link.DeliverReceive.{Arriving, ReceivedAs};
+ghost use Rattle.steps.specs.Link.Deliver.{Part, Delivers, Tested};
 use crate::Turn;
 use crate::common::refused;
 use crate::common::small;
@@ -21,13 +21,13 @@ use clock::Wait;
 use reply::Answer;
 use reply::NAMES;
 use reply::Refusal;
-use table::CELL;
-use table::CELLS;
 use table::Cell;
+use table::Cells;
+use table::DONE;
 use table::Desk;
 use table::Found;
-use table::OPEN;
-use table::OPENS;
+use table::HELD;
+use table::Opens;
 
 // What the search finds: a writer and the entry of its write that is due.
 enum Due {
@@ -55,13 +55,7 @@ fn one_more(k: u16, most: u16) -> u16
 }
 
 // Entry e applied at desk i of n, and handed back when all have applied it.
-fn apply_at(
-    cells: &mut [u16; PLACES * CELLS * CELL],
-    opens: &mut [u16; OPENS * OPEN],
-    n: usize,
-    i: usize,
-    e: usize,
-)
+fn apply_at(cells: &mut Cells, opens: &mut Opens, n: usize, i: usize, e: usize)
     requires { ⌜ (n ≤ places) × ((In places i) × ((e < entries) × (In desk-cells (openAt (now opens) e .cell)))) ⌝ }
     ensures { λ _. ⌜ AppliedAt n i e (now (cells .entry)) (now (opens .entry)) (now (cells .exit)) (now (opens .exit)) ⌝ }
 {
@@ -74,20 +68,14 @@ fn apply_at(
         vector: v,
     };
     table::put_cell(cells, s, c);
-    table::put_mark(opens, e, i - 1, 2);
+    table::put_mark(opens, e, i - 1, DONE);
     if table::all_applied(opens, e, n) {
         table::set_free(opens, e);
     }
 }
 
 // The entry of the write of desk u that is held at desk i and ready there. Only the next in order can be.
-fn due_of(
-    a: [u16; PLACES],
-    own: [u16; PLACES],
-    opens: &[u16; OPENS * OPEN],
-    i: usize,
-    u: usize,
-) -> Found
+fn due_of(a: [u16; PLACES], own: [u16; PLACES], opens: &Opens, i: usize, u: usize) -> Found
     requires { ⌜ (In places i) × ((In places u) × (Unique (now opens))) ⌝ }
     ensures { λ r. ⌜ DueSays a own (now (opens .entry)) i u r ⌝ }
 {
@@ -99,7 +87,7 @@ fn due_of(
     let Found::At(e) = table::find(opens, u, one_more(k, most)) else {
         return Found::Nothing;
     };
-    if table::mark_at(opens, e, i - 1) != 1 {
+    if table::mark_at(opens, e, i - 1) != HELD {
         return Found::Nothing;
     }
     let v = table::vector_at(opens, e);
@@ -132,15 +120,15 @@ fn cascade(
     n: usize,
     c: [u16; PLACES],
     own: [u16; PLACES],
-    cells: &mut [u16; PLACES * CELLS * CELL],
-    opens: &mut [u16; OPENS * OPEN],
+    cells: &mut Cells,
+    opens: &mut Opens,
     names: &mut [u16; NAMES],
     i: usize,
     u: usize,
     e: usize,
 ) -> Applied
-    requires { ⌜ Starts n i u e c own (now cells) (now opens) ⌝ }
-    ensures { λ r. ⌜ Cascades n i u e c own (now (cells .entry)) (now (opens .entry)) (now (names .entry)) (r .counts) (r .len) (now (cells .exit)) (now (opens .exit)) (now (names .exit)) ⌝ }
+    requires { ⌜ CascadeStarts n i u e c own (now cells) (now opens) ⌝ }
+    ensures { λ r. ⌜ CascadeDoes n i u e c own (now (cells .entry)) (now (opens .entry)) (now (names .entry)) (r .counts) (r .len) (now (cells .exit)) (now (opens .exit)) (now (names .exit)) ⌝ }
 {
     let mut a = c;
     let mut w = u;
@@ -190,15 +178,15 @@ fn receive(
     n: usize,
     d: Desk,
     own: [u16; PLACES],
-    cells: &mut [u16; PLACES * CELLS * CELL],
-    opens: &mut [u16; OPENS * OPEN],
+    cells: &mut Cells,
+    opens: &mut Opens,
     names: &mut [u16; NAMES],
     i: usize,
     u: usize,
     e: usize,
 ) -> Turn
-    requires { ⌜ Arrives n i u e (d .applied) own (now cells) (now opens) ⌝ }
-    ensures { λ r. ⌜ Received n i u e d own (now (cells .entry)) (now (opens .entry)) (now (names .entry)) r (now (cells .exit)) (now (opens .exit)) (now (names .exit)) ⌝ }
+    requires { ⌜ Arriving n i u e (d .applied) own (now cells) (now opens) ⌝ }
+    ensures { λ r. ⌜ ReceivedAs n i u e d own (now (cells .entry)) (now (opens .entry)) (now (names .entry)) r (now (cells .exit)) (now (opens .exit)) (now (names .exit)) ⌝ }
 {
     let v = table::vector_at(opens, e);
     let a = d.applied;
@@ -215,7 +203,7 @@ fn receive(
             answer: Answer::Applied(r.len),
         };
     }
-    table::put_mark(opens, e, i - 1, 1);
+    table::put_mark(opens, e, i - 1, HELD);
     Turn {
         desk: d,
         answer: Answer::Held(waits_for(a, v, u)),
@@ -251,8 +239,8 @@ pub fn deliver_at(
     n: usize,
     d: Desk,
     own: [u16; PLACES],
-    cells: &mut [u16; PLACES * CELLS * CELL],
-    opens: &mut [u16; OPENS * OPEN],
+    cells: &mut Cells,
+    opens: &mut Opens,
     names: &mut [u16; NAMES],
     i: usize,
     u: usize,

@@ -10,18 +10,15 @@ ghost use Rattle.machine.specs.Steps.{within, Read, Trip};
 ghost use Rattle.clock.specs.Vectors.{places};
 ghost use Rattle.table.specs.Value.{desk-cells, cellAt};
 ghost use Rattle.table.specs.Model.{slot};
-ghost use Rattle.steps.specs.LookTurn.{clockTurn, shownCell, lookTurn, SomeLook, Looks};
-ghost use Rattle.steps.specs.LookTrip.{seenNothing, seeCell, seeAll, verdictOf, tripTurn};
+ghost use Rattle.steps.specs.Mirror.Look.{clockTurn, shownCell, lookTurn, SomeLook, Looks};
+ghost use Rattle.steps.specs.Mirror.Trip.{seenNothing, seeCell, seeAll, verdictOf, tripTurn};
 use crate::Turn;
-use crate::common::at_place;
 use crate::common::refused;
 use clock::Clock;
-use clock::PLACES;
 use reply::Answer;
 use reply::Refusal;
-use table::CELL;
-use table::CELLS;
 use table::Cell;
+use table::Cells;
 use table::Desk;
 
 // The most cells of a trip.
@@ -35,7 +32,7 @@ fn shown(c: Cell) -> Answer
         return Answer::Unset;
     }
     let v = c.vector;
-    Answer::Shown(c.status, w, at_place(v, table::wide(w)))
+    Answer::Shown(c.status, w, table::at_place(v, table::wide(w)))
 }
 
 fn with_clock(d: Desk, k: Clock, answer: Answer) -> Turn
@@ -53,7 +50,7 @@ fn with_clock(d: Desk, k: Clock, answer: Answer) -> Turn
 }
 
 // The read of cell x at desk i, both in range.
-fn looked(d: Desk, cells: &[u16; PLACES * CELLS * CELL], i: usize, x: usize) -> Turn
+fn looked(d: Desk, cells: &Cells, i: usize, x: usize) -> Turn
     requires { ⌜ (In places i) × (In desk-cells x) ⌝ }
     ensures { λ r. ⌜ r ≡ lookTurn d (cellAt (now (cells .entry)) (slot i x)) ⌝ }
 {
@@ -63,14 +60,7 @@ fn looked(d: Desk, cells: &[u16; PLACES * CELLS * CELL], i: usize, x: usize) -> 
     with_clock(d, k.join(v), shown(c))
 }
 
-pub fn read_at(
-    n: usize,
-    m: usize,
-    d: Desk,
-    cells: &[u16; PLACES * CELLS * CELL],
-    i: usize,
-    x: usize,
-) -> Turn
+pub fn read_at(n: usize, m: usize, d: Desk, cells: &Cells, i: usize, x: usize) -> Turn
     requires { ⌜ SomeLook n m (now cells) i d ⌝ }
     ensures { λ r. ⌜ Looks n m (now (cells .entry)) i d (Read i x) r ⌝ }
 {
@@ -130,7 +120,7 @@ fn see(s: Seen, c: Cell) -> Seen
 }
 
 // Reads the listed cells of desk i in order.
-fn see_all(k: Clock, cells: &[u16; PLACES * CELLS * CELL], i: usize, list: &[u16]) -> Seen
+fn see_all(k: Clock, cells: &Cells, i: usize, list: &[u16]) -> Seen
     requires { ⌜ (In places i) × (every (within desk-cells) (now list) ≡ true) ⌝ }
     ensures { λ r. ⌜ r ≡ seeAll (now (cells .entry)) i (seenNothing k) (now (list .entry)) ⌝ }
 {
@@ -161,7 +151,7 @@ fn verdict(s: Seen) -> Answer
 }
 
 // The trip of desk i over the listed cells, all in range.
-fn travelled(d: Desk, cells: &[u16; PLACES * CELLS * CELL], i: usize, list: &[u16]) -> Turn
+fn travelled(d: Desk, cells: &Cells, i: usize, list: &[u16]) -> Turn
     requires { ⌜ (In places i) × (every (within desk-cells) (now list) ≡ true) ⌝ }
     ensures { λ r. ⌜ r ≡ tripTurn d (now (cells .entry)) i (now (list .entry)) ⌝ }
 {
@@ -171,14 +161,7 @@ fn travelled(d: Desk, cells: &[u16; PLACES * CELLS * CELL], i: usize, list: &[u1
     with_clock(d, joined, verdict(s))
 }
 
-pub fn trip_at(
-    n: usize,
-    m: usize,
-    d: Desk,
-    cells: &[u16; PLACES * CELLS * CELL],
-    i: usize,
-    list: &[u16],
-) -> Turn
+pub fn trip_at(n: usize, m: usize, d: Desk, cells: &Cells, i: usize, list: &[u16]) -> Turn
     requires { ⌜ SomeLook n m (now cells) i d ⌝ }
     ensures { λ r. ⌜ Looks n m (now (cells .entry)) i d (Trip i (now (list .entry))) r ⌝ }
 {

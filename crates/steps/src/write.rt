@@ -7,25 +7,22 @@ ghost use Rattle.machine.specs.Rules.{In};
 ghost use Rattle.machine.specs.Steps.{Write};
 ghost use Rattle.clock.specs.Vectors.{places, place};
 ghost use Rattle.table.specs.Value.{desk-cells};
-ghost use Rattle.steps.specs.WriteTurn.{newMarks, Spotted, SpotIn, enterAt, Wrote, SomeTable, Writes};
+ghost use Rattle.steps.specs.Mirror.Write.{newMarks, Spotted, SpotIn, enterAt, Wrote, SomeTable, Writes};
 use crate::Turn;
-use crate::common::at_place;
 use crate::common::refused;
 use crate::common::small;
+use clock::MOST_WRITES;
 use clock::PLACES;
 use reply::Answer;
 use reply::Refusal;
-use table::CELL;
-use table::CELLS;
 use table::Cell;
+use table::Cells;
+use table::DONE;
 use table::Desk;
 use table::Found;
-use table::OPEN;
-use table::OPENS;
+use table::MOST_STATUS;
 use table::Open;
-
-// The most writes of a desk.
-const MOST_WRITES: u16 = 65535;
+use table::Opens;
 
 // Where a new write is kept for the other desks: in an entry, or nowhere as there is no other desk, or all are in use.
 enum Spot {
@@ -35,7 +32,7 @@ enum Spot {
 }
 
 // The spot for write k of desk i.
-fn spot_for(n: usize, opens: &[u16; OPENS * OPEN], i: usize, k: u16) -> Spot
+fn spot_for(n: usize, opens: &Opens, i: usize, k: u16) -> Spot
     ensures { λ r. ⌜ Spotted n (now (opens .entry)) r ⌝ }
 {
     if n == 1 {
@@ -53,11 +50,11 @@ fn new_marks(i: usize) -> [u16; PLACES]
     ensures { λ r. ⌜ r ≡ newMarks i ⌝ }
 {
     let mut marks = [0u16; PLACES];
-    marks[i - 1] = 2;
+    marks[i - 1] = DONE;
     marks
 }
 
-fn enter(opens: &mut [u16; OPENS * OPEN], s: Spot, o: Open)
+fn enter(opens: &mut Opens, s: Spot, o: Open)
     requires { ⌜ SpotIn s ⌝ }
     ensures { λ _. ⌜ now (opens .exit) ≡ enterAt (now (opens .entry)) s o ⌝ }
 {
@@ -71,8 +68,8 @@ fn enter(opens: &mut [u16; OPENS * OPEN], s: Spot, o: Open)
 // The write of desk i at cell x, all tests passed.
 fn written(
     d: Desk,
-    cells: &mut [u16; PLACES * CELLS * CELL],
-    opens: &mut [u16; OPENS * OPEN],
+    cells: &mut Cells,
+    opens: &mut Opens,
     i: usize,
     x: usize,
     v: u16,
@@ -117,8 +114,8 @@ pub fn write_at(
     n: usize,
     m: usize,
     d: Desk,
-    cells: &mut [u16; PLACES * CELLS * CELL],
-    opens: &mut [u16; OPENS * OPEN],
+    cells: &mut Cells,
+    opens: &mut Opens,
     i: usize,
     x: usize,
     v: usize,
@@ -132,11 +129,11 @@ pub fn write_at(
     if !table::inside(m, x) {
         return refused(d, Refusal::NoCell);
     }
-    if 2 < v {
+    if MOST_STATUS < v {
         return refused(d, Refusal::NoStatus);
     }
     let a = d.applied;
-    let k = at_place(a, i);
+    let k = table::at_place(a, i);
     if MOST_WRITES <= k {
         return refused(d, Refusal::Spent);
     }

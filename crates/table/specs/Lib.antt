@@ -1,9 +1,9 @@
 pub mod Value
-pub mod Names
-pub mod Shape
 pub mod Model
-pub mod Opens
 pub mod Sound
-pub mod Same
-pub mod Begin
 pub mod Unique
+pub mod Beginning
+pub mod EntryNames
+pub mod Link
+pub mod SameTable
+pub mod TypeShape

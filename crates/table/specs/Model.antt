@@ -1,25 +1,12 @@
 -- The table as the machine's: functions of the desk, the place, the cell and the write's name, all from 1.
-use Prim.Native.Nat.{ℕ, zero, suc, _+_, _-_, _*_}
-use mathlib.Core.Path.{_≡_, refl, ap, _∙_}
-use mathlib.Core.List.{List}
-use mathlib.Core.Option.{Option}
-use native.Mathlib.Omega.{arith}
-use borrow.Author.Tests.{ltb-true, lt-ltb}
-use lib.ListN.{length, getD, set}
-use lib.Dec.{ltb, eqb}
-use Rattle.laws.specs.Loop.{pick, cases}
-use Rattle.laws.specs.Update.{upd, upd2, upd2-is, seen1, lift-set1, lift-keep1}
-use Rattle.laws.specs.Find.{firstOf}
+use Rattle.laws.specs.Kit.{ℕ, zero, suc, _+_, _-_, _*_, _≡_, refl, ap, _∙_, List, Option, arith, ltb-true, lt-ltb, length, getD, set, ltb}
+use Rattle.laws.specs.{Kit.{eqb}, Loop.{pick, cases}, Update.{upd, upd2, upd2-is, seen1, lift-set1, lift-keep1}, Find.{firstOf}}
 use Rattle.clock.specs.Vectors.{places, place}
 use Rattle.machine.specs.Table as machine
 use Rattle.machine.specs.Rules.{In}
-use Rattle.table.specs.declared.Cell.{Cell}
-use Rattle.table.specs.declared.Core.{Core}
-use Rattle.table.specs.declared.Desk.{Desk}
-use Rattle.table.specs.declared.Open.{Open}
-use Rattle.table.specs.declared.Table.{Table}
-use Rattle.table.specs.Value.{desk0, desk-cells, all-cells, cell-width, cellAt, putCell, cellAt-put, cellAt-other, FullCell, entriesOf}
-use Rattle.table.specs.Names.{named}
+use Rattle.table.specs.{declared.Cell.{Cell}, declared.Core.{Core}, declared.Desk.{Desk}, declared.Open.{Open}}
+use Rattle.table.specs.{declared.Table.{Table}, Value.{desk0, desk-cells, all-cells, cell-width, cellAt, putCell, cellAt-put}}
+use Rattle.table.specs.{Value.{cellAt-other, FullCell, entriesOf}, EntryNames.{named}}
 
 abbrev pub appliedVec : Desk → machine.Vec
 appliedVec d = place (d .applied)

@@ -1,15 +1,9 @@
 -- A table value that keeps the rules: its model does, and so does what the model does not see.
-use mathlib.Core.Path.{_≡_}
-use mathlib.Core.List.{List}
-use Prim.Native.Nat.{ℕ, _<_}
+use Rattle.laws.specs.Kit.{_≡_, List, ℕ, _<_}
 use Rattle.clock.specs.Vectors.{place}
 use Rattle.machine.specs.Rules.{Rules}
-use Rattle.table.specs.declared.Cell.{Cell}
-use Rattle.table.specs.declared.Desk.{Desk}
-use Rattle.table.specs.declared.Table.{Table}
-use Rattle.table.specs.Value.{all-cells, cellAt}
-use Rattle.table.specs.Model.{tableOf, modelOf}
-use Rattle.table.specs.Opens.{Unique}
+use Rattle.table.specs.{declared.Cell.{Cell}, declared.Desk.{Desk}, declared.Table.{Table}, Value.{all-cells, cellAt}}
+use Rattle.table.specs.{Model.{tableOf, modelOf}, Link.OpensModel.{Unique}}
 
 -- "writer (0 unset, then all zero)"
 pub record AllZero (c : Cell) : Type 0 where

@@ -1,28 +1,13 @@
 -- Two values of one table that keep the rules differ in nothing but where open writes stand and what lies in free entries.
-use Prim.Native.Nat.{ℕ, zero, suc, _+_, _*_, _/_, _%_, _<_}
-use mathlib.Core.Path.{_≡_, refl, sym, ap, _∙_, fun-ext}
-use mathlib.Core.Bool.{true, false}
-use mathlib.Core.List.{List}
-use native.Mathlib.Omega.{arith}
-use borrow.Author.Tests.{eqb-true}
-use lib.Dec.{eqb}
-use lib.ListN.{length, getD}
-use lib.Seq.{ext-getD}
-use Rattle.laws.specs.Loop.{cases}
-use Rattle.laws.specs.Rows.{row, part-at, length-part}
+use Rattle.laws.specs.Kit.{ℕ, zero, suc, _+_, _*_, _/_, _%_, _<_, _≡_, refl, sym, ap, _∙_, fun-ext, true, false, List, arith, eqb-true, eqb}
+use Rattle.laws.specs.{Kit.{length, getD, ext-getD}, Loop.{cases}, Rows.{row, part-at, length-part}}
 use Rattle.clock.specs.Vectors.{places, place, place-ext}
 use Rattle.machine.specs.Table as machine
-use Rattle.table.specs.declared.Cell.{Cell}
-use Rattle.table.specs.declared.Desk.{Desk}
-use Rattle.table.specs.declared.Open.{Open}
-use Rattle.table.specs.declared.Table.{Table}
-use Rattle.table.specs.Value.{desk0, desk-cells, all-cells, cell-width, entries, cellOf, cellRow, cellAt, FullCell, full-cellAt, openAt, FullOpen, full-openAt, isFree}
-use Rattle.table.specs.Shape.{DeskShape, Shaped}
-use Rattle.table.specs.Names.{number, own-named, named-is}
-use Rattle.table.specs.Model.{appliedM, clockM, cellM, openM, slot, cell-in}
-use Rattle.table.specs.Opens.{opens-at, opens-some}
-use Rattle.table.specs.Sound.{AllZero, SoundTable}
-use Rattle.table.specs.Same.{Same}
+use Rattle.table.specs.{declared.Cell.{Cell}, declared.Desk.{Desk}, declared.Open.{Open}, declared.Table.{Table}, Value.{desk0}}
+use Rattle.table.specs.Value.{desk-cells, all-cells, cell-width, entries, cellOf, cellRow, cellAt, FullCell, full-cellAt, openAt}
+use Rattle.table.specs.{Value.{FullOpen, full-openAt, isFree}, TypeShape.{DeskShape, Shaped}}
+use Rattle.table.specs.{EntryNames.{entryNumber, own-named, named-is}, Model.{appliedM, clockM, cellM, openM, slot, cell-in}}
+use Rattle.table.specs.{Link.OpensModel.{opens-at, opens-some}, Sound.{AllZero, SoundTable}, SameTable.{Same}}
 
 -- a desk by its places
 pub desk-same : (a b : Desk) → DeskShape a → DeskShape b → place (a .applied) ≡ place (b .applied) → place (a .clock .at) ≡ place (b .clock .at) → a ≡ b
@@ -90,8 +75,8 @@ pub record HeldBy (os : List ℕ) (o : Open) : Type 0 where
   pub is : openAt os at ≡ o
 
 -- every open write of the one stands in the other
-abbrev pub Among : List ℕ → List ℕ → Type 0
-Among l m = (j : ℕ) → j < entries → isFree (openAt l j) ≡ false → HeldBy m (openAt l j)
+abbrev pub StandsIn : List ℕ → List ℕ → Type 0
+StandsIn l m = (j : ℕ) → j < entries → isFree (openAt l j) ≡ false → HeldBy m (openAt l j)
 
 open-same : (a b : Open) → FullOpen a → FullOpen b → a .writer ≡ b .writer → openM a ≡ openM b → a ≡ b
 open-same a b fa fb w e =
@@ -127,14 +112,14 @@ module _ (a b : Table) (sa : Shaped a) (sb : Shaped b) (ka : SoundTable a) (kb :
       (λ s h. cell-same (cellAt (a .cells) s) (cellAt (b .cells) s) (full-cellAt (a .cells) s) (full-cellAt (b .cells) s) (ka .blanks s h) (kb .blanks s h) (cell-shown s h))
 
   -- open writes as a set
-  pub same-opens : Among (a .opens) (b .opens)
+  pub same-opens : StandsIn (a .opens) (b .opens)
   same-opens j h f =
       let o = openAt (a .opens) j in
       let t = own-named o f in
-      let r = opens-some (b .opens) (o .writer) (number o) (openM o)
-      (ap (λ (s : machine.State). s .opens (o .writer) (number o)) (sym e) ∙ opens-at (a .opens) j (o .writer) (number o) (ka .unique) h t) in
+      let r = opens-some (b .opens) (o .writer) (entryNumber o) (openM o)
+      (ap (λ (s : machine.State). s .opens (o .writer) (entryNumber o)) (sym e) ∙ opens-at (a .opens) j (o .writer) (entryNumber o) (ka .unique) h t) in
       record {
         at = r .at;
         small = r .small;
-        is = open-same (openAt (b .opens) (r .at)) o (full-openAt (b .opens) (r .at)) (full-openAt (a .opens) j) (named-is (openAt (b .opens) (r .at)) (o .writer) (number o) (r .holds) .1) (sym (r .is));
+        is = open-same (openAt (b .opens) (r .at)) o (full-openAt (b .opens) (r .at)) (full-openAt (a .opens) j) (named-is (openAt (b .opens) (r .at)) (o .writer) (entryNumber o) (r .holds) .1) (sym (r .is));
       }

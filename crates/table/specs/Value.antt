@@ -1,20 +1,11 @@
 -- Cells and open writes as rows of the two flat lists: reading one, storing one, marking one, handing one back.
-use Prim.Native.Nat.{ℕ, suc, _+_, _*_, _<_}
-use mathlib.Core.Path.{_≡_, sym, ap, _∙_}
-use mathlib.Core.List.{List, [], _∷_, _++_}
-use mathlib.Core.Bool.{Bool}
-use native.Mathlib.Omega.{arith}
-use lib.ListN.{length, getD, set, length-set, length-append, List·getD-append}
-use lib.Seq.{sets, getD-append-add, getD-set-same, getD-set-other, length-sets}
-use lib.Dec.{eqb}
-use Rattle.laws.specs.Tab.{tab, getD-tab, length-tab}
-use Rattle.laws.specs.Stores.{sets-append}
-use Rattle.laws.specs.Rows.{part, part-at, part-same, part-part, part-all, part-set, part-set-off, length-part, row, putRow, row-put, row-put-other, rows-put, rows-set}
+use Rattle.laws.specs.Kit.{ℕ, suc, _+_, _*_, _<_, _≡_, sym, ap, _∙_, List, [], _∷_, _++_, Bool, arith, length, getD, set, length-set}
+use Rattle.laws.specs.Kit.{length-append, List·getD-append, sets, getD-append-add, getD-set-same, getD-set-other, length-sets, eqb}
+use Rattle.laws.specs.{Tab.{tab, getD-tab, length-tab}, Stores.{sets-append}, Rows.{numbersFrom, part-at, part-same, numbers-of-numbers}}
+use Rattle.laws.specs.Rows.{part-all, part-set, part-set-off, length-part, row, putRow, row-put, row-put-other, rows-put, rows-set}
 use Rattle.machine.specs.Table.{most-cells, most-open}
 use Rattle.clock.specs.Vectors.{places, clockOf}
-use Rattle.table.specs.declared.Cell.{Cell}
-use Rattle.table.specs.declared.Desk.{Desk}
-use Rattle.table.specs.declared.Open.{Open}
+use Rattle.table.specs.{declared.Cell.{Cell}, declared.Desk.{Desk}, declared.Open.{Open}}
 
 -- the widths and counts of the layout --
 
@@ -54,7 +45,7 @@ open0 = record { writer = 0; status = 0; cell = 0; vector = []; marks = [] }
 -- Cells --
 
 abbrev pub cellOf : List ℕ → Cell
-cellOf r = record { writer = getD r 0 0; status = getD r 1 0; vector = part r 2 places }
+cellOf r = record { writer = getD r 0 0; status = getD r 1 0; vector = numbersFrom r 2 places }
 
 abbrev pub cellRow : Cell → List ℕ
 cellRow c = c .writer ∷ c .status ∷ c .vector
@@ -72,10 +63,10 @@ pub record FullCell (c : Cell) : Type 0 where
 cell-back : (c : Cell) → FullCell c → cellOf (cellRow c) ≡ c
 cell-back c h = λ j. record { writer = c .writer; status = c .status; vector = back j }
   where
-    back : part (cellRow c) 2 places ≡ c .vector
+    back : numbersFrom (cellRow c) 2 places ≡ c .vector
     back =
         part-same (cellRow c) 2 (c .vector) 0 places (λ k b. let e : 2 + k ≡ suc (suc k) = omega arith in let z : 0 + k ≡ k = omega arith in rw (e, z))
-        ∙ ap (λ (n : ℕ). part (c .vector) 0 n) (sym (h .vector))
+        ∙ ap (λ (n : ℕ). numbersFrom (c .vector) 0 n) (sym (h .vector))
         ∙ part-all (c .vector)
 
 module _ (l : List ℕ) (s : ℕ) where
@@ -96,9 +87,9 @@ module _ (l : List ℕ) (s : ℕ) where
   unfolding cellAt
   cell-status = part-at l (s * cell-width) cell-width 1 (omega arith)
 
-  pub cell-vector : cellAt l s .vector ≡ part l (s * cell-width + 2) places
+  pub cell-vector : cellAt l s .vector ≡ numbersFrom l (s * cell-width + 2) places
   unfolding cellAt
-  cell-vector = part-part l (s * cell-width) cell-width 2 places (omega arith)
+  cell-vector = numbers-of-numbers l (s * cell-width) cell-width 2 places (omega arith)
 
   -- what was stored is read; the others stay
   pub cellAt-put : (c : Cell) → FullCell c → s < all-cells → length l ≡ all-cells * cell-width → cellAt (putCell l s c) s ≡ c
@@ -117,8 +108,8 @@ openOf r = record {
   writer = getD r 0 0;
   status = getD r 1 0;
   cell = getD r 2 0;
-  vector = part r vector-from places;
-  marks = part r marks-from places;
+  vector = numbersFrom r vector-from places;
+  marks = numbersFrom r marks-from places;
 }
 
 abbrev pub openRow : Open → List ℕ
@@ -161,23 +152,23 @@ length-openRow o f = omega (arith, length-append (o .vector) (o .marks), f .vect
 open-back : (o : Open) → FullOpen o → openOf (openRow o) ≡ o
 open-back o f = λ j. record { writer = o .writer; status = o .status; cell = o .cell; vector = vector-back j; marks = marks-back j }
   where
-    vector-back : part (openRow o) vector-from places ≡ o .vector
+    vector-back : numbersFrom (openRow o) vector-from places ≡ o .vector
     vector-back =
         part-same (openRow o) vector-from (o .vector) 0 places
         (λ k b. let e : vector-from + k ≡ suc (suc (suc k)) = omega arith in
         let z : 0 + k ≡ k = omega arith in
         let h : k < length (o .vector) = omega (arith, f .vector) in
         rw (e, z) (List·getD-append (o .vector) (o .marks) 0 k h))
-        ∙ ap (λ (n : ℕ). part (o .vector) 0 n) (sym (f .vector))
+        ∙ ap (λ (n : ℕ). numbersFrom (o .vector) 0 n) (sym (f .vector))
         ∙ part-all (o .vector)
 
-    marks-back : part (openRow o) marks-from places ≡ o .marks
+    marks-back : numbersFrom (openRow o) marks-from places ≡ o .marks
     marks-back =
         part-same (openRow o) marks-from (o .marks) 0 places
         (λ k b. let e : marks-from + k ≡ suc (suc (suc (length (o .vector) + k))) = omega (arith, f .vector) in
         let z : 0 + k ≡ k = omega arith in
         rw (e, z) (getD-append-add (o .vector) (o .marks) k 0))
-        ∙ ap (λ (n : ℕ). part (o .marks) 0 n) (sym (f .marks))
+        ∙ ap (λ (n : ℕ). numbersFrom (o .marks) 0 n) (sym (f .marks))
         ∙ part-all (o .marks)
 
 -- one number of a row stored --
@@ -226,13 +217,13 @@ module _ (l : List ℕ) (e : ℕ) where
   unfolding openAt
   open-cell = part-at l (e * open-width) open-width 2 (omega arith)
 
-  pub open-vector : openAt l e .vector ≡ part l (e * open-width + vector-from) places
+  pub open-vector : openAt l e .vector ≡ numbersFrom l (e * open-width + vector-from) places
   unfolding openAt
-  open-vector = part-part l (e * open-width) open-width vector-from places (omega arith)
+  open-vector = numbers-of-numbers l (e * open-width) open-width vector-from places (omega arith)
 
-  pub open-marks : openAt l e .marks ≡ part l (e * open-width + marks-from) places
+  pub open-marks : openAt l e .marks ≡ numbersFrom l (e * open-width + marks-from) places
   unfolding openAt
-  open-marks = part-part l (e * open-width) open-width marks-from places (omega arith)
+  open-marks = numbers-of-numbers l (e * open-width) open-width marks-from places (omega arith)
 
   pub open-place : (t : ℕ) → t < places → getD (openAt l e .vector) t 0 ≡ getD l (e * open-width + (vector-from + t)) 0
   open-place t h =

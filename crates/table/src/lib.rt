@@ -3,28 +3,42 @@ ghost use mathlib.Core.Path.{_≡_};
 ghost use Prim.Native.Nat.{ℕ, _+_, _-_, _*_, _<_, _≤_};
 ghost use lib.ListN.{getD, set, length};
 ghost use lib.Seq.{sets};
-ghost use Rattle.laws.specs.Rows.{part};
+ghost use Rattle.laws.specs.Rows.{numbersFrom};
 ghost use Rattle.clock.specs.Vectors.{places, place};
 ghost use Rattle.machine.specs.Rules.{In};
 ghost use Rattle.machine.specs.Steps.{everywhere, within, begins};
 ghost use Rattle.table.specs.Value.{desk-cells, all-cells, cell-width, entries, open-width, cellAt, CellPut, openAt, OpenPut, MarkPut, Freed};
-ghost use Rattle.table.specs.Shape.{DesksShape, Shaped};
-ghost use Rattle.table.specs.Names.{namedAt, freeAt, FoundIn};
+ghost use Rattle.table.specs.TypeShape.{DesksShape, Shaped};
+ghost use Rattle.table.specs.EntryNames.{namedAt, freeAt, FoundIn};
 ghost use Rattle.table.specs.Model.{openM, slot};
-ghost use Rattle.table.specs.Begin.{freshTable, beginTable, Begins};
+ghost use Rattle.table.specs.Beginning.{freshTable, beginTable, Begins};
 use clock::Clock;
 use clock::PLACES;
 
 // Cells to a desk.
 pub const CELLS: usize = 64;
-// Numbers to a cell: writer, status, vector.
-pub const CELL: usize = 2 + PLACES;
+// Where the vector begins in a cell: behind writer and status.
+const CELL_VECTOR: usize = 2;
+// Numbers to a cell.
+pub const CELL: usize = CELL_VECTOR + PLACES;
 // Entries for open writes.
 pub const OPENS: usize = 64;
-// Numbers to an entry: writer, status, cell, vector, marks.
-pub const OPEN: usize = 3 + PLACES + PLACES;
-// Where an entry's marks begin.
-const MARKS: usize = 3 + PLACES;
+// Where the vector begins in an entry: behind writer, status and cell; the marks stand behind it.
+const OPEN_VECTOR: usize = 3;
+
+const MARKS: usize = OPEN_VECTOR + PLACES;
+// Numbers to an entry.
+pub const OPEN: usize = MARKS + PLACES;
+// The mark of a desk that holds an open write, and of one that has applied it; 0 where it was not received.
+pub const HELD: u16 = 1;
+
+pub const DONE: u16 = 2;
+// The largest status.
+pub const MOST_STATUS: usize = 2;
+// The two lent arrays: every desk's cells, and the entries for open writes.
+pub type Cells = [u16; PLACES * CELLS * CELL];
+
+pub type Opens = [u16; OPENS * OPEN];
 
 pub struct Desk {
     pub applied: [u16; PLACES],
@@ -55,8 +69,8 @@ pub struct Open {
 
 pub struct Table {
     pub core: Core,
-    pub cells: [u16; PLACES * CELLS * CELL],
-    pub opens: [u16; OPENS * OPEN],
+    pub cells: Cells,
+    pub opens: Opens,
 }
 
 pub enum Found {
@@ -67,7 +81,7 @@ pub enum Found {
 // The PLACES numbers from a place on, of either array.
 fn places_at(l: &[u16], at: usize) -> [u16; PLACES]
     requires { ⌜ at + places ≤ length (now l) ⌝ }
-    ensures { λ r. ⌜ r ≡ part (now (l .entry)) at places ⌝ }
+    ensures { λ r. ⌜ r ≡ numbersFrom (now (l .entry)) at places ⌝ }
 {
     let mut v = [0u16; PLACES];
     let mut t = 0;
@@ -102,13 +116,13 @@ fn seen(l: &[u16]) {}
 
 // Nothing is done by these: the contracts hand the caller what the types say.
 
-pub fn cells_size(cells: &[u16; PLACES * CELLS * CELL])
+pub fn cells_size(cells: &Cells)
     ensures { λ _. ⌜ length (now (cells .entry)) ≡ all-cells * cell-width ⌝ }
 {
     seen(cells);
 }
 
-pub fn opens_size(opens: &[u16; OPENS * OPEN])
+pub fn opens_size(opens: &Opens)
     ensures { λ _. ⌜ length (now (opens .entry)) ≡ entries * open-width ⌝ }
 {
     seen(opens);
@@ -135,12 +149,12 @@ pub fn slot_of(i: usize, x: usize) -> usize
     (i - 1) * CELLS + (x - 1)
 }
 
-pub fn cell_at(cells: &[u16; PLACES * CELLS * CELL], s: usize) -> Cell
+pub fn cell_at(cells: &Cells, s: usize) -> Cell
     requires { ⌜ s < all-cells ⌝ }
     ensures { λ r. ⌜ r ≡ cellAt (now (cells .entry)) s ⌝ }
 {
     let at = s * CELL;
-    let v = places_at(cells, at + 2);
+    let v = places_at(cells, at + CELL_VECTOR);
     Cell {
         writer: cells[at],
         status: cells[at + 1],
@@ -148,7 +162,7 @@ pub fn cell_at(cells: &[u16; PLACES * CELLS * CELL], s: usize) -> Cell
     }
 }
 
-pub fn put_cell(cells: &mut [u16; PLACES * CELLS * CELL], s: usize, c: Cell)
+pub fn put_cell(cells: &mut Cells, s: usize, c: Cell)
     requires { ⌜ s < all-cells ⌝ }
     ensures { λ _. ⌜ CellPut (now (cells .entry)) s c (now (cells .exit)) ⌝ }
 {
@@ -156,17 +170,17 @@ pub fn put_cell(cells: &mut [u16; PLACES * CELLS * CELL], s: usize, c: Cell)
     cells[at] = c.writer;
     cells[at + 1] = c.status;
     let v = c.vector;
-    put_places(cells, at + 2, v);
+    put_places(cells, at + CELL_VECTOR, v);
 }
 
 // Open writes: entries from 0; desks and places within an entry from 0.
 
-pub fn open_at(opens: &[u16; OPENS * OPEN], e: usize) -> Open
+pub fn open_at(opens: &Opens, e: usize) -> Open
     requires { ⌜ e < entries ⌝ }
     ensures { λ r. ⌜ r ≡ openAt (now (opens .entry)) e ⌝ }
 {
     let at = e * OPEN;
-    let v = places_at(opens, at + 3);
+    let v = places_at(opens, at + OPEN_VECTOR);
     let k = places_at(opens, at + MARKS);
     Open {
         writer: opens[at],
@@ -177,7 +191,7 @@ pub fn open_at(opens: &[u16; OPENS * OPEN], e: usize) -> Open
     }
 }
 
-pub fn put_open(opens: &mut [u16; OPENS * OPEN], e: usize, o: Open)
+pub fn put_open(opens: &mut Opens, e: usize, o: Open)
     requires { ⌜ e < entries ⌝ }
     ensures { λ _. ⌜ OpenPut (now (opens .entry)) e o (now (opens .exit)) ⌝ }
 {
@@ -186,49 +200,49 @@ pub fn put_open(opens: &mut [u16; OPENS * OPEN], e: usize, o: Open)
     opens[at + 1] = o.status;
     opens[at + 2] = o.cell;
     let v = o.vector;
-    put_places(opens, at + 3, v);
+    put_places(opens, at + OPEN_VECTOR, v);
     let k = o.marks;
     put_places(opens, at + MARKS, k);
 }
 
 // 0 where the entry is free.
-fn writer_at(opens: &[u16; OPENS * OPEN], e: usize) -> u16
+fn writer_at(opens: &Opens, e: usize) -> u16
     requires { ⌜ e < entries ⌝ }
     ensures { λ r. ⌜ r ≡ openAt (now (opens .entry)) e .writer ⌝ }
 {
     opens[e * OPEN]
 }
 
-pub fn vector_at(opens: &[u16; OPENS * OPEN], e: usize) -> [u16; PLACES]
+pub fn vector_at(opens: &Opens, e: usize) -> [u16; PLACES]
     requires { ⌜ e < entries ⌝ }
     ensures { λ r. ⌜ r ≡ openAt (now (opens .entry)) e .vector ⌝ }
 {
-    places_at(opens, e * OPEN + 3)
+    places_at(opens, e * OPEN + OPEN_VECTOR)
 }
 
 // One place of the vector.
-fn place_at(opens: &[u16; OPENS * OPEN], e: usize, t: usize) -> u16
+fn place_at(opens: &Opens, e: usize, t: usize) -> u16
     requires { ⌜ (e < entries) × (t < places) ⌝ }
     ensures { λ r. ⌜ r ≡ getD (openAt (now (opens .entry)) e .vector) t 0 ⌝ }
 {
-    opens[e * OPEN + (3 + t)]
+    opens[e * OPEN + (OPEN_VECTOR + t)]
 }
 
-pub fn mark_at(opens: &[u16; OPENS * OPEN], e: usize, i: usize) -> u16
+pub fn mark_at(opens: &Opens, e: usize, i: usize) -> u16
     requires { ⌜ (e < entries) × (i < places) ⌝ }
     ensures { λ r. ⌜ r ≡ getD (openAt (now (opens .entry)) e .marks) i 0 ⌝ }
 {
     opens[e * OPEN + (MARKS + i)]
 }
 
-pub fn put_mark(opens: &mut [u16; OPENS * OPEN], e: usize, i: usize, k: u16)
+pub fn put_mark(opens: &mut Opens, e: usize, i: usize, k: u16)
     requires { ⌜ (e < entries) × (i < places) ⌝ }
     ensures { λ _. ⌜ MarkPut (now (opens .entry)) e i k (now (opens .exit)) ⌝ }
 {
     put_number(opens, e * OPEN + (MARKS + i), k);
 }
 
-pub fn set_free(opens: &mut [u16; OPENS * OPEN], e: usize)
+pub fn set_free(opens: &mut Opens, e: usize)
     requires { ⌜ e < entries ⌝ }
     ensures { λ _. ⌜ Freed (now (opens .entry)) e (now (opens .exit)) ⌝ }
 {
@@ -236,13 +250,13 @@ pub fn set_free(opens: &mut [u16; OPENS * OPEN], e: usize)
 }
 
 // Has every desk of the n applied entry e?
-pub fn all_applied(opens: &[u16; OPENS * OPEN], e: usize, n: usize) -> bool
+pub fn all_applied(opens: &Opens, e: usize, n: usize) -> bool
     requires { ⌜ (e < entries) × (n ≤ places) ⌝ }
     ensures { λ r. ⌜ r ≡ everywhere n (openM (openAt (now (opens .entry)) e)) ⌝ }
 {
     let mut t = 1;
     while t <= n {
-        if mark_at(opens, e, t - 1) != 2 {
+        if mark_at(opens, e, t - 1) != DONE {
             return false;
         }
         t += 1;
@@ -263,11 +277,10 @@ pub fn at_place(v: [u16; PLACES], u: usize) -> u16
     if u == 0 {
         return 0;
     }
-    let at = u - 1;
-    if PLACES <= at {
+    if PLACES < u {
         return 0;
     }
-    v[at]
+    v[u - 1]
 }
 
 // Where the search for an entry of write u.k begins: any entry may hold it, and this makes most searches short.
@@ -278,7 +291,7 @@ fn start(u: usize, k: u16) -> usize
 }
 
 // Does entry e hold write k of desk u (from 1)?
-pub fn holds(opens: &[u16; OPENS * OPEN], e: usize, u: usize, k: u16) -> bool
+pub fn holds(opens: &Opens, e: usize, u: usize, k: u16) -> bool
     requires { ⌜ (e < entries) × (In places u) ⌝ }
     ensures { λ r. ⌜ r ≡ namedAt (now (opens .entry)) u k e ⌝ }
 {
@@ -290,7 +303,7 @@ pub fn holds(opens: &[u16; OPENS * OPEN], e: usize, u: usize, k: u16) -> bool
 }
 
 // The entry of write k of desk u (from 1).
-pub fn find(opens: &[u16; OPENS * OPEN], u: usize, k: u16) -> Found
+pub fn find(opens: &Opens, u: usize, k: u16) -> Found
     requires { ⌜ In places u ⌝ }
     ensures { λ r. ⌜ FoundIn (namedAt (now (opens .entry)) u k) r ⌝ }
 {
@@ -307,7 +320,7 @@ pub fn find(opens: &[u16; OPENS * OPEN], u: usize, k: u16) -> Found
 }
 
 // A free entry, for write k of desk u.
-pub fn find_free(opens: &[u16; OPENS * OPEN], u: usize, k: u16) -> Found
+pub fn find_free(opens: &Opens, u: usize, k: u16) -> Found
     ensures { λ r. ⌜ FoundIn (freeAt (now (opens .entry))) r ⌝ }
 {
     let first = start(u, k);

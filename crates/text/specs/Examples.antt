@@ -1,6 +1,5 @@
 -- Numbers of one digit and of five, computed.
-use mathlib.Core.Path.{_≡_, refl}
-use Rattle.laws.specs.Text.{text}
+use Rattle.laws.specs.{Kit.{_≡_, refl}, Text.{text}}
 use Rattle.text.specs.Number.{digits, decimal}
 
 decimal-0 : decimal 0 ≡ text "0"

@@ -1,23 +1,9 @@
 -- The numbers of a line's fields from a place on, and what reading one field does to them.
-use Prim.Native.Nat.{ℕ, _+_, _*_, _-_, _<_, _≤_}
-use mathlib.Core.Path.{_≡_, refl, _∙_}
-use mathlib.Core.List.{List, [], _∷_}
-use mathlib.Core.Logic.{_⊎_, inl, inr}
-use mathlib.Core.Bool.{true, false, _&&_, and-false}
-use mathlib.Core.Option.{Option, none, some}
-use native.Mathlib.Omega.{arith}
-use native.Mathlib.Nat.{zero-add}
-use native.Mathlib.Numerals.{add-one}
-use borrow.Author.Tests.{ne-eqb, le-leb, lt-leb}
-use lib.Dec.{eqb, leb}
-use lib.ListN.{length, getD, drop, drop-of-length-le}
-use lib.Seq.{drop-cons}
-use Rattle.laws.specs.Lists.{every, every-first, every-fails}
-use Rattle.laws.specs.Loop.{pick, cases}
-use Rattle.text.specs.declared.Field.{Field}
-use Rattle.text.specs.declared.Field.the-variants.{Num, Bad}
-use Rattle.text.specs.Number.{most-number, isDigit, readOn, unpadded, when, number}
-use Rattle.text.specs.Words.{space, onto, words, join, numbers}
+use Rattle.laws.specs.Kit.{ℕ, _+_, _*_, _-_, _<_, _≤_, _≡_, refl, _∙_, List, [], _∷_, _⊎_, inl, inr, true, false, _&&_, and-false, Option}
+use Rattle.laws.specs.Kit.{none, some, arith, zero-add, add-one, ne-eqb, le-leb, lt-leb, eqb, leb, length, getD, drop, drop-of-length-le}
+use Rattle.laws.specs.{Kit.{drop-cons}, Lists.{every, every-first, every-fails}, Loop.{pick, cases}}
+use Rattle.text.specs.{declared.Field.{Field}, declared.Field.the-variants.{Num, Bad}, Number.{most-number, isDigit, readOn}}
+use Rattle.text.specs.{Number.{unpadded, when, number}, Words.{space, onto, words, readOnto, numbers}}
 
 -- what follows a word: nothing, or a space and numbers
 unfoldable pub rest : List ℕ → Option (List ℕ)
@@ -32,8 +18,8 @@ abbrev pub numberOn : ℕ → List ℕ → Option ℕ
 numberOn v w = when (every isDigit w && leb (readOn v w) most-number) (readOn v w)
 
 abbrev pub wordsOn : ℕ → List (List ℕ) → Option (List ℕ)
-wordsOn v [] = join (numberOn v []) (some [])
-wordsOn v (w ∷ ws) = join (numberOn v w) (numbers ws)
+wordsOn v [] = readOnto (numberOn v []) (some [])
+wordsOn v (w ∷ ws) = readOnto (numberOn v w) (numbers ws)
 
 unfoldable pub digitsOn : ℕ → List ℕ → Option (List ℕ)
 digitsOn v l = wordsOn v (words l)
@@ -75,11 +61,11 @@ digits-more v b l low high =
     [ [] ↦ rw (every-first isDigit b [] d) | w ∷ ws ↦ rw (every-first isDigit b w d) ])
 
 -- the number ends, at the end or at another byte
-pub digits-end : (v : ℕ) → v ≤ most-number → digitsOn v [] ≡ join (some v) (rest [])
+pub digits-end : (v : ℕ) → v ≤ most-number → digitsOn v [] ≡ readOnto (some v) (rest [])
 unfolding digitsOn words rest numbers every readOn
 digits-end v h = rw (le-leb v most-number h)
 
-pub digits-stop : (v b : ℕ) (l : List ℕ) → v ≤ most-number → NoDigit b → digitsOn v (b ∷ l) ≡ join (some v) (rest (b ∷ l))
+pub digits-stop : (v b : ℕ) (l : List ℕ) → v ≤ most-number → NoDigit b → digitsOn v (b ∷ l) ≡ readOnto (some v) (rest (b ∷ l))
 unfolding digitsOn words rest every readOn
 digits-stop v b l h n =
     cases (eqb b 32) (λ e. rw (e, le-leb v most-number h))
@@ -89,7 +75,7 @@ digits-stop v b l h n =
 -- the first digit, after a space --
 
 -- 0 alone
-pub digit-zero : (l : List ℕ) → rest (32 ∷ 48 ∷ l) ≡ join (some 0) (rest l)
+pub digit-zero : (l : List ℕ) → rest (32 ∷ 48 ∷ l) ≡ readOnto (some 0) (rest l)
 unfolding rest words numbers number every isDigit readOn
 digit-zero [] = refl
 digit-zero (b ∷ l) =
@@ -120,7 +106,7 @@ pub record FieldIs (s : List ℕ) (at v next : ℕ) : Type 0 where
   pub small : v ≤ most-number
   pub ahead : at + 2 ≤ next
   pub within : next ≤ length s
-  pub is : fieldsAt s at ≡ join (some v) (fieldsAt s next)
+  pub is : fieldsAt s at ≡ readOnto (some v) (fieldsAt s next)
 
 -- what reading a field tells of the line
 abbrev pub Tells : List ℕ → ℕ → Field → Type 0
@@ -132,7 +118,7 @@ pub record DigitsAre (s : List ℕ) (at v w next : ℕ) : Type 0 where
   pub small : w ≤ most-number
   pub ahead : at ≤ next
   pub within : next ≤ length s
-  pub is : digitsOn v (drop at s) ≡ join (some w) (fieldsAt s next)
+  pub is : digitsOn v (drop at s) ≡ readOnto (some w) (fieldsAt s next)
 
 abbrev pub DigitsTell : List ℕ → ℕ → ℕ → Field → Type 0
 DigitsTell s at v (Num w next) = DigitsAre s at v w next
@@ -142,10 +128,10 @@ module _ (s : List ℕ) (i v : ℕ) where
   pub at-more : i < length s → 48 ≤ getD s i 0 → getD s i 0 ≤ 57 → digitsOn v (drop i s) ≡ digitsOn (10 * v + (getD s i 0 - 48)) (drop (i + 1) s)
   at-more h low high = rw (drop-cons s i 0 h, add-one i) (digits-more v _ _ low high)
 
-  pub at-stop : i < length s → v ≤ most-number → NoDigit (getD s i 0) → digitsOn v (drop i s) ≡ join (some v) (fieldsAt s i)
+  pub at-stop : i < length s → v ≤ most-number → NoDigit (getD s i 0) → digitsOn v (drop i s) ≡ readOnto (some v) (fieldsAt s i)
   at-stop h m n = rw (drop-cons s i 0 h) (digits-stop v _ _ m n)
 
-  pub at-end : length s ≤ i → v ≤ most-number → digitsOn v (drop i s) ≡ join (some v) (fieldsAt s i)
+  pub at-end : length s ≤ i → v ≤ most-number → digitsOn v (drop i s) ≡ readOnto (some v) (fieldsAt s i)
   at-end h m = rw (drop-of-length-le s h) (digits-end v m)
 
 module _ (s : List ℕ) (at : ℕ) (h : at < length s) where
@@ -166,7 +152,7 @@ module _ (s : List ℕ) (at : ℕ) (h : at < length s) where
   next-byte e n = spaced e ∙ rw (drop-cons s (at + 1) 0 n, add-one (at + 1))
 
   module _ (e : getD s at 0 ≡ 32) (n : at + 1 < length s) where
-    pub field-zero : getD s (at + 1) 0 ≡ 48 → fieldsAt s at ≡ join (some 0) (fieldsAt s (at + 1 + 1))
+    pub field-zero : getD s (at + 1) 0 ≡ 48 → fieldsAt s at ≡ readOnto (some 0) (fieldsAt s (at + 1 + 1))
     field-zero z = next-byte e n ∙ rw z (digit-zero _)
 
     pub field-none : NoDigit (getD s (at + 1) 0) → fieldsAt s at ≡ none

@@ -1,19 +1,8 @@
 -- Fields that were written read as their numbers, and fields that are read are written as the same bytes.
-use Prim.Native.Nat.{ℕ, suc}
-use mathlib.Core.Path.{_≡_, refl, sym, ap, _∙_}
-use mathlib.Core.List.{List, [], _∷_, _++_, append-nil}
-use mathlib.Core.Bool.{true}
-use mathlib.Core.Option.{Option, none, some}
-use native.Mathlib.Omega.{arith}
-use borrow.Author.Tests.{ne-eqb, eqb-true}
-use lib.Dec.{eqb}
-use Rattle.laws.specs.Lists.{every, every-cons}
-use Rattle.laws.specs.Loop.{cases}
-use Rattle.text.specs.Number.{decimal, isDigit, number}
-use Rattle.text.specs.Words.{space, onto, words, join, numbers, fields}
-use Rattle.text.specs.Fields.{rest}
-use Rattle.text.specs.Bounds.{Small}
-use Rattle.text.specs.ReadBack.{decimal-all, digit-least, read-written, written-read}
+use Rattle.laws.specs.Kit.{ℕ, suc, _≡_, refl, sym, ap, _∙_, List, [], _∷_, _++_, append-nil, true, Option, none, some, arith, ne-eqb}
+use Rattle.laws.specs.{Kit.{eqb-true, eqb}, Lists.{every, every-cons}, Loop.{cases}}
+use Rattle.text.specs.{Number.{decimal, isDigit, number}, Words.{space, onto, words, readOnto, numbers, fields}, Fields.{rest}}
+use Rattle.text.specs.{Link.NumberBounds.{SmallNumbers}, ReadBack.{decimal-all, digit-least, read-written, written-read}}
 
 -- what is written --
 
@@ -34,7 +23,7 @@ words-next (b ∷ w) l e =
     let d = digit-least b (c .0) in
     rw (ne-eqb b 32 (λ q. (omega arith)), words-next w l (c .1))
 
-pub read-fields : (l : List ℕ) → Small l → rest (fields l) ≡ some l
+pub read-fields : (l : List ℕ) → SmallNumbers l → rest (fields l) ≡ some l
 unfolding rest fields numbers
 read-fields [] h = refl
 read-fields (n ∷ []) h = rw (append-nil (decimal n), words-last (decimal n) (decimal-all n), read-written n (h 0))
@@ -65,7 +54,7 @@ unfolding numbers unwords fields
 numbers-back [] l e = let z : [] ≡ l = cc in rw (← z)
 numbers-back (w ∷ ws) l e = go (number w) (numbers ws) refl refl (λ m. numbers-back ws m) e
   where
-    go : (o : Option ℕ) (ns : Option (List ℕ)) → number w ≡ o → numbers ws ≡ ns → ((m : List ℕ) → numbers ws ≡ some m → unwords ws ≡ fields m) → join o ns ≡ some l → space ∷ (w ++ unwords ws) ≡ fields l
+    go : (o : Option ℕ) (ns : Option (List ℕ)) → number w ≡ o → numbers ws ≡ ns → ((m : List ℕ) → numbers ws ≡ some m → unwords ws ≡ fields m) → readOnto o ns ≡ some l → space ∷ (w ++ unwords ws) ≡ fields l
     go none ns p q back e = absurd (let z : _≡_ {A = ℕ} 0 1 = cc in omega arith)
     go (some x) none p q back e = absurd (let z : _≡_ {A = ℕ} 0 1 = cc in omega arith)
     go (some x) (some m) p q back e =

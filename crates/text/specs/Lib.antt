@@ -1,8 +1,7 @@
 pub mod Number
 pub mod Words
-pub mod Decimal
 pub mod Fields
-pub mod Bounds
 pub mod ReadBack
 pub mod FieldsBack
 pub mod Examples
+pub mod Link

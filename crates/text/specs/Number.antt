@@ -1,11 +1,6 @@
 -- Document 01, "Schedule text": a number in decimal, as it is written and as it is read.
-use Prim.Native.Nat.{ℕ, zero, suc, _+_, _-_, _*_, _/_, _%_}
-use Prim.Native.Char.{code}
-use mathlib.Core.List.{List, [], _∷_, _++_}
-use mathlib.Core.Bool.{Bool, true, false, not, _&&_}
-use mathlib.Core.Option.{Option, none, some}
-use lib.Dec.{eqb, leb}
-use Rattle.laws.specs.Lists.{every}
+use Rattle.laws.specs.Kit.{ℕ, zero, suc, _+_, _-_, _*_, _/_, _%_, code, List, [], _∷_, _++_, Bool, true, false, not, _&&_, Option, none}
+use Rattle.laws.specs.{Kit.{some, eqb, leb}, Lists.{every}}
 
 -- "[A number] is at most 65,535"
 abbrev pub most-number : ℕ

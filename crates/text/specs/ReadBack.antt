@@ -1,20 +1,9 @@
 -- A number that was written reads as itself, and a number that is read is written as the same bytes.
-use Prim.Native.Nat.{ℕ, zero, suc, _+_, _-_, _*_, _/_, _%_, _<_, _≤_}
-use mathlib.Core.Path.{_≡_, refl, sym, ap, _∙_}
-use mathlib.Core.List.{List, [], _∷_, _++_, append-assoc, append-nil}
-use mathlib.Core.Bool.{Bool, true, false, _&&_}
-use mathlib.Core.Option.{some}
-use native.Mathlib.Omega.{arith}
-use native.Mathlib.Nat.{zero-add}
-use borrow.Author.Tests.{ne-eqb, le-leb, leb-true, ltb-true, ltb-false, eqb-false}
-use lib.Dec.{eqb, leb, ltb}
-use lib.ListN.{getD}
-use Rattle.laws.specs.Lists.{every, every-first, every-cons}
-use Rattle.laws.specs.Loop.{cases}
-use Rattle.laws.specs.Says.{clash}
-use Rattle.text.specs.Number.{most-number, digits, decimal, isDigit, readOn, unpadded, isNumber, number}
-use Rattle.text.specs.Decimal.{digits-zero, decimal-one, decimal-more, read-decimal}
-use Rattle.text.specs.Fields.{is-digit}
+use Rattle.laws.specs.Kit.{ℕ, zero, suc, _+_, _-_, _*_, _/_, _%_, _<_, _≤_, _≡_, refl, sym, ap, _∙_, List, [], _∷_, _++_, append-assoc}
+use Rattle.laws.specs.Kit.{append-nil, Bool, true, false, _&&_, some, arith, zero-add, ne-eqb, le-leb, leb-true, ltb-true, ltb-false}
+use Rattle.laws.specs.{Kit.{eqb-false, eqb, leb, ltb, getD}, Lists.{every, every-first, every-cons}, Loop.{cases}, Says.{clash}}
+use Rattle.text.specs.{Number.{most-number, digits, decimal, isDigit, readOn, unpadded, isNumber, number}, Link.Decimal.{digits-zero}}
+use Rattle.text.specs.{Link.Decimal.{decimal-one, decimal-more, read-decimal}, Fields.{is-digit}}
 
 -- what is written --
 

@@ -1,10 +1,5 @@
 -- Document 01, "Schedule text": "A line is a letter and decimal fields, one space between."
-use Prim.Native.Nat.{ℕ}
-use Prim.Native.Char.{code}
-use mathlib.Core.List.{List, [], _∷_, _++_}
-use mathlib.Core.Option.{Option, none, some}
-use lib.Dec.{eqb}
-use Rattle.laws.specs.Loop.{pick}
+use Rattle.laws.specs.{Kit.{ℕ, code, List, [], _∷_, _++_, Option, none, some, eqb}, Loop.{pick}}
 use Rattle.text.specs.Number.{decimal, number}
 
 abbrev pub space : ℕ
@@ -21,15 +16,15 @@ words [] = [] ∷ []
 words (b ∷ l) = pick (eqb b space) ([] ∷ words l) (onto b (words l))
 
 -- one number more in front; none if any is missing
-abbrev pub join : Option ℕ → Option (List ℕ) → Option (List ℕ)
-join none o = none
-join (some x) none = none
-join (some x) (some l) = some (x ∷ l)
+abbrev pub readOnto : Option ℕ → Option (List ℕ) → Option (List ℕ)
+readOnto none o = none
+readOnto (some x) none = none
+readOnto (some x) (some l) = some (x ∷ l)
 
 -- every word a number
 unfoldable pub numbers : List (List ℕ) → Option (List ℕ)
 numbers [] = some []
-numbers (w ∷ ws) = join (number w) (numbers ws)
+numbers (w ∷ ws) = readOnto (number w) (numbers ws)
 
 -- numbers written, each after a space
 unfoldable pub fields : List ℕ → List ℕ

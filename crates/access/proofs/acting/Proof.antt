@@ -1,10 +1,6 @@
-use mathlib.Core.Path.{sym, _∙_}
-use native.Mathlib.Omega.{arith}
+use Rattle.laws.specs.{Kit.{sym, _∙_, arith, needs}, Says.{apart}}
 use Rattle.clock.specs.Vectors.{places}
-use Rattle.machine.specs.Rules.{In}
-use Rattle.machine.specs.Proofs.Refusals.{says-within}
-use Rattle.laws.specs.Says.{apart}
-use borrow.Author.Needs.{needs}
+use Rattle.machine.specs.{Rules.{In}, Proofs.Refusals.{says-within}}
 use Rattle.access.proofs.acting.Statement.{statement}
 use Rattle.access.proofs.acting.Tie as tie
 
@@ -15,13 +11,5 @@ returns-2 : tie.Need-returns-2
 returns-2 c = λ h. apart _ (says-within _ _ .from h) (sym (c .before .before .inside .ensures) ∙ c .before .if1 .left)
 
 pub acting-spec : {M : Type 1} → statement M
-acting-spec =
-    tie.close
-    (tie.spec
-    (λ c κs. search needs)
-    (λ c. omega (arith, within-places c))
-    (λ c. omega (arith, within-places c))
-    (λ c. omega (arith, within-places c))
-    (λ c. search needs)
-    (λ c. search needs)
-    returns-2)
+acting-spec = tie.close (tie.spec (λ c κs. search needs) (λ c. omega (arith, within-places c)) (λ c. omega (arith, within-places c))
+    (λ c. omega (arith, within-places c)) (λ c. search needs) (λ c. search needs) returns-2)

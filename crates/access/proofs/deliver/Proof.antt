@@ -1,8 +1,5 @@
-use Prim.Native.Nat.{ℕ}
-use mathlib.Core.Path.{_≡_, refl}
-use native.Mathlib.Omega.{arith}
+use Rattle.laws.specs.Kit.{ℕ, _≡_, refl, arith, needs}
 use Rattle.access.specs.Met.{few-desks, met-broken, placed, brought}
-use borrow.Author.Needs.{needs}
 use Rattle.access.proofs.deliver.Statement.{statement}
 use Rattle.access.proofs.deliver.Tie as tie
 use Rattle.steps.specs.Stepped.{Placed}
@@ -24,14 +21,5 @@ returns-2 : tie.Need-returns-2
 returns-2 c = let p = here (c .before .before .before .before .before .before) in rw (c .together .ensures) (brought p (c .before .before .deliver-at .ensures _ _ p))
 
 pub deliver-spec : {M : Type 1} → statement M
-deliver-spec =
-    tie.close
-    (tie.spec
-    (λ c κs. search needs)
-    (λ c κs. search needs)
-    returns
-    (λ c κs. search needs)
-    (λ c κs. search needs)
-    deliver-at-requires
-    (λ c κs. few-desks (here (c .before .before .before .before .before) .sound))
-    returns-2)
+deliver-spec = tie.close (tie.spec (λ c κs. search needs) (λ c κs. search needs) returns (λ c κs. search needs) (λ c κs. search needs)
+    deliver-at-requires (λ c κs. few-desks (here (c .before .before .before .before .before) .sound)) returns-2)

@@ -1,9 +1,6 @@
-use mathlib.Core.Path.{sym, _∙_}
-use native.Mathlib.Omega.{arith}
+use Rattle.laws.specs.Kit.{sym, _∙_, arith, needs}
 use Rattle.clock.specs.Vectors.{places}
-use Rattle.machine.specs.Rules.{In}
-use Rattle.machine.specs.Proofs.Refusals.{says-within}
-use borrow.Author.Needs.{needs}
+use Rattle.machine.specs.{Rules.{In}, Proofs.Refusals.{says-within}}
 use Rattle.access.proofs.together.Statement.{statement}
 use Rattle.access.proofs.together.Tie as tie
 
@@ -19,12 +16,5 @@ returns-2 : tie.Need-returns-2
 returns-2 c = rw (sym (c .before .inside .ensures) ∙ c .if1 .left)
 
 pub together-spec : {M : Type 1} → statement M
-together-spec =
-    tie.close
-    (tie.spec
-    (λ c κs. search needs)
-    (λ c. omega (arith, inside-n c))
-    (λ c. omega (arith, inside-n c))
-    (λ c. omega (arith, inside-n c))
-    returns
-    returns-2)
+together-spec = tie.close (tie.spec (λ c κs. search needs) (λ c. omega (arith, inside-n c)) (λ c. omega (arith, inside-n c))
+    (λ c. omega (arith, inside-n c)) returns returns-2)

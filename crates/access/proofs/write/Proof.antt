@@ -1,7 +1,6 @@
-use mathlib.Core.Path.{refl}
-use Rattle.rules.specs.Test.{owns}
+use Rattle.laws.specs.Kit.{refl, needs}
+use Rattle.rules.specs.Mirror.Test.{owns}
 use Rattle.access.specs.Met.{few-desks, met-broken, placed, met-stepped}
-use borrow.Author.Needs.{needs}
 use Rattle.access.proofs.write.Statement.{statement}
 use Rattle.access.proofs.write.Tie as tie
 use Rattle.steps.specs.Stepped.{Placed}
@@ -23,14 +22,5 @@ returns-2 : tie.Need-returns-2
 returns-2 c = let p = here (c .before .before .before .before .before) in rw (c .together .ensures) (met-stepped p (c .before .before .write-at .ensures _ _ p))
 
 pub write-spec : {M : Type 1} → statement M
-write-spec =
-    tie.close
-    (tie.spec
-    (λ c κs. search needs)
-    (λ c κs. search needs)
-    (λ c κs. search needs)
-    returns
-    (λ c κs. search needs)
-    write-at-requires
-    (λ c κs. few-desks (here (c .before .before .before .before) .sound))
-    returns-2)
+write-spec = tie.close (tie.spec (λ c κs. search needs) (λ c κs. search needs) (λ c κs. search needs) returns (λ c κs. search needs)
+    write-at-requires (λ c κs. few-desks (here (c .before .before .before .before) .sound)) returns-2)

@@ -1,10 +1,6 @@
 -- The sum so far and what is left are the whole; each name has at most 12 bytes with its space.
-use Prim.Native.Nat.{_+_, _-_, _*_, _≤_}
-use mathlib.Core.Path.{_≡_, ap}
-use native.Mathlib.Omega.{arith}
-use borrow.Author.Needs.{needs}
-use lib.ListN.{length}
-use Rattle.answer.specs.Names.{namesLeft, names-start, names-longer, names-end}
+use Rattle.laws.specs.Kit.{_+_, _-_, _*_, _≤_, _≡_, ap, arith, needs, length}
+use Rattle.answer.specs.Link.NameLengths.{namesLeft, names-start, names-longer, names-end}
 use Rattle.answer.proofs.names_length.Statement.{statement}
 use Rattle.answer.proofs.names_length.Tie as tie
 
@@ -36,24 +32,6 @@ returns c = let L = c .before .loop in
     )
 
 pub names-length-spec : {M : Type 1} → statement M
-names-length-spec =
-    tie.close
-    (tie.spec
-    Inv-loop
-    μ-loop
-    (λ c κs. search needs)
-    loop-holds
-    (λ c. search needs)
-    (λ c. search needs)
-    (λ c. search needs)
-    (λ c. search needs)
-    (λ c. search needs)
-    (λ c. search needs)
-    (λ c. search needs)
-    (λ c. search needs)
-    (λ c κs. search needs)
-    (λ c. search needs)
-    (λ c. search needs)
-    (λ c. search needs)
-    loop-again
-    returns)
+names-length-spec = tie.close (tie.spec Inv-loop μ-loop (λ c κs. search needs) loop-holds (λ c. search needs) (λ c. search needs)
+    (λ c. search needs) (λ c. search needs) (λ c. search needs) (λ c. search needs) (λ c. search needs) (λ c. search needs)
+    (λ c κs. search needs) (λ c. search needs) (λ c. search needs) (λ c. search needs) loop-again returns)

@@ -1,9 +1,6 @@
 -- The name's parts, one after the other.
-use mathlib.Core.Path.{refl}
-use native.Mathlib.Omega.{arith}
-use lib.ListN.{length-set}
-use Rattle.laws.specs.Stores.{stored-one, stored-long, left-from, left-put, left-last}
-use Rattle.answer.specs.Names.{name-length, name-parts}
+use Rattle.laws.specs.{Kit.{refl, arith, length-set}, Stores.{stored-one, stored-long, left-from, left-put, left-last}}
+use Rattle.answer.specs.Link.NameLengths.{name-length, name-parts}
 use Rattle.answer.proofs.put_name.Statement.{statement}
 use Rattle.answer.proofs.put_name.Tie as tie
 
@@ -30,12 +27,4 @@ same-length : tie.Need-same-length
 same-length c = stored-long (returns c)
 
 pub put-name-spec : {M : Type 1} → statement M
-put-name-spec =
-    tie.close
-    (tie.spec
-    put-number-requires
-    slice-write-out
-    add-put-number
-    put-number-requires-2
-    same-length
-    returns)
+put-name-spec = tie.close (tie.spec put-number-requires slice-write-out add-put-number put-number-requires-2 same-length returns)

@@ -1,16 +1,12 @@
 -- What is left of the names makes the whole.
-use Prim.Native.Nat.{_+_, _-_, _≤_}
-use mathlib.Core.Path.{refl, ap}
-use native.Mathlib.Omega.{arith}
-use borrow.Author.Needs.{needs}
-use lib.ListN.{length, length-set}
-use Rattle.laws.specs.Stores.{Left, stored-one, left-start, left-put, left-none}
-use Rattle.answer.specs.Names.{namesLeft, names-start, names-next, names-longer, names-end}
+use Rattle.laws.specs.{Kit.{_+_, _-_, _≤_, refl, ap, arith, needs, length, length-set}, Stores.{StoresLeft, stored-one, left-start}}
+use Rattle.laws.specs.Stores.{left-put, left-none}
+use Rattle.answer.specs.Link.NameLengths.{namesLeft, names-start, names-next, names-longer, names-end}
 use Rattle.answer.proofs.put_names.Statement.{statement}
 use Rattle.answer.proofs.put_names.Tie as tie
 
 abbrev Inv-loop : tie.InvT-loop
-Inv-loop out₀ at names count n p₀ j₀ out p j = (j ≤ n) × ((at + length (namesLeft n names 0) ≤ length out₀) × Left out₀ at (namesLeft n names 0) out p (namesLeft n names j))
+Inv-loop out₀ at names count n p₀ j₀ out p j = (j ≤ n) × ((at + length (namesLeft n names 0) ≤ length out₀) × StoresLeft out₀ at (namesLeft n names 0) out p (namesLeft n names j))
 
 abbrev μ-loop : tie.MeasureT-loop
 μ-loop out₀ at names count n p₀ j₀ out p j = n - j
@@ -57,25 +53,6 @@ returns c = let n = c .before .before .name-count .result in
     (left-none (rw (names-end n names (L .j) (search needs)) at (L .inv .1 .1)))
 
 pub put-names-spec : {M : Type 1} → statement M
-put-names-spec =
-    tie.close
-    (tie.spec
-    Inv-loop
-    μ-loop
-    (λ c κs. search needs)
-    loop-holds
-    slice-write-out
-    add-put-name
-    (λ c. search needs)
-    (λ c. search needs)
-    (λ c. search needs)
-    (λ c. search needs)
-    (λ c. search needs)
-    (λ c. search needs)
-    (λ c. search needs)
-    put-name-requires
-    (λ c. search needs)
-    (λ c. search needs)
-    loop-again
-    same-length
-    returns)
+put-names-spec = tie.close (tie.spec Inv-loop μ-loop (λ c κs. search needs) loop-holds slice-write-out add-put-name (λ c. search needs)
+    (λ c. search needs) (λ c. search needs) (λ c. search needs) (λ c. search needs) (λ c. search needs) (λ c. search needs)
+    put-name-requires (λ c. search needs) (λ c. search needs) loop-again same-length returns)

@@ -1,10 +1,6 @@
 -- The status, a space and the name.
-use mathlib.Core.Path.{refl}
-use native.Mathlib.Omega.{arith}
-use borrow.Author.Needs.{needs}
-use lib.ListN.{length-set}
-use Rattle.laws.specs.Stores.{stored-one, stored-long, left-from, left-put, left-last}
-use Rattle.answer.specs.Names.{shown-parts, shown-length}
+use Rattle.laws.specs.{Kit.{refl, arith, needs, length-set}, Stores.{stored-one, stored-long, left-from, left-put, left-last}}
+use Rattle.answer.specs.Link.NameLengths.{shown-parts, shown-length}
 use Rattle.answer.proofs.put_shown.Statement.{statement}
 use Rattle.answer.proofs.put_shown.Tie as tie
 
@@ -28,13 +24,5 @@ same-length : tie.Need-same-length
 same-length c = stored-long (returns c)
 
 pub put-shown-spec : {M : Type 1} → statement M
-put-shown-spec =
-    tie.close
-    (tie.spec
-    (λ c. search needs)
-    put-field-requires
-    slice-write-out
-    add-put-name
-    put-name-requires
-    same-length
+put-shown-spec = tie.close (tie.spec (λ c. search needs) put-field-requires slice-write-out add-put-name put-name-requires same-length
     returns)

@@ -1,6 +1,5 @@
-use mathlib.Core.Path.{_∙_}
-use Rattle.capi.specs.StartLaws.{start-begun, call-damaged, call-broken, call-begun}
-use borrow.Author.Needs.{needs}
+use Rattle.laws.specs.Kit.{_∙_, needs}
+use Rattle.capi.specs.Link.ImageStart.{start-begun, call-damaged, call-broken, call-begun}
 use Rattle.capi.proofs.access_run.Statement.{statement}
 use Rattle.capi.proofs.access_run.Tie as tie
 
@@ -30,17 +29,5 @@ returns-3 c =
     c .before .before .before .before .before .before .run-from .ensures (s .session) (s .holds) ∙ call-begun (a .image .now) (a .schedule .now) (a .answers .now) (a .image-out .now) (a .lengths .now) s
 
 pub access-run-spec : {M : Type 1} → statement M
-access-run-spec =
-    tie.close
-    (tie.spec
-    (λ c κs. search needs)
-    (λ c. search needs)
-    (λ c. search needs)
-    (λ c. search needs)
-    run-from-requires
-    returns
-    returns-2
-    (λ c. search needs)
-    (λ c. search needs)
-    (λ c. search needs)
-    returns-3)
+access-run-spec = tie.close (tie.spec (λ c κs. search needs) (λ c. search needs) (λ c. search needs) (λ c. search needs) run-from-requires
+    returns returns-2 (λ c. search needs) (λ c. search needs) (λ c. search needs) returns-3)

@@ -1,10 +1,7 @@
-use native.Mathlib.Omega.{arith}
-use lib.ListN.{length-set}
-use lib.Seq.{length-take-le}
-use Rattle.laws.specs.Says.{clash}
+use Rattle.laws.specs.{Kit.{arith, length-set, length-take-le, needs}, Says.{clash}}
 use Rattle.session.specs.Transcript.{sessionFrom}
-use Rattle.capi.specs.RunLaws.{run-refused, run-accepted, lined-room, lined-sum, all-left, all-long, no-answers-room, all-room, all-put, no-image-room}
-use borrow.Author.Needs.{needs}
+use Rattle.capi.specs.Link.CallFrom.{run-refused, run-accepted, lined-room, lined-sum, all-left, all-long, no-answers-room, all-room}
+use Rattle.capi.specs.Link.CallFrom.{all-put, no-image-room}
 use Rattle.capi.proofs.finish.Statement.{statement}
 use Rattle.capi.proofs.finish.Tie as tie
 
@@ -77,21 +74,6 @@ returns-3 c z w h b =
     (s .0) (omega (arith, all-long b l e)) (s .1)
 
 pub finish-spec : {M : Type 1} → statement M
-finish-spec =
-    tie.close
-    (tie.spec
-    lines-requires
-    add-all
-    (λ c. search needs)
-    returns
-    image-size-requires
-    (λ c. search needs)
-    returns-2
-    put-answers-requires
-    save-image-requires
-    slice-write-lengths
-    slice-write-lengths-2
-    (λ c. search needs)
-    (λ c. search needs)
-    (λ c. search needs)
-    returns-3)
+finish-spec = tie.close (tie.spec lines-requires add-all (λ c. search needs) returns image-size-requires (λ c. search needs) returns-2
+    put-answers-requires save-image-requires slice-write-lengths slice-write-lengths-2 (λ c. search needs) (λ c. search needs)
+    (λ c. search needs) returns-3)

@@ -1,7 +1,6 @@
 use Rattle.table.specs.Model.{tableWith}
-use mathlib.Core.Path.{sym, ap, _∙_}
-use lib.ListN.{length}
-use Rattle.capi.specs.ImageLaws.{no-image, image-few, image-long}
+use Rattle.laws.specs.Kit.{sym, ap, _∙_, length}
+use Rattle.capi.specs.Link.SessionImage.{no-image, image-few, image-long}
 use Rattle.capi.proofs.image_size.Statement.{statement}
 use Rattle.capi.proofs.image_size.Tie as tie
 

@@ -1,5 +1,4 @@
-use Prim.Native.Nat.{ℕ}
-use lib.ListN.{length-replicate}
+use Rattle.laws.specs.Kit.{ℕ, length-replicate}
 use Rattle.capi.proofs.kept_room.Statement.{statement}
 use Rattle.capi.proofs.kept_room.Tie as tie
 

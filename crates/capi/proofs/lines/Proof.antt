@@ -1,14 +1,7 @@
-use Prim.Native.Nat.{_+_, _-_}
-use mathlib.Core.Path.{_≡_, sym, _∙_}
-use mathlib.Core.Logic.{⊎-elim}
-use lib.ListN.{length, take}
-use lib.Seq.{sets}
-use Rattle.laws.specs.Loop.{pick}
-use Rattle.session.specs.Session.{Session}
-use Rattle.session.specs.Holds.{Holds}
-use Rattle.capi.specs.Lines.{most-part}
-use Rattle.capi.specs.LinesLaws.{Lining, lining-start, lining-long, lining-room, lining-place, lining-sum, lining-part, lining-less, lining-on, lining-end}
-use borrow.Author.Needs.{needs}
+use Rattle.laws.specs.{Kit.{_+_, _-_, _≡_, sym, _∙_, ⊎-elim, length, take, sets, needs}, Loop.{pick}}
+use Rattle.session.specs.{Session.{Session}, Holds.{Holds}}
+use Rattle.capi.specs.{Mirror.AccessParts.{most-part}, Link.RunsOfLines.{Lining, lining-start, lining-long, lining-room}}
+use Rattle.capi.specs.Link.RunsOfLines.{lining-place, lining-sum, lining-part, lining-less, lining-on, lining-end}
 use Rattle.capi.proofs.lines.Statement.{statement}
 use Rattle.capi.proofs.lines.Tie as tie
 use Rattle.table.specs.Model.{tableWith}
@@ -92,20 +85,5 @@ returns : tie.Need-returns Inv-loop μ-loop
 returns c z h = lining-end (c .before .loop .inv .1 z h) (c .before .before .before .before .before .pre .1 .0) (c .loop-test .left)
 
 pub lines-spec : {M : Type 1} → statement M
-lines-spec =
-    tie.close
-    (tie.spec
-    Inv-loop
-    μ-loop
-    (λ c κs. search needs)
-    loop-holds
-    slice-aggregate-run
-    run-requires
-    slice-aggregate-copy
-    add-copy
-    copy-requires
-    add-len
-    loop-less
-    loop-again
-    same-length
-    returns)
+lines-spec = tie.close (tie.spec Inv-loop μ-loop (λ c κs. search needs) loop-holds slice-aggregate-run run-requires slice-aggregate-copy
+    add-copy copy-requires add-len loop-less loop-again same-length returns)

@@ -1,8 +1,6 @@
-use mathlib.Core.Path.{refl}
-use native.Mathlib.Omega.{arith}
+use Rattle.laws.specs.Kit.{refl, arith, needs}
 use Rattle.session.specs.Transcript.{transcriptFrom}
-use Rattle.capi.specs.RunLaws.{both-put}
-use borrow.Author.Needs.{needs}
+use Rattle.capi.specs.Link.CallFrom.{both-put}
 use Rattle.capi.proofs.put_answers.Statement.{statement}
 use Rattle.capi.proofs.put_answers.Tie as tie
 

@@ -1,6 +1,5 @@
-use native.Mathlib.Omega.{arith}
-use Rattle.capi.specs.RunLaws.{run-refused, ran-behind}
-use borrow.Author.Needs.{needs}
+use Rattle.laws.specs.Kit.{arith, needs}
+use Rattle.capi.specs.Link.CallFrom.{run-refused, ran-behind}
 use Rattle.capi.proofs.run_from.Statement.{statement}
 use Rattle.capi.proofs.run_from.Tie as tie
 
@@ -27,17 +26,5 @@ returns-3 c z h =
     c .before .before .before .before .before .before .finish .ensures z (r .session) (r .holds) (ran-behind r)
 
 pub run-from-spec : {M : Type 1} → statement M
-run-from-spec =
-    tie.close
-    (tie.spec
-    returns
-    returns-2
-    (λ c κs. search needs)
-    (λ c. search needs)
-    (λ c κs. search needs)
-    (λ c. search needs)
-    finish-requires
-    (λ c. search needs)
-    (λ c. search needs)
-    (λ c. search needs)
-    returns-3)
+run-from-spec = tie.close (tie.spec returns returns-2 (λ c κs. search needs) (λ c. search needs) (λ c κs. search needs) (λ c. search needs)
+    finish-requires (λ c. search needs) (λ c. search needs) (λ c. search needs) returns-3)

@@ -1,9 +1,6 @@
 use Rattle.table.specs.Model.{tableWith}
-use mathlib.Core.Path.{refl, ap}
-use native.Mathlib.Omega.{arith}
-use lib.ListN.{length}
-use Rattle.capi.specs.ImageLaws.{no-image, image-is}
-use borrow.Author.Needs.{needs}
+use Rattle.laws.specs.Kit.{refl, ap, arith, length, needs}
+use Rattle.capi.specs.Link.SessionImage.{no-image, image-is}
 use Rattle.capi.proofs.save_image.Statement.{statement}
 use Rattle.capi.proofs.save_image.Tie as tie
 

@@ -1,8 +1,6 @@
-use mathlib.Core.Path.{ap}
-use Rattle.table.specs.declared.Begun.{Begun}
-use Rattle.table.specs.Begin.{beginTable}
-use Rattle.capi.specs.StartLaws.{empty-starts, image-starts}
-use borrow.Author.Needs.{needs}
+use Rattle.laws.specs.Kit.{ap, needs}
+use Rattle.table.specs.{declared.Begun.{Begun}, Beginning.{beginTable}}
+use Rattle.capi.specs.Link.ImageStart.{empty-starts, image-starts}
 use Rattle.capi.proofs.start.Statement.{statement}
 use Rattle.capi.proofs.start.Tie as tie
 

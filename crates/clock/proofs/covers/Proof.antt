@@ -1,14 +1,5 @@
-use Rattle.clock.specs.Vectors.{places}
-use Prim.Native.Nat.{_≤_, _-_}
-use mathlib.Core.Path.{_≡_, sym, _∙_}
-use mathlib.Core.Logic.{inl, inr}
-use mathlib.Core.Bool.{false, not}
-use lib.ListN.{getD}
-use lib.Dec.{ltb}
-use Rattle.laws.specs.Loop.{pick}
-use Rattle.laws.specs.All.{all}
-use Rattle.clock.specs.Readiness.{covers, covers-over, covers-more, covers-end}
-use borrow.Author.Needs.{needs}
+use Rattle.clock.specs.{Vectors.{places}, Readiness.{covers, covers-over, covers-more, covers-end}}
+use Rattle.laws.specs.{Kit.{_≤_, _-_, _≡_, sym, _∙_, inl, inr, false, not, getD, ltb, needs}, Loop.{pick}, All.{all}}
 use Rattle.clock.proofs.covers.Statement.{statement}
 use Rattle.clock.proofs.covers.Tie as tie
 
@@ -38,17 +29,5 @@ returns c = let L = c .before .loop in
     sym (covers-end places (g .t1) (g .t2) (L .over) (L .t) (search needs)) ∙ L .inv .1
 
 pub covers-spec : {M : Type 1} → statement M
-covers-spec =
-    tie.close
-    (tie.spec
-    Inv-loop
-    μ-loop
-    loop-holds
-    (λ c. search needs)
-    (λ c. search needs)
-    (λ c. search needs)
-    (λ c. search needs)
-    (λ c. search needs)
-    (λ c. search needs)
-    loop-again
-    returns)
+covers-spec = tie.close (tie.spec Inv-loop μ-loop loop-holds (λ c. search needs) (λ c. search needs) (λ c. search needs) (λ c. search needs)
+    (λ c. search needs) (λ c. search needs) loop-again returns)

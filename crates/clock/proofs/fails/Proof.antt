@@ -1,10 +1,6 @@
-use mir.Val.{Fits}
-use mir.Syntax.{w16}
-use Prim.Native.Nat.{_-_}
-use lib.ListN.{getD}
-use native.Mathlib.Omega.{arith}
+use mir.{Val.{Fits}, Syntax.{w16}}
+use Rattle.laws.specs.Kit.{_-_, getD, arith, needs}
 use Rattle.clock.specs.Readiness.{failsAt-own, failsAt-other}
-use borrow.Author.Needs.{needs}
 use Rattle.clock.proofs.fails.Statement.{statement}
 use Rattle.clock.proofs.fails.Tie as tie
 
@@ -18,17 +14,5 @@ returns-2 : tie.Need-returns-2
 returns-2 c = let g = c .before .args in failsAt-other (g .t1) (g .t2) (g .u) (g .t) (search needs) (c .if1 .left)
 
 pub fails-spec : {M : Type 1} → statement M
-fails-spec =
-    tie.close
-    (tie.spec
-    (λ c. search needs)
-    (λ c. search needs)
-    (λ c. search needs)
-    (λ c. search needs)
-    (λ c. search needs)
-    (λ c. search needs)
-    (λ c. search needs)
-    (λ c. search needs)
-    add-result
-    returns
-    returns-2)
+fails-spec = tie.close (tie.spec (λ c. search needs) (λ c. search needs) (λ c. search needs) (λ c. search needs) (λ c. search needs)
+    (λ c. search needs) (λ c. search needs) (λ c. search needs) add-result returns returns-2)

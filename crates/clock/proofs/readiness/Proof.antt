@@ -1,11 +1,6 @@
-use Rattle.clock.specs.Vectors.{places, place}
-use Prim.Native.Nat.{_≤_, _-_, _+_}
-use mathlib.Core.Path.{_≡_, refl, sym, _∙_}
-use mathlib.Core.Option.{none, some}
+use Rattle.clock.specs.{Vectors.{places, place}, Readiness.{failsAt}}
+use Rattle.laws.specs.{Kit.{_≤_, _-_, _+_, _≡_, refl, sym, _∙_, none, some, needs}, Loop.{scan, scan-here, scan-next, scan-end}}
 use Rattle.machine.specs.Steps.{failing}
-use Rattle.laws.specs.Loop.{scan, scan-here, scan-next, scan-end}
-use Rattle.clock.specs.Readiness.{failsAt}
-use borrow.Author.Needs.{needs}
 use Rattle.clock.proofs.readiness.Statement.{statement}
 use Rattle.clock.proofs.readiness.Tie as tie
 
@@ -30,15 +25,5 @@ returns-2 : tie.Need-returns-2 Inv-loop μ-loop
 returns-2 c = let L = c .before .loop in sym (scan-end _ _ _ (places + 1) (L .t) (search needs)) ∙ L .inv .1 .1
 
 pub readiness-spec : {M : Type 1} → statement M
-readiness-spec =
-    tie.close
-    (tie.spec
-    Inv-loop
-    μ-loop
-    loop-holds
-    (λ c κs. search needs)
-    returns
-    (λ c. search needs)
-    (λ c. search needs)
-    loop-again
-    returns-2)
+readiness-spec = tie.close (tie.spec Inv-loop μ-loop loop-holds (λ c κs. search needs) returns (λ c. search needs) (λ c. search needs)
+    loop-again returns-2)

@@ -1,9 +1,5 @@
-use Rattle.clock.specs.Vectors.{places}
-use mathlib.Core.Path.{_≡_, sym, _∙_}
-use native.Mathlib.Omega.{arith}
-use lib.ListN.{length}
-use Rattle.clock.specs.Readiness.{ready-out, ready-late, ready-next}
-use borrow.Author.Needs.{needs}
+use Rattle.clock.specs.{Vectors.{places}, Readiness.{ready-out, ready-late, ready-next}}
+use Rattle.laws.specs.Kit.{_≡_, sym, _∙_, arith, length, needs}
 use Rattle.clock.proofs.ready.Statement.{statement}
 use Rattle.clock.proofs.ready.Tie as tie
 
@@ -29,22 +25,6 @@ returns-5 c = let g = c .before .before .before .before .before .args in
     c .covers3 .ensures ∙ sym (ready-next places (g .t1) (g .t2) (g .u) (search needs, search needs) (omega arith))
 
 pub ready-spec : {M : Type 1} → statement M
-ready-spec =
-    tie.close
-    (tie.spec
-    (λ c κs. search needs)
-    returns
-    (λ c. search needs)
-    (λ c κs. search needs)
-    returns-2
-    (λ c. search needs)
-    (λ c. search needs)
-    returns-3
-    (λ c. search needs)
-    (λ c. search needs)
-    (λ c. search needs)
-    returns-4
-    (λ c. search needs)
-    (λ c. search needs)
-    (λ c κs. search needs)
-    returns-5)
+ready-spec = tie.close (tie.spec (λ c κs. search needs) returns (λ c. search needs) (λ c κs. search needs) returns-2 (λ c. search needs)
+    (λ c. search needs) returns-3 (λ c. search needs) (λ c. search needs) (λ c. search needs) returns-4 (λ c. search needs)
+    (λ c. search needs) (λ c κs. search needs) returns-5)

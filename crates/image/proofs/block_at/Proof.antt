@@ -1,9 +1,6 @@
 use Rattle.clock.specs.Vectors.{places}
-use Rattle.image.specs.Saved.{sizes-at, desk-at, cells-at, opens-at-place}
-use native.Mathlib.Omega.{arith}
-use Prim.Native.Nat.{_+_, _-_, _*_, _<_}
-use native.Mathlib.Nat.{div-lt-iff-lt-mul, mod-lt}
-use borrow.Author.Needs.{needs}
+use Rattle.image.specs.Link.SavedIsImage.{sizes-at, desk-at, cells-at, opens-at-place}
+use Rattle.laws.specs.Kit.{arith, _+_, _-_, _*_, _<_, div-lt-iff-lt-mul, mod-lt, needs}
 use Rattle.image.proofs.block_at.Statement.{statement}
 use Rattle.image.proofs.block_at.Tie as tie
 
@@ -28,27 +25,7 @@ returns-4 : tie.Need-returns-4
 returns-4 c = opens-at-place places (c .before .before .before .before .pre .0) _ (c .before .before .if2 .left) (c .before .if3 .left) (c .open-block .ensures)
 
 pub block-at-spec : {M : Type 1} → statement M
-block-at-spec =
-    tie.close
-    (tie.spec
-    (λ c. search needs)
-    (λ c. search needs)
-    (λ c. search needs)
-    (λ c κs. search needs)
-    returns
-    (λ c. search needs)
-    (λ c. search needs)
-    (λ c. search needs)
-    (λ c. search needs)
-    (λ c κs. search needs)
-    returns-2
-    (λ c. search needs)
-    (λ c. search needs)
-    (λ c. search needs)
-    (λ c. search needs)
-    (λ c. search needs)
-    cell-block-requires
-    returns-3
-    (λ c. search needs)
-    (λ c κs. search needs)
-    returns-4)
+block-at-spec = tie.close (tie.spec (λ c. search needs) (λ c. search needs) (λ c. search needs) (λ c κs. search needs) returns
+    (λ c. search needs) (λ c. search needs) (λ c. search needs) (λ c. search needs) (λ c κs. search needs) returns-2 (λ c. search needs)
+    (λ c. search needs) (λ c. search needs) (λ c. search needs) (λ c. search needs) cell-block-requires returns-3 (λ c. search needs)
+    (λ c κs. search needs) returns-4)

@@ -1,14 +1,8 @@
 use Rattle.clock.specs.Vectors.{places}
-use Rattle.image.specs.Limits.{payload-at, cell-bytes, cells-in, fit}
-use Rattle.laws.specs.Cat.{cat, length-cat}
-use lib.Seq.{sets}
-use mathlib.Core.Path.{_≡_, refl, _∙_}
-use native.Mathlib.Omega.{arith}
-use Rattle.image.specs.Parts.{CellFor, cellPiece, length-cellPiece, cell-there, cell-past, one-more}
-use Rattle.image.specs.Block.{cellRaw, made, zeros-behind}
+use Rattle.image.specs.{Limits.{payload-at, cell-bytes, cells-in, fit}, Mirror.TableBytes.{CellFor, cellPiece, length-cellPiece}}
+use Rattle.image.specs.{Mirror.TableBytes.{cell-there, cell-past, one-more}, Mirror.Block.{cellRaw, made, zeros-behind}}
+use Rattle.laws.specs.{Cat.{cat, length-cat}, Kit.{sets, _≡_, refl, _∙_, arith, _+_, _*_, _≤_, _-_, min, needs}}
 use Rattle.table.specs.Value.{desk-cells}
-use Prim.Native.Nat.{_+_, _*_, _≤_, _-_, min}
-use borrow.Author.Needs.{needs}
 use Rattle.image.proofs.cell_block.Statement.{statement}
 use Rattle.image.proofs.cell_block.Tie as tie
 
@@ -51,26 +45,6 @@ returns c =
     ∙ zeros-behind 3 (A .at) (cell-bytes places) (L .j) (cells-in places) f (L .inv .0) l h (λ j g m. cell-past places (A .cells .now) (A .i) (A .q) j (omega arith))
 
 pub cell-block-spec : {M : Type 1} → statement M
-cell-block-spec =
-    tie.close
-    (tie.spec
-    Inv-loop
-    μ-loop
-    (λ c κs. search needs)
-    (λ c. search needs)
-    (λ c. search needs)
-    (λ c κs. search needs)
-    loop-holds
-    (λ c. search needs)
-    (λ c. search needs)
-    (λ c. search needs)
-    (λ c. search needs)
-    (λ c κs. search needs)
-    (λ c. search needs)
-    (λ c. search needs)
-    put-record-requires
-    (λ c. search needs)
-    (λ c. search needs)
-    loop-again
-    (λ c κs. search needs)
-    returns)
+cell-block-spec = tie.close (tie.spec Inv-loop μ-loop (λ c κs. search needs) (λ c. search needs) (λ c. search needs) (λ c κs. search needs)
+    loop-holds (λ c. search needs) (λ c. search needs) (λ c. search needs) (λ c. search needs) (λ c κs. search needs) (λ c. search needs)
+    (λ c. search needs) put-record-requires (λ c. search needs) (λ c. search needs) loop-again (λ c κs. search needs) returns)

@@ -1,14 +1,8 @@
 use Rattle.clock.specs.Vectors.{places}
 use Rattle.image.specs.Limits.{rows-most}
-use native.Mathlib.Nat.{mul-le-mul}
-use native.Mathlib.Omega.{arith}
-use mathlib.Core.Path.{refl}
-use Prim.Native.Nat.{_*_, _≤_}
-use borrow.Author.Needs.{needs}
+use Rattle.laws.specs.Kit.{mul-le-mul, arith, refl, _*_, _≤_, needs}
 use Rattle.image.proofs.cells_end.Statement.{statement}
 use Rattle.image.proofs.cells_end.Tie as tie
-use Rattle.image.proofs.cells_end.Reads as reads
-use Rattle.image.proofs.cells_end.Lts as lts
 
 mul-result : tie.Need-mul-result
 mul-result c = let h : c .args .c * c .args .n ≤ rows-most places = mul-le-mul (c .pre .1) (c .pre .0) in omega arith

@@ -1,15 +1,7 @@
-use Rattle.image.specs.Limits.{check-at}
-use Rattle.image.specs.Check.{weighed, checkOf, check-more}
-use Rattle.laws.specs.Sum.{sum}
-use mathlib.Core.Path.{_≡_, _∙_}
-use Prim.Native.Nat.{_+_, _*_, _≤_, _-_}
-use native.Mathlib.Omega.{arith}
-use borrow.Author.Needs.{needs}
+use Rattle.image.specs.{Limits.{check-at}, Check.{weighed, checkOf, check-more}}
+use Rattle.laws.specs.{Sum.{sum}, Kit.{_≡_, _∙_, _+_, _*_, _≤_, _-_, arith, needs}}
 use Rattle.image.proofs.check.Statement.{statement}
 use Rattle.image.proofs.check.Tie as tie
-use Rattle.image.proofs.check.Reads as reads
-use Rattle.image.proofs.check.Lts as lts
-use Rattle.image.proofs.term.Reads as term-reads
 
 abbrev Inv-loop : tie.InvT-loop
 Inv-loop b c₀ j₀ c j = (j ≤ check-at) × ((c ≤ 1 + check-at * 255 * j) × (c ≡ 1 + sum j (weighed b)))
@@ -30,16 +22,5 @@ unfolding checkOf
 returns c = let L = c .before .loop in let e : L .j ≡ check-at = omega arith in L .inv .1 .1 ∙ rw e
 
 pub check-spec : {M : Type 1} → statement M
-check-spec =
-    tie.close
-    (tie.spec
-    Inv-loop
-    μ-loop
-    loop-holds
-    (λ c. search needs)
-    (λ c κs. search needs)
-    (λ c. search needs)
-    (λ c. search needs)
-    (λ c. search needs)
-    loop-again
-    returns)
+check-spec = tie.close (tie.spec Inv-loop μ-loop loop-holds (λ c. search needs) (λ c κs. search needs) (λ c. search needs)
+    (λ c. search needs) (λ c. search needs) loop-again returns)

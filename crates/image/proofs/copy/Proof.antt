@@ -1,10 +1,5 @@
-use Prim.Native.Nat.{_≤_, _-_}
-use mathlib.Core.Path.{_≡_}
-use native.Mathlib.Omega.{arith}
-use lib.ListN.{length, take}
-use lib.Seq.{sets}
-use Rattle.image.specs.Fill.{set-more}
-use borrow.Author.Needs.{needs}
+use Rattle.laws.specs.Kit.{_≤_, _-_, _≡_, arith, length, take, sets, needs}
+use Rattle.image.specs.Link.BlockFill.{set-more}
 use Rattle.image.proofs.copy.Statement.{statement}
 use Rattle.image.proofs.copy.Tie as tie
 
@@ -27,17 +22,5 @@ returns c =
     rw (← e) (L .inv .1 .0)
 
 pub copy-spec : {M : Type 1} → statement M
-copy-spec =
-    tie.close
-    (tie.spec
-    Inv-loop
-    μ-loop
-    (λ c. search needs)
-    (λ c. search needs)
-    (λ c. search needs)
-    (λ c. search needs)
-    (λ c. search needs)
-    (λ c. search needs)
-    loop-again
-    (λ c. search needs)
-    returns)
+copy-spec = tie.close (tie.spec Inv-loop μ-loop (λ c. search needs) (λ c. search needs) (λ c. search needs) (λ c. search needs)
+    (λ c. search needs) (λ c. search needs) loop-again (λ c. search needs) returns)

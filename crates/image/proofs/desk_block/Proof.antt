@@ -1,12 +1,6 @@
-use Rattle.clock.specs.Vectors.{places}
-use Rattle.clock.specs.Vectors.{place}
-use Rattle.image.specs.Limits.{wide, payload-at}
-use Rattle.image.specs.Encode.{deskBytes}
-use Rattle.image.specs.Fields.{length-desk}
-use Rattle.image.specs.Block.{behind, made}
-use mathlib.Core.Path.{_∙_}
-use native.Mathlib.Omega.{arith}
-use borrow.Author.Needs.{needs}
+use Rattle.clock.specs.Vectors.{places, place}
+use Rattle.image.specs.{Limits.{wide, payload-at}, Encode.{deskBytes}, Fields.{length-desk}, Mirror.Block.{behind, made}}
+use Rattle.laws.specs.Kit.{_∙_, arith, needs}
 use Rattle.image.proofs.desk_block.Statement.{statement}
 use Rattle.image.proofs.desk_block.Tie as tie
 
@@ -19,6 +13,4 @@ returns c =
     (c .before .before .put-words .ensures ∙ rw (c .before .before .before .before .before .before .put-record .ensures) (behind places (h .last .0) payload-at (A .k) 0 0 (place (A .d .applied)) _)) (c .seal .ensures)
 
 pub desk-block-spec : {M : Type 1} → statement M
-desk-block-spec =
-    tie.close
-    (tie.spec (λ c κs. search needs) (λ c κs. search needs) (λ c κs. search needs) (λ c κs. search needs) returns)
+desk-block-spec = tie.close (tie.spec (λ c κs. search needs) (λ c κs. search needs) (λ c κs. search needs) (λ c κs. search needs) returns)

@@ -1,16 +1,8 @@
-use Rattle.image.specs.Order.{low-start, low-more, count-at}
-use Rattle.image.specs.Counted.{least, low}
+use Rattle.image.specs.{Mirror.EntryOrder.{low-start, low-more, count-at}, Link.OrderFromCounts.{least, low}}
 use Rattle.table.specs.Model.{appliedM}
-use native.Mathlib.Omega.{arith}
-use mathlib.Core.Path.{_≡_, _∙_}
-use Prim.Native.Nat.{_≤_, _-_, suc}
-use borrow.Author.Needs.{needs}
+use Rattle.laws.specs.Kit.{arith, _≡_, _∙_, _≤_, _-_, suc, needs}
 use Rattle.image.proofs.lowest.Statement.{statement}
 use Rattle.image.proofs.lowest.Tie as tie
-use Rattle.image.proofs.lowest.Reads as reads
-use Rattle.image.proofs.lowest.Lts as lts
-use Rattle.image.proofs.own_count.Reads as own-count-reads
-use Rattle.image.proofs.smaller.Reads as smaller-reads
 
 abbrev Inv-loop : tie.InvT-loop
 Inv-loop n u desks r₀ i₀ r i = (i ≤ n) × (r ≡ least (appliedM desks (suc u) (suc u)) (λ i. appliedM desks i (suc u)) i)
@@ -30,19 +22,5 @@ unfolding low
 returns c = let L = (c .before .loop) in let e : L .i ≡ c .before .before .before .args .n = omega arith in L .inv .1 ∙ rw e
 
 pub lowest-spec : {M : Type 1} → statement M
-lowest-spec =
-    tie.close
-    (tie.spec
-    Inv-loop
-    μ-loop
-    (λ c κs. search needs)
-    loop-holds
-    (λ c. search needs)
-    (λ c. search needs)
-    (λ c. search needs)
-    (λ c. search needs)
-    (λ c κs. search needs)
-    (λ c. search needs)
-    (λ c. search needs)
-    loop-again
-    returns)
+lowest-spec = tie.close (tie.spec Inv-loop μ-loop (λ c κs. search needs) loop-holds (λ c. search needs) (λ c. search needs)
+    (λ c. search needs) (λ c. search needs) (λ c κs. search needs) (λ c. search needs) (λ c. search needs) loop-again returns)

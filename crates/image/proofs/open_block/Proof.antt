@@ -1,15 +1,8 @@
 use Rattle.clock.specs.Vectors.{places}
-use Rattle.image.specs.Limits.{payload-at, open-bytes, opens-in, fit}
-use Rattle.laws.specs.Cat.{cat, length-cat}
-use lib.Seq.{sets}
-use mathlib.Core.Path.{_≡_, refl, _∙_}
-use native.Mathlib.Omega.{arith}
-use Rattle.image.specs.Parts.{openPiece, length-openPiece, open-there, open-past, one-more}
-use Rattle.image.specs.Block.{SmallOpen, made, zeros-behind}
+use Rattle.image.specs.{Limits.{payload-at, open-bytes, opens-in, fit}, Mirror.TableBytes.{openPiece, length-openPiece, open-there}}
+use Rattle.image.specs.{Mirror.TableBytes.{open-past, one-more}, Mirror.Block.{SmallOpen, made, zeros-behind}}
+use Rattle.laws.specs.{Cat.{cat, length-cat}, Kit.{sets, _≡_, refl, _∙_, arith, getD, _+_, _*_, _<_, _≤_, _-_, min, needs}}
 use Rattle.table.specs.Value.{entries, openAt}
-use lib.ListN.{getD}
-use Prim.Native.Nat.{_+_, _*_, _<_, _≤_, _-_, min}
-use borrow.Author.Needs.{needs}
 use Rattle.image.proofs.open_block.Statement.{statement}
 use Rattle.image.proofs.open_block.Tie as tie
 
@@ -53,26 +46,6 @@ returns c =
     ∙ zeros-behind 4 (A .at) (open-bytes places) (L .j) (opens-in places) f (L .inv .0) l h (λ j g m. open-past places (A .opens .now) (A .order .now) (A .count) (A .q) j (omega arith))
 
 pub open-block-spec : {M : Type 1} → statement M
-open-block-spec =
-    tie.close
-    (tie.spec
-    Inv-loop
-    μ-loop
-    (λ c κs. search needs)
-    (λ c. search needs)
-    (λ c. search needs)
-    (λ c κs. search needs)
-    loop-holds
-    (λ c. search needs)
-    (λ c. search needs)
-    (λ c. search needs)
-    (λ c. search needs)
-    open-at-requires
-    (λ c. search needs)
-    (λ c. search needs)
-    put-open-requires
-    (λ c. search needs)
-    (λ c. search needs)
-    loop-again
-    (λ c κs. search needs)
-    returns)
+open-block-spec = tie.close (tie.spec Inv-loop μ-loop (λ c κs. search needs) (λ c. search needs) (λ c. search needs) (λ c κs. search needs)
+    loop-holds (λ c. search needs) (λ c. search needs) (λ c. search needs) (λ c. search needs) open-at-requires (λ c. search needs)
+    (λ c. search needs) put-open-requires (λ c. search needs) (λ c. search needs) loop-again (λ c κs. search needs) returns)

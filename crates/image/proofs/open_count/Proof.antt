@@ -1,19 +1,8 @@
-use Rattle.image.specs.Order.{ahead, ahead-more, low-own, count-at}
-use Rattle.image.specs.Counted.{counted, low}
+use Rattle.image.specs.{Mirror.EntryOrder.{ahead, ahead-more, low-own, count-at}, Link.OrderFromCounts.{counted}}
 use Rattle.table.specs.Model.{appliedM}
-use Rattle.laws.specs.Cat.{cat}
-use lib.ListN.{length}
-use native.Mathlib.Omega.{arith}
-use mathlib.Core.Path.{_≡_, _∙_, refl}
-use Prim.Native.Nat.{_+_, _≤_, _-_, _*_, suc}
-use borrow.Author.Needs.{needs}
+use Rattle.laws.specs.{Cat.{cat}, Kit.{length, arith, _≡_, _∙_, refl, _≤_, _-_, _*_, suc, needs}}
 use Rattle.image.proofs.open_count.Statement.{statement}
 use Rattle.image.proofs.open_count.Tie as tie
-use Rattle.image.proofs.open_count.Reads as reads
-use Rattle.image.proofs.open_count.Lts as lts
-use Rattle.image.proofs.lowest.Reads as lowest-reads
-use Rattle.image.proofs.number.Reads as number-reads
-use Rattle.image.proofs.own_count.Reads as own-count-reads
 
 abbrev Inv-loop : tie.InvT-loop
 Inv-loop desks n r₀ u₀ r u = (u ≤ n) × ((r ≡ length (ahead n desks u)) × (r ≤ 65536 * u))
@@ -39,19 +28,5 @@ unfolding counted
 returns c = let L = (c .before .loop) in let d = (c .before .before .pre) in let e : L .u ≡ c .before .before .args .n = omega arith in (L .inv .1 .0 ∙ rw e, omega arith)
 
 pub open-count-spec : {M : Type 1} → statement M
-open-count-spec =
-    tie.close
-    (tie.spec
-    Inv-loop
-    μ-loop
-    loop-holds
-    (λ c κs. search needs)
-    (λ c κs. search needs)
-    (λ c κs. search needs)
-    (λ c κs. search needs)
-    sub-r
-    (λ c. search needs)
-    (λ c. search needs)
-    (λ c. search needs)
-    loop-again
-    returns)
+open-count-spec = tie.close (tie.spec Inv-loop μ-loop loop-holds (λ c κs. search needs) (λ c κs. search needs) (λ c κs. search needs)
+    (λ c κs. search needs) sub-r (λ c. search needs) (λ c. search needs) (λ c. search needs) loop-again returns)

@@ -1,24 +1,12 @@
-use Rattle.table.specs.Value.{entries}
-use Rattle.image.specs.Order.{ahead, Ordered, ordered-none, ordered-next, known-room, low-own}
-use Rattle.image.specs.Counted.{counted}
-use Rattle.table.specs.Model.{appliedM}
-use Rattle.laws.specs.Cat.{cat}
-use lib.ListN.{length}
-use native.Mathlib.Numerals.{add-one}
-use native.Mathlib.Omega.{arith}
-use mathlib.Core.Path.{_≡_, _∙_}
-use Prim.Native.Nat.{_≤_, _-_, suc}
-use borrow.Author.Needs.{needs}
+use Rattle.table.specs.{Value.{entries}, Model.{appliedM}}
+use Rattle.image.specs.Mirror.EntryOrder.{ahead, InOrder, ordered-none, ordered-next, known-room, low-own}
+use Rattle.image.specs.Link.OrderFromCounts.{counted}
+use Rattle.laws.specs.{Cat.{cat}, Kit.{length, add-one, arith, _≡_, _∙_, _≤_, _-_, suc, needs}}
 use Rattle.image.proofs.order_all.Statement.{statement}
 use Rattle.image.proofs.order_all.Tie as tie
-use Rattle.image.proofs.order_all.Reads as reads
-use Rattle.image.proofs.order_all.Lts as lts
-use Rattle.image.proofs.lowest.Reads as lowest-reads
-use Rattle.image.proofs.order_of.Reads as order-of-reads
-use Rattle.image.proofs.own_count.Reads as own-count-reads
 
 abbrev Inv-loop : tie.InvT-loop
-Inv-loop opens desks n order₀ count₀ u₀ order count u = (u ≤ n) × (Ordered opens (ahead n desks u) order count × (length order ≡ entries))
+Inv-loop opens desks n order₀ count₀ u₀ order count u = (u ≤ n) × (InOrder opens (ahead n desks u) order count × (length order ≡ entries))
 
 abbrev μ-loop : tie.MeasureT-loop
 μ-loop opens desks n order₀ count₀ u₀ order count u = n - u
@@ -50,18 +38,5 @@ unfolding counted
 returns c = let L = (c .before .loop) in let e : L .u ≡ c .before .before .before .args .n = omega arith in rw e at (L .inv .1 .0)
 
 pub order-all-spec : {M : Type 1} → statement M
-order-all-spec =
-    tie.close
-    (tie.spec
-    Inv-loop
-    μ-loop
-    loop-holds
-    (λ c κs. search needs)
-    (λ c κs. search needs)
-    (λ c. search needs)
-    order-of-requires
-    (λ c. search needs)
-    (λ c. search needs)
-    loop-again
-    (λ c. search needs)
-    returns)
+order-all-spec = tie.close (tie.spec Inv-loop μ-loop loop-holds (λ c κs. search needs) (λ c κs. search needs) (λ c. search needs)
+    order-of-requires (λ c. search needs) (λ c. search needs) loop-again (λ c. search needs) returns)

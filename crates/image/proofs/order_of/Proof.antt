@@ -1,16 +1,8 @@
-use Rattle.table.specs.Opens.{found-none}
-use Rattle.table.specs.Names.{namedAt, found-at}
-use Rattle.image.specs.Order.{Listed, listed-none, listed-more}
-use lib.ListN.{length}
-use native.Mathlib.Omega.{arith}
-use mathlib.Core.Path.{_≡_, _∙_}
-use Prim.Native.Nat.{_+_, _≤_, _-_}
-use borrow.Author.Needs.{needs}
+use Rattle.table.specs.{Link.OpensModel.{found-none}, EntryNames.{namedAt, found-at}}
+use Rattle.image.specs.Mirror.EntryOrder.{Listed, listed-none, listed-more}
+use Rattle.laws.specs.Kit.{arith, _≡_, _+_, _≤_, _-_, needs}
 use Rattle.image.proofs.order_of.Statement.{statement}
 use Rattle.image.proofs.order_of.Tie as tie
-use Rattle.image.proofs.order_of.Reads as reads
-use Rattle.image.proofs.order_of.Lts as lts
-use Rattle.table.proofs.find.Reads as find-reads
 
 abbrev Inv-loop : tie.InvT-loop
 Inv-loop opens u lo own order₀ p k₀ at₀ order k at = (lo ≤ k) × ((k ≤ own) × Listed opens u lo k p order₀ order at)
@@ -35,23 +27,6 @@ returns-2 : tie.Need-returns-2 Inv-loop μ-loop
 returns-2 c = let L = (c .before .loop) in let e : L .k ≡ c .before .before .before .args .own = omega arith in rw e at (L .inv .1 .1)
 
 pub order-of-spec : {M : Type 1} → statement M
-order-of-spec =
-    tie.close
-    (tie.spec
-    Inv-loop
-    μ-loop
-    loop-holds
-    (λ c. search needs)
-    (λ c κs. search needs)
-    (λ c. search needs)
-    (λ c. search needs)
-    (λ c. search needs)
-    returns
-    (λ c. search needs)
-    (λ c. search needs)
-    (λ c. search needs)
-    (λ c. search needs)
-    (λ c. search needs)
-    loop-again
-    (λ c. search needs)
-    returns-2)
+order-of-spec = tie.close (tie.spec Inv-loop μ-loop loop-holds (λ c. search needs) (λ c κs. search needs) (λ c. search needs)
+    (λ c. search needs) (λ c. search needs) returns (λ c. search needs) (λ c. search needs) (λ c. search needs) (λ c. search needs)
+    (λ c. search needs) loop-again (λ c. search needs) returns-2)

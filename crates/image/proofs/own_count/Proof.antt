@@ -1,9 +1,7 @@
 use Rattle.table.specs.Model.{appliedM}
-use borrow.Author.Needs.{needs}
+use Rattle.laws.specs.Kit.{needs}
 use Rattle.image.proofs.own_count.Statement.{statement}
 use Rattle.image.proofs.own_count.Tie as tie
-use Rattle.image.proofs.own_count.Reads as reads
-use Rattle.image.proofs.own_count.Lts as lts
 
 returns : tie.Need-returns
 unfolding appliedM

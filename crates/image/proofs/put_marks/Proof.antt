@@ -1,18 +1,8 @@
 use Rattle.clock.specs.Vectors.{places}
-use Rattle.image.specs.Fill.{tab-put}
-use Rattle.image.specs.Encode.{markBytes}
-use Rattle.laws.specs.Tab.{tab, tabFrom}
-use lib.Seq.{sets}
-use lib.ListN.{getD}
-use mathlib.Core.Path.{_≡_, _∙_}
-use native.Mathlib.Omega.{arith}
-use Prim.Native.Nat.{_≤_, _-_}
-use borrow.Author.Needs.{needs}
+use Rattle.image.specs.{Link.BlockFill.{tab-put}, Encode.{markBytes}}
+use Rattle.laws.specs.{Tab.{tab, tabFrom}, Kit.{sets, getD, _≡_, _∙_, arith, _≤_, _-_, needs}}
 use Rattle.image.proofs.put_marks.Statement.{statement}
 use Rattle.image.proofs.put_marks.Tie as tie
-use Rattle.image.proofs.put_marks.Reads as reads
-use Rattle.image.proofs.put_marks.Lts as lts
-use Rattle.image.proofs.byte.Reads as byte-reads
 
 abbrev Inv-loop : tie.InvT-loop
 Inv-loop b₀ at v t₀ b t = (t ≤ places) × (b ≡ sets b₀ at (tab t (λ k. getD v k 0)))
@@ -36,18 +26,5 @@ unfolding markBytes
 returns c = let L = c .before .loop in let e : L .t ≡ places = omega arith in L .inv .1 ∙ rw e
 
 pub put-marks-spec : {M : Type 1} → statement M
-put-marks-spec =
-    tie.close
-    (tie.spec
-    Inv-loop
-    μ-loop
-    loop-holds
-    (λ c. search needs)
-    (λ c. search needs)
-    byte-requires
-    (λ c. search needs)
-    (λ c. search needs)
-    (λ c. search needs)
-    (λ c. search needs)
-    loop-again
-    returns)
+put-marks-spec = tie.close (tie.spec Inv-loop μ-loop loop-holds (λ c. search needs) (λ c. search needs) byte-requires (λ c. search needs)
+    (λ c. search needs) (λ c. search needs) (λ c. search needs) loop-again returns)

@@ -1,7 +1,6 @@
 use Rattle.clock.specs.Vectors.{places}
-use Rattle.image.specs.Block.{openRaw, behind}
-use mathlib.Core.Path.{_∙_}
-use borrow.Author.Needs.{needs}
+use Rattle.image.specs.Mirror.Block.{openRaw, behind}
+use Rattle.laws.specs.Kit.{_∙_, needs}
 use Rattle.image.proofs.put_open.Statement.{statement}
 use Rattle.image.proofs.put_open.Tie as tie
 

@@ -1,18 +1,8 @@
 use Rattle.clock.specs.Vectors.{places}
-use Rattle.image.specs.Fill.{sets-more}
-use Rattle.image.specs.Encode.{word, words}
-use Rattle.laws.specs.Cat.{cat, length-cat}
-use lib.Seq.{sets}
-use lib.ListN.{getD}
-use mathlib.Core.Path.{_≡_, refl, _∙_}
-use native.Mathlib.Omega.{arith}
-use Prim.Native.Nat.{_≤_, _-_, _*_}
-use borrow.Author.Needs.{needs}
+use Rattle.image.specs.{Link.BlockFill.{sets-more}, Encode.{word, vectorWords}}
+use Rattle.laws.specs.{Cat.{cat, length-cat}, Kit.{sets, getD, _≡_, refl, _∙_, arith, _≤_, _-_, _*_, needs}}
 use Rattle.image.proofs.put_words.Statement.{statement}
 use Rattle.image.proofs.put_words.Tie as tie
-use Rattle.image.proofs.put_words.Reads as reads
-use Rattle.image.proofs.put_words.Lts as lts
-use Rattle.image.proofs.put_word.Reads as put-word-reads
 
 abbrev Inv-loop : tie.InvT-loop
 Inv-loop b₀ at v t₀ b t = (t ≤ places) × (b ≡ sets b₀ at (cat (λ k. word (getD v k 0)) t))
@@ -29,22 +19,9 @@ loop-again c = let L = c .before .before .before .loop in let A = c .before .bef
     (search needs, c .put-word .ensures ∙ rw (L .inv .1) (sets-more (λ k. word (getD (A .t3) k 0)) (A .b .now) (A .at) (L .t) (2 * L .t) (length-cat (λ k. word (getD (A .t3) k 0)) 2 (λ j. refl) (L .t))))
 
 returns : tie.Need-returns Inv-loop μ-loop
-unfolding words
+unfolding vectorWords
 returns c = let L = c .before .loop in let e : L .t ≡ places = omega arith in L .inv .1 ∙ rw e
 
 pub put-words-spec : {M : Type 1} → statement M
-put-words-spec =
-    tie.close
-    (tie.spec
-    Inv-loop
-    μ-loop
-    loop-holds
-    (λ c. search needs)
-    (λ c. search needs)
-    (λ c. search needs)
-    (λ c. search needs)
-    (λ c κs. search needs)
-    (λ c. search needs)
-    (λ c. search needs)
-    loop-again
-    returns)
+put-words-spec = tie.close (tie.spec Inv-loop μ-loop loop-holds (λ c. search needs) (λ c. search needs) (λ c. search needs)
+    (λ c. search needs) (λ c κs. search needs) (λ c. search needs) (λ c. search needs) loop-again returns)

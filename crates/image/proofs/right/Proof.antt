@@ -1,36 +1,14 @@
-use Rattle.image.specs.Sound.{checkIn}
-use borrow.Author.Needs.{needs}
+use Rattle.image.specs.Damage.{checkIn}
+use Rattle.laws.specs.Kit.{needs}
 use Rattle.image.proofs.right.Statement.{statement}
 use Rattle.image.proofs.right.Tie as tie
-use Rattle.image.proofs.right.Reads as reads
-use Rattle.image.proofs.right.Lts as lts
-use Rattle.image.proofs.check.Reads as check-reads
-use Rattle.image.proofs.wide.Reads as wide-reads
 
 returns : tie.Need-returns
 unfolding checkIn
 returns c = rw (c .before .before .before .before .before .before .before .wide .ensures .0, c .before .before .before .before .before .wide2 .ensures .0, c .before .before .before .wide3 .ensures .0, c .before .wide4 .ensures .0, c .check .ensures)
 
 pub right-spec : {M : Type 1} → statement M
-right-spec =
-    tie.close
-    (tie.spec
-    (λ c. search needs)
-    (λ c κs. search needs)
-    (λ c. search needs)
-    (λ c. search needs)
-    (λ c κs. search needs)
-    (λ c. search needs)
-    (λ c. search needs)
-    (λ c κs. search needs)
-    (λ c. search needs)
-    (λ c. search needs)
-    (λ c κs. search needs)
-    (λ c. search needs)
-    (λ c. search needs)
-    (λ c. search needs)
-    (λ c. search needs)
-    (λ c. search needs)
-    (λ c. search needs)
-    (λ c κs. search needs)
-    returns)
+right-spec = tie.close (tie.spec (λ c. search needs) (λ c κs. search needs) (λ c. search needs) (λ c. search needs) (λ c κs. search needs)
+    (λ c. search needs) (λ c. search needs) (λ c κs. search needs) (λ c. search needs) (λ c. search needs) (λ c κs. search needs)
+    (λ c. search needs) (λ c. search needs) (λ c. search needs) (λ c. search needs) (λ c. search needs) (λ c. search needs)
+    (λ c κs. search needs) returns)

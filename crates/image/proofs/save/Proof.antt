@@ -1,19 +1,8 @@
-use Rattle.image.specs.Limits.{wide}
+use Rattle.image.specs.{Limits.{wide}, Saving.{by-rule, by-room, as-image}, Link.SavedIsImage.{length-is}}
 use Rattle.clock.specs.Vectors.{places}
-use Rattle.image.specs.Saving.{by-rule, by-room, as-image}
-use Rattle.image.specs.Saved.{length-is}
-use Rattle.laws.specs.Says.{apart}
-use borrow.Author.Tests.{not-true, not-false}
-use native.Mathlib.Omega.{arith}
-use mathlib.Core.Path.{refl}
-use borrow.Author.Needs.{needs}
+use Rattle.laws.specs.{Says.{apart}, Kit.{not-true, not-false, arith, refl, needs}}
 use Rattle.image.proofs.save.Statement.{statement}
 use Rattle.image.proofs.save.Tie as tie
-use Rattle.image.proofs.save.Reads as reads
-use Rattle.image.proofs.save.Lts as lts
-use Rattle.image.proofs.image_length.Reads as image-length-reads
-use Rattle.image.proofs.save_parts.Reads as save-parts-reads
-use Rattle.rules.proofs.keeps_rules.Reads as keeps-rules-reads
 
 returns : tie.Need-returns
 returns c = by-rule (λ s. apart (c .before .keeps-rules .result) (c .before .keeps-rules .ensures .from s) (not-true _ (c .if1 .taken))) refl
@@ -31,13 +20,5 @@ returns-3 : tie.Need-returns-3
 returns-3 c = let S = c .before .before .before .before .before .before .before .before .before .keeps-rules .ensures .to (not-false _ (c .before .before .before .before .before .before .before .before .if1 .left)) in as-image (c .before .before .save-parts .result) S (omega (arith, length-is places wide S (S .rules .frame .ranges .desks .1), c .before .before .before .before .before .before .before .image-length .ensures, c .before .before .before .before .before .before .if2 .left)) (c .before .before .save-parts .ensures .stored) (c .before .before .save-parts .ensures .size)
 
 pub save-spec : {M : Type 1} → statement M
-save-spec =
-    tie.close
-    (tie.spec
-    (λ c κs. search needs)
-    returns
-    image-length-requires
-    returns-2
-    save-parts-requires
-    (λ c. search needs)
+save-spec = tie.close (tie.spec (λ c κs. search needs) returns image-length-requires returns-2 save-parts-requires (λ c. search needs)
     returns-3)

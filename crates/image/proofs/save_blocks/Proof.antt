@@ -1,16 +1,8 @@
 use Rattle.clock.specs.Vectors.{places}
-use Rattle.image.specs.Limits.{block-bytes, wide}
-use Rattle.image.specs.Places.{blockAt, length-at}
-use Rattle.image.specs.Parts.{one-more}
-use Rattle.image.specs.Saved.{all-blocks}
-use Rattle.laws.specs.Cat.{cat}
+use Rattle.image.specs.{Limits.{block-bytes, wide}, Link.FieldPlaces.{blockAt, length-at}, Mirror.TableBytes.{one-more}}
+use Rattle.image.specs.Link.SavedIsImage.{all-blocks}
+use Rattle.laws.specs.{Cat.{cat}, Kit.{length, sets, take-all, _≡_, _∙_, arith, _≤_, _-_, needs}}
 use Rattle.table.specs.Model.{modelOf, tableWith}
-use lib.ListN.{length}
-use lib.Seq.{sets, take-all}
-use mathlib.Core.Path.{_≡_, _∙_}
-use native.Mathlib.Omega.{arith}
-use Prim.Native.Nat.{_≤_, _-_, _*_}
-use borrow.Author.Needs.{needs}
 use Rattle.image.proofs.save_blocks.Statement.{statement}
 use Rattle.image.proofs.save_blocks.Tie as tie
 
@@ -40,18 +32,5 @@ returns c =
     all-blocks places (modelOf (tableWith (A .core) (A .cells .now) (A .opens .now))) (A .out .now) (L .inv .1 .0) (omega (arith, P .total-is))
 
 pub save-blocks-spec : {M : Type 1} → statement M
-save-blocks-spec =
-    tie.close
-    (tie.spec
-    Inv-loop
-    μ-loop
-    loop-holds
-    (λ c κs. search needs)
-    (λ c. search needs)
-    (λ c. search needs)
-    (λ c κs. search needs)
-    (λ c. search needs)
-    (λ c. search needs)
-    loop-again
-    (λ c. search needs)
-    returns)
+save-blocks-spec = tie.close (tie.spec Inv-loop μ-loop loop-holds (λ c κs. search needs) (λ c. search needs) (λ c. search needs)
+    (λ c κs. search needs) (λ c. search needs) (λ c. search needs) loop-again (λ c. search needs) returns)

@@ -1,13 +1,7 @@
 use Rattle.clock.specs.Vectors.{places}
-use Rattle.image.specs.Limits.{wide, block-bytes}
-use Rattle.image.specs.Places.{length-encode}
-use Rattle.image.specs.Saved.{known, planned, Planned}
+use Rattle.image.specs.{Limits.{wide, block-bytes}, Link.FieldPlaces.{length-encode}, Link.SavedIsImage.{known, planned, Planned}}
 use Rattle.table.specs.Model.{tableWith, modelOf}
-use native.Mathlib.Omega.{arith}
-use mathlib.Core.Path.{sym}
-use Prim.Native.Nat.{_+_, _*_, _≤_}
-use lib.ListN.{length}
-use borrow.Author.Needs.{needs}
+use Rattle.laws.specs.Kit.{arith, sym, _+_, _*_, _≤_, length, needs}
 use Rattle.image.proofs.save_parts.Statement.{statement}
 use Rattle.image.proofs.save_parts.Tie as tie
 
@@ -57,16 +51,5 @@ returns c =
     record { stored = c .before .before .save-blocks .ensures; size = rw (plan p .total-is) (sym (length-encode places wide (modelOf (tableWith (A .core) (A .cells .now) (A .opens .now))))) }
 
 pub save-parts-spec : {M : Type 1} → statement M
-save-parts-spec =
-    tie.close
-    (tie.spec
-    (λ c. search needs)
-    order-all-requires
-    per-desk-requires
-    cells-end-requires
-    open-blocks-requires
-    add-total
-    save-blocks-requires
-    mul-result
-    (λ c. search needs)
-    returns)
+save-parts-spec = tie.close (tie.spec (λ c. search needs) order-all-requires per-desk-requires cells-end-requires open-blocks-requires
+    add-total save-blocks-requires mul-result (λ c. search needs) returns)

@@ -1,9 +1,5 @@
-use Rattle.image.specs.Block.{made}
-use mathlib.Core.List.{[], _∷_}
-use lib.Seq.{sets}
-use Rattle.image.specs.Limits.{payload-at}
-use native.Mathlib.Omega.{arith}
-use borrow.Author.Needs.{needs}
+use Rattle.image.specs.{Mirror.Block.{made}, Limits.{payload-at}}
+use Rattle.laws.specs.Kit.{[], _∷_, sets, arith, needs}
 use Rattle.image.proofs.size_block.Statement.{statement}
 use Rattle.image.proofs.size_block.Tie as tie
 
@@ -17,15 +13,5 @@ returns c =
     made 1 0 (A .n ∷ A .m ∷ A .count ∷ []) {b1 = sets (h .last .0) payload-at (x .result ∷ y .result ∷ z .result ∷ [])} (omega arith) (h .ensures) (rw (x .ensures, y .ensures, z .ensures)) (c .seal .ensures)
 
 pub size-block-spec : {M : Type 1} → statement M
-size-block-spec =
-    tie.close
-    (tie.spec
-    (λ c κs. search needs)
-    (λ c κs. search needs)
-    (λ c. search needs)
-    (λ c κs. search needs)
-    (λ c. search needs)
-    (λ c κs. search needs)
-    (λ c. search needs)
-    (λ c κs. search needs)
-    returns)
+size-block-spec = tie.close (tie.spec (λ c κs. search needs) (λ c κs. search needs) (λ c. search needs) (λ c κs. search needs)
+    (λ c. search needs) (λ c κs. search needs) (λ c. search needs) (λ c κs. search needs) returns)

@@ -1,19 +1,8 @@
-use Rattle.image.specs.Limits.{block-bytes}
-use Rattle.image.specs.Sound.{blockIn, rightCheck, sound, sound-none, sound-odd, sound-start}
-use Rattle.laws.specs.Cat.{part}
-use Rattle.laws.specs.All.{all, all-next, all-end, all-fails}
-use lib.ListN.{length, length-take, length-drop, take, drop}
-use borrow.Author.Tests.{not-true, not-false}
-use native.Mathlib.Nat.{sub-zero}
-use native.Mathlib.Omega.{arith}
-use mathlib.Core.Path.{_≡_, _∙_, sym}
-use Prim.Native.Nat.{_+_, _*_, _≤_, _-_, _/_}
-use borrow.Author.Needs.{needs}
+use Rattle.image.specs.{Limits.{block-bytes}, Damage.{blockIn, rightCheck, sound, sound-none, sound-odd, sound-start}}
+use Rattle.laws.specs.{Cat.{part}, All.{all, all-next, all-end, all-fails}, Kit.{length, length-take, length-drop, not-true, not-false}}
+use Rattle.laws.specs.Kit.{sub-zero, arith, _≡_, _∙_, sym, _+_, _*_, _≤_, _-_, _/_, needs}
 use Rattle.image.proofs.sound_image.Statement.{statement}
 use Rattle.image.proofs.sound_image.Tie as tie
-use Rattle.image.proofs.sound_image.Reads as reads
-use Rattle.image.proofs.sound_image.Lts as lts
-use Rattle.image.proofs.right.Reads as right-reads
 
 abbrev Inv-loop : tie.InvT-loop
 Inv-loop b n count k₀ k = (k ≤ count) × (all (λ k. rightCheck (blockIn b k)) (count - k) k ≡ sound b)
@@ -54,22 +43,6 @@ returns-4 : tie.Need-returns-4 Inv-loop μ-loop
 returns-4 c = let L = (c .before .loop) in sym (all-end _ _ (L .k) (search needs)) ∙ L .inv .1
 
 pub sound-image-spec : {M : Type 1} → statement M
-sound-image-spec =
-    tie.close
-    (tie.spec
-    Inv-loop
-    μ-loop
-    returns
-    returns-2
-    loop-holds
-    (λ c. search needs)
-    (λ c. search needs)
-    (λ c. search needs)
-    (λ c. search needs)
-    (λ c. search needs)
-    right-requires
-    returns-3
-    (λ c. search needs)
-    (λ c. search needs)
-    loop-again
+sound-image-spec = tie.close (tie.spec Inv-loop μ-loop returns returns-2 loop-holds (λ c. search needs) (λ c. search needs)
+    (λ c. search needs) (λ c. search needs) (λ c. search needs) right-requires returns-3 (λ c. search needs) (λ c. search needs) loop-again
     returns-4)

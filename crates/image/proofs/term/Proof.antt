@@ -1,13 +1,7 @@
 use Rattle.image.specs.Limits.{check-at}
-use Prim.Native.Nat.{_+_, _*_, _≤_}
-use native.Mathlib.Omega.{arith}
-use native.Mathlib.Nat.{mul-le-mul}
-use borrow.Author.Needs.{needs}
+use Rattle.laws.specs.Kit.{_+_, _*_, _≤_, arith, mul-le-mul, needs}
 use Rattle.image.proofs.term.Statement.{statement}
 use Rattle.image.proofs.term.Tie as tie
-use Rattle.image.proofs.term.Reads as reads
-use Rattle.image.proofs.term.Lts as lts
-use Rattle.image.proofs.wide.Reads as wide-reads
 
 mul-result : tie.Need-mul-result
 mul-result c = let w = c .wide .ensures in let h : (c .before .args .j + 1) * c .wide .result ≤ check-at * 255 = mul-le-mul {n₂ = check-at} {m₂ = 255} (omega arith) (omega arith) in omega arith

@@ -7,12 +7,5 @@ run-requires : tie.Need-run-requires
 run-requires c κs = rw (c .before .before .before .start .ensures) zero-holds
 
 pub replay-spec : {M : Type 1} → statement M
-replay-spec =
-    tie.close
-    (tie.spec
-    (λ c κs. search needs)
-    (λ c. search needs)
-    run-requires
-    (λ c. search needs)
-    (λ c κs. search needs)
+replay-spec = tie.close (tie.spec (λ c κs. search needs) (λ c. search needs) run-requires (λ c. search needs) (λ c κs. search needs)
     (λ c. search needs))

@@ -17,17 +17,5 @@ copy-requires-2 : tie.Need-copy-requires-2
 copy-requires-2 c κs = let l = long (c .before .before) in (omega arith, search needs)
 
 pub seal-at-spec : {M : Type 1} → statement M
-seal-at-spec =
-    tie.close
-    (tie.spec
-    (λ c. search needs)
-    (λ c. search needs)
-    (λ c. search needs)
-    (λ c. search needs)
-    (λ c. search needs)
-    (λ c κs. search needs)
-    (λ c κs. search needs)
-    slice-aggregate-copy-2
-    copy-requires-2
-    (λ c. search needs)
-    (λ c. search needs))
+seal-at-spec = tie.close (tie.spec (λ c. search needs) (λ c. search needs) (λ c. search needs) (λ c. search needs) (λ c. search needs)
+    (λ c κs. search needs) (λ c κs. search needs) slice-aggregate-copy-2 copy-requires-2 (λ c. search needs) (λ c. search needs))

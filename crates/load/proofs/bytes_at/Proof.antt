@@ -1,17 +1,7 @@
-use Rattle.load.specs.Read.{wordAt, wordsFrom, bytesFrom}
-use Rattle.laws.specs.Tab.{tab, fill-start, fill-more, fill-end}
+use Rattle.laws.specs.{Tab.{tab, fill-start, fill-more, fill-end}, Kit.{length, getD, drop, arith, _++_, _≡_, _∙_, _≤_, _-_, _+_, needs}}
 use Rattle.clock.specs.Vectors.{places}
-use lib.ListN.{length, getD, drop}
-use native.Mathlib.Omega.{arith}
-use mathlib.Core.List.{_++_}
-use mathlib.Core.Path.{_≡_, _∙_}
-use Prim.Native.Nat.{_≤_, _-_, _+_, _*_}
-use borrow.Author.Needs.{needs}
 use Rattle.load.proofs.bytes_at.Statement.{statement}
 use Rattle.load.proofs.bytes_at.Tie as tie
-use Rattle.load.proofs.bytes_at.Reads as reads
-use Rattle.load.proofs.bytes_at.Lts as lts
-use Rattle.load.proofs.wide.Reads as wide-reads
 
 abbrev Inv-loop : tie.InvT-loop
 Inv-loop b at v₀ t₀ v t = (t ≤ places) × ((v ≡ tab t (λ k. getD b (at + k) 0) ++ drop t v₀) × (length v₀ ≡ places))
@@ -31,18 +21,5 @@ returns c = let L = (c .before .loop) in let e : L .t ≡ places = omega arith i
     L .inv .1 .0 ∙ fill-end _ _ places _ (L .inv .1 .1) (search needs) ∙ rw e
 
 pub bytes-at-spec : {M : Type 1} → statement M
-bytes-at-spec =
-    tie.close
-    (tie.spec
-    Inv-loop
-    μ-loop
-    loop-holds
-    (λ c. search needs)
-    (λ c. search needs)
-    (λ c κs. search needs)
-    (λ c. search needs)
-    (λ c. search needs)
-    (λ c. search needs)
-    (λ c. search needs)
-    loop-again
-    returns)
+bytes-at-spec = tie.close (tie.spec Inv-loop μ-loop loop-holds (λ c. search needs) (λ c. search needs) (λ c κs. search needs)
+    (λ c. search needs) (λ c. search needs) (λ c. search needs) (λ c. search needs) loop-again returns)

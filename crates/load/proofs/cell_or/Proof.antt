@@ -1,19 +1,10 @@
-use Rattle.image.specs.Decode.{cellPlace}
-use Rattle.image.specs.Limits.{wide, cell-bytes, cells-in}
+use Rattle.image.specs.{Decode.{cellPlace}, Limits.{wide, cell-bytes, cells-in}}
 use Rattle.clock.specs.Vectors.{places}
 use Rattle.table.specs.Value.{desk-cells}
-use Rattle.load.specs.Read.{Within, cell-where, cellFor}
-use borrow.Author.Tests.{lt-ltb, le-ltb}
-use native.Mathlib.Omega.{arith}
-use mathlib.Core.Path.{_∙_}
-use Prim.Native.Nat.{_*_, _/_, _%_}
-use borrow.Author.Needs.{needs}
+use Rattle.load.specs.Mirror.ImageRead.{Within, cell-where, cellFor}
+use Rattle.laws.specs.Kit.{lt-ltb, le-ltb, arith, _∙_, _*_, _/_, _%_, needs}
 use Rattle.load.proofs.cell_or.Statement.{statement}
 use Rattle.load.proofs.cell_or.Tie as tie
-use Rattle.load.proofs.cell_or.Reads as reads
-use Rattle.load.proofs.cell_or.Lts as lts
-use Rattle.load.proofs.field_place.Reads as field-place-reads
-use Rattle.load.proofs.read_cell.Reads as read-cell-reads
 
 -- where the cell stands
 stands : (c : tie.Then2)
@@ -46,13 +37,4 @@ unfolding cellFor
 returns-3 c = rw (le-ltb _ _ (c .if1 .left))
 
 pub cell-or-spec : {M : Type 1} → statement M
-cell-or-spec =
-    tie.close
-    (tie.spec
-    mul-field-place
-    (λ c. search needs)
-    field-place-requires
-    read-cell-requires
-    returns
-    returns-2
-    returns-3)
+cell-or-spec = tie.close (tie.spec mul-field-place (λ c. search needs) field-place-requires read-cell-requires returns returns-2 returns-3)

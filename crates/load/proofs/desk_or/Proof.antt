@@ -1,11 +1,7 @@
-use Rattle.load.specs.Read.{deskFor}
-use borrow.Author.Tests.{lt-ltb, le-ltb}
-use borrow.Author.Needs.{needs}
+use Rattle.load.specs.Mirror.ImageRead.{deskFor}
+use Rattle.laws.specs.Kit.{lt-ltb, le-ltb, needs}
 use Rattle.load.proofs.desk_or.Statement.{statement}
 use Rattle.load.proofs.desk_or.Tie as tie
-use Rattle.load.proofs.desk_or.Reads as reads
-use Rattle.load.proofs.desk_or.Lts as lts
-use Rattle.load.proofs.read_desk.Reads as read-desk-reads
 
 returns : tie.Need-returns
 unfolding deskFor

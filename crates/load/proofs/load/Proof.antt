@@ -1,17 +1,7 @@
 use Rattle.load.specs.Loading.{damaged-so, broken-so, not-sound, not-image}
-use Rattle.laws.specs.Says.{apart}
-use borrow.Author.Tests.{not-true, not-false}
-use mathlib.Core.Path.{_∙_, sym, ap, refl}
-use borrow.Author.Needs.{needs}
+use Rattle.laws.specs.{Says.{apart}, Kit.{not-true, not-false, _∙_, sym, needs}}
 use Rattle.load.proofs.load.Statement.{statement}
 use Rattle.load.proofs.load.Tie as tie
-use Rattle.load.proofs.load.Reads as reads
-use Rattle.load.proofs.load.Lts as lts
-use Rattle.image.proofs.sound_image.Reads as sound-image-reads
-use Rattle.load.proofs.candidate.Reads as candidate-reads
-use Rattle.load.proofs.refused.Reads as refused-reads
-use Rattle.load.proofs.saves_to.Reads as saves-to-reads
-use Rattle.rules.proofs.keeps_rules.Reads as keeps-rules-reads
 
 returns : tie.Need-returns
 returns c = damaged-so (c .before .before .before .before .args .b .now) _ _ (c .refused .ensures .0) (c .refused .ensures .1) (sym (c .before .before .sound-image .ensures) ∙ not-true _ (c .before .if1 .taken))
@@ -29,17 +19,5 @@ returns-4 : tie.Need-returns-4
 returns-4 c = (c .before .before .before .before .before .keeps-rules .ensures .to (not-false _ (c .before .before .before .before .if2 .left)), c .before .saves-to .ensures .to (not-false _ (c .if3 .left)))
 
 pub load-spec : {M : Type 1} → statement M
-load-spec =
-    tie.close
-    (tie.spec
-    (λ c κs. search needs)
-    (λ c κs. search needs)
-    returns
-    (λ c κs. search needs)
-    (λ c κs. search needs)
-    (λ c κs. search needs)
-    returns-2
-    saves-to-requires
-    (λ c κs. search needs)
-    returns-3
-    returns-4)
+load-spec = tie.close (tie.spec (λ c κs. search needs) (λ c κs. search needs) returns (λ c κs. search needs) (λ c κs. search needs)
+    (λ c κs. search needs) returns-2 saves-to-requires (λ c κs. search needs) returns-3 returns-4)

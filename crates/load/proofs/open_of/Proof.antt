@@ -1,11 +1,7 @@
 use Rattle.clock.specs.Vectors.{places}
-use Rattle.image.specs.Limits.{wide, open-bytes, opens-in}
-use Rattle.load.specs.Read.{Within, open-where, openFrom}
-use Rattle.image.specs.Decode.{openPlace}
-use native.Mathlib.Omega.{arith}
-use mathlib.Core.Path.{ap, _∙_}
-use Prim.Native.Nat.{ℕ, _*_, _/_, _%_}
-use borrow.Author.Needs.{needs}
+use Rattle.image.specs.{Limits.{wide, open-bytes, opens-in}, Decode.{openPlace}}
+use Rattle.load.specs.Mirror.ImageRead.{Within, open-where, openFrom}
+use Rattle.laws.specs.Kit.{arith, ap, _∙_, ℕ, _*_, _/_, _%_, needs}
 use Rattle.load.proofs.open_of.Statement.{statement}
 use Rattle.load.proofs.open_of.Tie as tie
 
@@ -30,11 +26,4 @@ returns c =
     c .read-open .ensures ∙ ap (λ (k : ℕ). openFrom places (c .before .before .before .args .b .now) k) (c .before .field-place .ensures ∙ w .is)
 
 pub open-of-spec : {M : Type 1} → statement M
-open-of-spec =
-    tie.close
-    (tie.spec
-    mul-field-place
-    (λ c. search needs)
-    field-place-requires
-    read-open-requires
-    returns)
+open-of-spec = tie.close (tie.spec mul-field-place (λ c. search needs) field-place-requires read-open-requires returns)

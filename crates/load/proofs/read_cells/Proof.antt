@@ -1,16 +1,9 @@
-use Rattle.load.specs.Read.{cellFor, cells-more}
+use Rattle.load.specs.Mirror.ImageRead.{cellFor, cells-more}
 use Rattle.table.specs.Value.{all-cells, cellAt}
 use Rattle.clock.specs.Vectors.{places}
-use native.Mathlib.Omega.{arith}
-use mathlib.Core.Path.{_≡_}
-use Prim.Native.Nat.{ℕ, _≤_, _<_, _-_}
-use borrow.Author.Needs.{needs}
+use Rattle.laws.specs.Kit.{arith, _≡_, ℕ, _≤_, _<_, _-_, needs}
 use Rattle.load.proofs.read_cells.Statement.{statement}
 use Rattle.load.proofs.read_cells.Tie as tie
-use Rattle.load.proofs.read_cells.Reads as reads
-use Rattle.load.proofs.read_cells.Lts as lts
-use Rattle.load.proofs.cell_or.Reads as cell-or-reads
-use Rattle.table.proofs.put_cell.Reads as put-cell-reads
 
 abbrev Inv-loop : tie.InvT-loop
 Inv-loop b n m c cells₀ s₀ cells s = (s ≤ all-cells) × ((t : ℕ) → t < s → cellAt cells t ≡ cellFor places b n m t)
@@ -32,16 +25,5 @@ returns : tie.Need-returns Inv-loop μ-loop
 returns c = let L = (c .before .loop) in λ t h. L .inv .1 t (omega arith)
 
 pub read-cells-spec : {M : Type 1} → statement M
-read-cells-spec =
-    tie.close
-    (tie.spec
-    Inv-loop
-    μ-loop
-    loop-holds
-    (λ c. search needs)
-    cell-or-requires
-    (λ c κs. search needs)
-    (λ c. search needs)
-    (λ c. search needs)
-    loop-again
-    returns)
+read-cells-spec = tie.close (tie.spec Inv-loop μ-loop loop-holds (λ c. search needs) cell-or-requires (λ c κs. search needs)
+    (λ c. search needs) (λ c. search needs) loop-again returns)

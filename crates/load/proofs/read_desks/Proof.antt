@@ -1,18 +1,9 @@
-use Rattle.load.specs.Read.{deskFor}
+use Rattle.load.specs.Mirror.ImageRead.{deskFor}
 use Rattle.table.specs.Value.{desk0}
-use Rattle.laws.specs.Tab.{tab, fill-start, fill-more, fill-end}
+use Rattle.laws.specs.{Tab.{tab, fill-start, fill-more, fill-end}, Kit.{length, drop, arith, _++_, _≡_, _∙_, _≤_, _-_, needs}}
 use Rattle.clock.specs.Vectors.{places}
-use lib.ListN.{length, drop}
-use native.Mathlib.Omega.{arith}
-use mathlib.Core.List.{_++_}
-use mathlib.Core.Path.{_≡_, _∙_}
-use Prim.Native.Nat.{_≤_, _-_, _+_}
-use borrow.Author.Needs.{needs}
 use Rattle.load.proofs.read_desks.Statement.{statement}
 use Rattle.load.proofs.read_desks.Tie as tie
-use Rattle.load.proofs.read_desks.Reads as reads
-use Rattle.load.proofs.read_desks.Lts as lts
-use Rattle.load.proofs.desk_or.Reads as desk-or-reads
 
 abbrev Inv-loop : tie.InvT-loop
 Inv-loop b n desks₀ i₀ desks i = (i ≤ places) × ((desks ≡ tab i (deskFor places b n) ++ drop i desks₀) × (length desks₀ ≡ places))
@@ -32,17 +23,5 @@ returns c = let L = (c .before .loop) in let e : L .i ≡ places = omega arith i
     L .inv .1 .0 ∙ fill-end _ _ places _ (L .inv .1 .1) (search needs) ∙ rw e
 
 pub read-desks-spec : {M : Type 1} → statement M
-read-desks-spec =
-    tie.close
-    (tie.spec
-    Inv-loop
-    μ-loop
-    (λ c κs. search needs)
-    loop-holds
-    (λ c κs. search needs)
-    (λ c. search needs)
-    (λ c. search needs)
-    (λ c. search needs)
-    (λ c. search needs)
-    loop-again
-    returns)
+read-desks-spec = tie.close (tie.spec Inv-loop μ-loop (λ c κs. search needs) loop-holds (λ c κs. search needs) (λ c. search needs)
+    (λ c. search needs) (λ c. search needs) (λ c. search needs) loop-again returns)

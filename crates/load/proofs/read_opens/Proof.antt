@@ -1,11 +1,7 @@
 use Rattle.clock.specs.Vectors.{places}
-use Rattle.load.specs.Spread.{Writers, Spread, spread-start, spread-room, spread-more}
-use Rattle.table.specs.Value.{entries, open-width}
-use Rattle.table.specs.Names.{freeAt, found-at, found-nothing}
-use native.Mathlib.Omega.{arith}
-use mathlib.Core.Path.{_≡_}
-use Prim.Native.Nat.{_≤_, _-_, _*_}
-use borrow.Author.Needs.{needs}
+use Rattle.load.specs.Link.EntryEach.{Writers, Spread, spread-start, spread-room, spread-more}
+use Rattle.table.specs.{Value.{entries, open-width}, EntryNames.{freeAt, found-at, found-nothing}}
+use Rattle.laws.specs.Kit.{arith, _≡_, _≤_, _-_, _*_, needs}
 use Rattle.load.proofs.read_opens.Statement.{statement}
 use Rattle.load.proofs.read_opens.Tie as tie
 
@@ -54,21 +50,6 @@ returns-2 c =
     λ w. rw (← e) (L .inv .1 (rw (← e) at w))
 
 pub read-opens-spec : {M : Type 1} → statement M
-read-opens-spec =
-    tie.close
-    (tie.spec
-    Inv-loop
-    μ-loop
-    loop-holds
-    open-of-requires
-    (λ c κs. search needs)
-    (λ c κs. search needs)
-    (λ c κs. search needs)
-    (λ c. search needs)
-    (λ c. search needs)
-    returns
-    put-open-requires
-    (λ c. search needs)
-    (λ c. search needs)
-    loop-again
-    returns-2)
+read-opens-spec = tie.close (tie.spec Inv-loop μ-loop loop-holds open-of-requires (λ c κs. search needs) (λ c κs. search needs)
+    (λ c κs. search needs) (λ c. search needs) (λ c. search needs) returns put-open-requires (λ c. search needs) (λ c. search needs)
+    loop-again returns-2)

@@ -1,14 +1,6 @@
-use mathlib.Core.Path.{_∙_}
-use borrow.Author.Needs.{needs}
+use Rattle.laws.specs.Kit.{_∙_, needs}
 use Rattle.load.proofs.read_table.Statement.{statement}
 use Rattle.load.proofs.read_table.Tie as tie
-use Rattle.load.proofs.read_table.Reads as reads
-use Rattle.load.proofs.read_table.Lts as lts
-use Rattle.image.proofs.per_desk.Reads as per-desk-reads
-use Rattle.load.proofs.read_cells.Reads as read-cells-reads
-use Rattle.load.proofs.read_desks.Reads as read-desks-reads
-use Rattle.load.proofs.read_opens.Reads as read-opens-reads
-use Rattle.load.proofs.size.Reads as size-reads
 
 returns : tie.Need-returns
 returns c = record {
@@ -20,17 +12,6 @@ returns c = record {
 }
 
 pub read-table-spec : {M : Type 1} → statement M
-read-table-spec =
-    tie.close
-    (tie.spec
-    (λ c. search needs)
-    (λ c κs. search needs)
-    (λ c. search needs)
-    (λ c κs. search needs)
-    (λ c. search needs)
-    (λ c κs. search needs)
-    (λ c κs. search needs)
-    (λ c κs. search needs)
-    (λ c κs. search needs)
-    (λ c κs. search needs)
+read-table-spec = tie.close (tie.spec (λ c. search needs) (λ c κs. search needs) (λ c. search needs) (λ c κs. search needs)
+    (λ c. search needs) (λ c κs. search needs) (λ c κs. search needs) (λ c κs. search needs) (λ c κs. search needs) (λ c κs. search needs)
     returns)

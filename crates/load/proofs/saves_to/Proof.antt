@@ -1,17 +1,9 @@
-use Rattle.load.specs.Loading.{image-most, buffer-long, buffer-says}
-use Rattle.load.specs.Read.{says-no}
+use Rattle.load.specs.{Loading.{image-most, buffer-long, buffer-says}, Mirror.ImageRead.{says-no}}
 use Rattle.image.specs.Encode.{encode}
 use Rattle.table.specs.Model.{model}
-use lib.ListN.{length}
-use native.Mathlib.Omega.{arith}
-use mathlib.Core.Path.{_∙_, sym, ap}
-use borrow.Author.Needs.{needs}
+use Rattle.laws.specs.Kit.{length, arith, _∙_, sym, ap, needs}
 use Rattle.load.proofs.saves_to.Statement.{statement}
 use Rattle.load.proofs.saves_to.Tie as tie
-use Rattle.load.proofs.saves_to.Reads as reads
-use Rattle.load.proofs.saves_to.Lts as lts
-use Rattle.image.proofs.save_parts.Reads as save-parts-reads
-use Rattle.load.proofs.starts.Reads as starts-reads
 
 save-parts-requires : tie.Need-save-parts-requires
 save-parts-requires c κs = let A = (c .before .before .args) in let m = image-most (model (A .core .n) (A .core .m) (A .core .desks) (A .cells .now) (A .opens .now)) (c .before .before .pre .rules) in ((c .before .before .pre), search needs)
@@ -34,12 +26,4 @@ returns-2 c = let A = (c .before .before .before .before .before .before .before
     buffer-says (c .starts .result) (A .b .now) (c .before .before .before .before .save-parts .last .1 .1 .1 .0) (encode (model (A .core .n) (A .core .m) (A .core .desks) (A .cells .now) (A .opens .now))) (s .stored) (c .before .before .if1 .left ∙ s .size) m (c .starts .ensures)
 
 pub saves-to-spec : {M : Type 1} → statement M
-saves-to-spec =
-    tie.close
-    (tie.spec
-    (λ c. search needs)
-    save-parts-requires
-    returns
-    (λ c. search needs)
-    starts-requires
-    returns-2)
+saves-to-spec = tie.close (tie.spec (λ c. search needs) save-parts-requires returns (λ c. search needs) starts-requires returns-2)

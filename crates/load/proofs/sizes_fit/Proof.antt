@@ -1,16 +1,10 @@
-use lib.ListN.{length}
+use Rattle.laws.specs.{Kit.{length, not-true, not-false, _≡_, sym, _∙_, arith, needs}, Says.{apart, says-eqb, says-as}}
 use Rattle.clock.specs.Vectors.{places}
-use Rattle.machine.specs.Steps.{begins}
-use Rattle.rules.specs.Parts.{says-begins}
-use Rattle.machine.specs.Rules.{In}
+use Rattle.machine.specs.{Steps.{begins}, Rules.{In}}
+use Rattle.rules.specs.Mirror.Test.{sizesTest}
 use Rattle.table.specs.Value.{desk-cells}
 use Rattle.image.specs.Decode.{nIn, mIn, countIn}
-use Rattle.load.specs.Read.{Fits, says-no}
-use Rattle.laws.specs.Says.{apart, says-eqb, says-as}
-use borrow.Author.Tests.{not-true, not-false}
-use mathlib.Core.Path.{_≡_, sym, _∙_}
-use native.Mathlib.Omega.{arith}
-use borrow.Author.Needs.{needs}
+use Rattle.load.specs.Mirror.ImageRead.{Fits, says-no}
 use Rattle.load.proofs.sizes_fit.Statement.{statement}
 use Rattle.load.proofs.sizes_fit.Tie as tie
 
@@ -20,7 +14,7 @@ told c = (c .before .before .before .before .size .ensures .0, (c .before .befor
 
 -- behind the test of both
 in-range : (c : tie.Else2) → In places (c .before .before .before .before .before .before .size .result) × In desk-cells (c .before .before .before .before .size2 .result)
-in-range c = says-begins _ _ .to (sym (c .before .begins .ensures) ∙ not-false _ (c .if2 .left))
+in-range c = sizesTest _ _ .says .to (sym (c .before .begins .ensures) ∙ not-false _ (c .if2 .left))
 
 returns : tie.Need-returns
 returns c = says-no (λ (h : Fits places (c .before .before .args .b .now)). (omega (arith, h .size)))
@@ -28,7 +22,7 @@ returns c = says-no (λ (h : Fits places (c .before .before .args .b .now)). (om
 returns-2 : tie.Need-returns-2
 returns-2 c =
     let t = told (c .before .before) in
-    says-no (λ (h : Fits places (c .before .before .before .before .before .before .before .before .before .before .args .b .now)). let n = c .before .before .before .before .before .before .size .result in let m = c .before .before .before .before .size2 .result in apart (begins n m) (says-begins n m .from (rw (t .0) (h .desks), rw (t .1 .0) (h .cells))) (sym (c .before .begins .ensures) ∙ not-true _ (c .if2 .taken)))
+    says-no (λ (h : Fits places (c .before .before .before .before .before .before .before .before .before .before .args .b .now)). let n = c .before .before .before .before .before .before .size .result in let m = c .before .before .before .before .size2 .result in apart (begins n m) (sizesTest n m .says .from (rw (t .0) (h .desks), rw (t .1 .0) (h .cells))) (sym (c .before .begins .ensures) ∙ not-true _ (c .if2 .taken)))
 
 returns-3 : tie.Need-returns-3
 returns-3 c = let t = told (c .before .before .before) in says-no (λ (h : Fits places (c .before .before .before .before .before .before .before .before .before .before .before .args .b .now)). omega (arith, h .few, t .1 .1))
@@ -45,18 +39,5 @@ returns-4 c =
     (λ (h : Fits places (c .before .before .before .before .before .before .before .before .before .before .before .before .args .b .now)). h .size ∙ sym (rw (t .0, t .1 .0, t .1 .1) at (c .length-of .ensures)))
 
 pub sizes-fit-spec : {M : Type 1} → statement M
-sizes-fit-spec =
-    tie.close
-    (tie.spec
-    returns
-    (λ c. search needs)
-    (λ c κs. search needs)
-    (λ c. search needs)
-    (λ c κs. search needs)
-    (λ c. search needs)
-    (λ c κs. search needs)
-    (λ c κs. search needs)
-    returns-2
-    returns-3
-    length-of-requires
-    returns-4)
+sizes-fit-spec = tie.close (tie.spec returns (λ c. search needs) (λ c κs. search needs) (λ c. search needs) (λ c κs. search needs)
+    (λ c. search needs) (λ c κs. search needs) (λ c κs. search needs) returns-2 returns-3 length-of-requires returns-4)

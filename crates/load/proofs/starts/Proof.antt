@@ -1,16 +1,7 @@
 use Rattle.load.specs.Loading.{same-at, same-all}
-use Rattle.laws.specs.Says.{Says, says-as, clash}
-use mathlib.Core.Logic.{⊎-elim}
-use lib.ListN.{length, getD}
-use borrow.Author.Count.{below-more}
-use native.Mathlib.Omega.{arith}
-use mathlib.Core.Path.{_≡_, refl}
-use Prim.Native.Nat.{ℕ, _≤_, _<_, _-_}
-use borrow.Author.Needs.{needs}
+use Rattle.laws.specs.{Says.{Says, says-as, clash}, Kit.{⊎-elim, length, getD, below-more, arith, _≡_, refl, ℕ, _≤_, _<_, _-_, needs}}
 use Rattle.load.proofs.starts.Statement.{statement}
 use Rattle.load.proofs.starts.Tie as tie
-use Rattle.load.proofs.starts.Reads as reads
-use Rattle.load.proofs.starts.Lts as lts
 
 abbrev Inv-loop : tie.InvT-loop
 Inv-loop l b same₀ i₀ same i = (i ≤ length b) × Says same ((k : ℕ) → k < i → getD b k 0 ≡ getD l k 0)
@@ -40,15 +31,5 @@ returns c =
     says-as _ (L .inv .1) (λ f. same-all (A .b .now) (A .l .now) (c .before .before .pre) (λ k h. f k (omega arith))) (λ e k h. same-at (A .b .now) (A .l .now) k (omega arith) e)
 
 pub starts-spec : {M : Type 1} → statement M
-starts-spec =
-    tie.close
-    (tie.spec
-    Inv-loop
-    μ-loop
-    loop-holds
-    (λ c. search needs)
-    (λ c. search needs)
-    (λ c. search needs)
-    (λ c. search needs)
-    loop-again
-    returns)
+starts-spec = tie.close (tie.spec Inv-loop μ-loop loop-holds (λ c. search needs) (λ c. search needs) (λ c. search needs) (λ c. search needs)
+    loop-again returns)

@@ -1,12 +1,7 @@
-use Rattle.table.specs.declared.Begun.{Begun}
-use Rattle.table.specs.Begin.{beginTable}
-use mathlib.Core.Path.{ap}
-use borrow.Author.Needs.{needs}
+use Rattle.table.specs.{declared.Begun.{Begun}, Beginning.{beginTable}}
+use Rattle.laws.specs.Kit.{ap, needs}
 use Rattle.load.proofs.zeros.Statement.{statement}
 use Rattle.load.proofs.zeros.Tie as tie
-use Rattle.load.proofs.zeros.Reads as reads
-use Rattle.load.proofs.zeros.Lts as lts
-use Rattle.table.proofs.begin.Reads as begin-reads
 
 returns : tie.Need-returns
 unfolding beginTable

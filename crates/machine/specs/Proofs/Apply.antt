@@ -1,22 +1,17 @@
 -- Applying a write keeps the rules, but that a write held at that desk may be ready: for a delivered write and for the writer's own.
-use mathlib.Core.Path.{_≡_, refl, sym, _∙_, ap}
-use mathlib.Core.Logic.{_≢_, _↔_, Iff·trans}
-use mathlib.Core.Bool.{Bool, true, false, not}
-use mathlib.Core.Option.{Option, some}
-use Prim.Native.Nat.{ℕ, suc, _≤_, _<_}
-use native.Mathlib.Omega.{arith}
-use borrow.Author.Tests.{not-true}
-use Rattle.laws.specs.Loop.{cases}
-use Rattle.laws.specs.Sum.{sum, tally, one, sum-le, sum-one-le}
-use Rattle.laws.specs.Update.{upd, upd-same, upd-other, upd-all, upd2-same, upd2-row, upd2-here, upd2-other, upd2-all, upd2-some, same-or, same-pair-or}
+use Rattle.laws.specs.Kit.{_≡_, refl, sym, _∙_, ap, _≢_, _↔_, Iff·trans, Bool, true, false, not, Option, some, ℕ, suc, _≤_, _<_, arith}
+use Rattle.laws.specs.{Kit.{not-true}, Loop.{cases}, Sum.{sum, tally, one, sum-le, sum-one-le}, Update.{upd, upd-same, upd-other, upd-all}}
+use Rattle.laws.specs.Update.{upd2-same, upd2-row, upd2-here, upd2-other, upd2-all, upd2-some, same-or, same-pair-or}
 use Rattle.machine.specs.Table.{most-open, most-writes, most-status, Vec, Cell, set, held, done, Open, State, written}
-use Rattle.machine.specs.Steps.{fails, ready, isNone, everywhere, stillOpen, mark, apply, raise, nextNumber, nextVector, newWrite, write, isOpen, openCount}
-use Rattle.machine.specs.Rules.{In, Below, Issued, Ranges, Counts, Clocks, SetCell, ToBeOpen, OpenWrite, Quiet, Frame, Rules}
-use Rattle.machine.specs.Proofs.Ready.{ready-at, passes-own, passes-rest, still, done-everywhere, not-everywhere, none-still, still-is}
-use Rattle.machine.specs.Proofs.Grown.{Waits, MarkAt, marks-of, open-of, Grown, cell-grown, mark-grown, open-grown, exactly-grown, clocked, Clock}
+use Rattle.machine.specs.Steps.{fails, ready, isNone, everywhere, stillOpen, mark, apply, raise, nextNumber, nextVector, newWrite}
+use Rattle.machine.specs.{Steps.{write, isOpen, openCount}, Rules.{In, Below, Issued, Ranges, Counts, Clocks, SetCell, ToBeOpen}}
+use Rattle.machine.specs.{Rules.{OpenWrite, Quiet, Frame, Rules}, Proofs.Ready.{ready-at, passes-own, passes-rest, still}}
+use Rattle.machine.specs.{Proofs.Ready.{done-everywhere, not-everywhere, none-still, still-is}, Proofs.CountsRise.{HeldWaits}}
+use Rattle.machine.specs.Proofs.CountsRise.{MarkRules, marks-of, open-of, Grown, cell-grown, mark-grown, open-grown, exactly-grown}
+use Rattle.machine.specs.Proofs.CountsRise.{clocksAre, Clock}
 
 -- a write that may be applied at i: u's next there, sent before or written at i now
-pub record Arrives (s : State) (i u k : ℕ) (w : Open) : Type 0 where
+pub record MayApply (s : State) (i u k : ℕ) (w : Open) : Type 0 where
   pub desk : In (s .setup .desks) i
   pub writer : In (s .setup .desks) u
   pub next : suc (s .applied i u) ≡ k
@@ -25,12 +20,12 @@ pub record Arrives (s : State) (i u k : ℕ) (w : Open) : Type 0 where
   pub status-in : w .status ≤ most-status
   pub number : w .vector u ≡ k
   pub rest : (t : ℕ) → t ≢ u → w .vector t ≤ s .applied i t
-  pub marks : (j : ℕ) → j ≢ i → MarkAt s u k (w .vector) j (w .marks j)
+  pub marks : (j : ℕ) → j ≢ i → MarkRules s u k (w .vector) j (w .marks j)
 
 -- the clocks c are those after the step: a writer's has risen
-module _ {s : State} (f : Frame s) (c : ℕ → Vec) {i u k : ℕ} {w : Open} (a : Arrives s i u k w) where
+module _ {s : State} (f : Frame s) (c : ℕ → Vec) {i u k : ℕ} {w : Open} (a : MayApply s i u k w) where
   abbrev after : State
-  after = apply (clocked s c) i u k w
+  after = apply (clocksAre s c) i u k w
 
   pub here : after .applied i u ≡ k
   here = upd2-same (s .applied) i u (suc (s .applied i u)) ∙ a .next
@@ -90,9 +85,9 @@ module _ {s : State} (f : Frame s) (c : ℕ → Vec) {i u k : ℕ} {w : Open} (a
       (λ p q. let m : d ≤ after .applied i u = rw (p, q) at l in let n : d ≢ k = ne q in rw (p, q) (omega (arith, here, a .next)))
       (λ nj. omega (arith, same j b nj))
 
-  mark-here : (j : ℕ) → MarkAt after u k (w .vector) j (upd (w .marks) i done j)
+  mark-here : (j : ℕ) → MarkRules after u k (w .vector) j (upd (w .marks) i done j)
   mark-here j =
-      upd-all (w .marks) i done (MarkAt after u k (w .vector)) j
+      upd-all (w .marks) i done (MarkRules after u k (w .vector)) j
       (λ p. rw p (record { small = omega arith; flat = λ h. a .desk; marked = λ h. (λ e. omega (arith, here), λ l. refl); below = λ e. vector-below }))
       (λ p. mark-grown grown (λ l. omega (arith, same j u (λ q r. p q))) (a .marks j p))
 
@@ -127,9 +122,9 @@ module _ {s : State} (f : Frame s) (c : ℕ → Vec) {i u k : ℕ} {w : Open} (a
   frame-kept r q = record { ranges = r; counts = counts; clocks = q; cell = cell-kept; open-exactly = exactly-kept; open-write = open-kept }
 
   -- nothing changes at another desk
-  pub quiet-kept : (j : ℕ) → j ≢ i → Quiet s j → Waits s j u w → Quiet after j
+  pub quiet-kept : (j : ℕ) → j ≢ i → Quiet s j → HeldWaits s j u w → Quiet after j
   quiet-kept j ne q h =
-      upd2-some (λ b d z. Waits after j b z) (s .opens) u k (stillOpen (s .setup .desks) (mark w i done))
+      upd2-some (λ b d z. HeldWaits after j b z) (s .opens) u k (stillOpen (s .setup .desks) (mark w i done))
       (λ z e m. let n = still-is (s .setup .desks) (mark w i done) z e in
       let o : upd (w .marks) i done j ≡ held = rw (← n) at m in
       rw (← n, row j ne) (h (sym (upd-other (w .marks) i done j ne) ∙ o)))
@@ -156,14 +151,14 @@ pub record ReadyAt (s : State) (i u k : ℕ) (w : Open) : Type 0 where
   pub ready : ready (s .setup .desks) (s .applied i) u (w .vector) ≡ true
 
 -- what is ready is the writer's next, of another desk, and its vector is covered
-pub record Next (s : State) (i u k : ℕ) (w : Open) : Type 0 where
+pub record NextAt (s : State) (i u k : ℕ) (w : Open) : Type 0 where
   pub writer : In (s .setup .desks) u
   pub other : u ≢ i
   pub next : suc (s .applied i u) ≡ k
   pub known : k ≤ written s u
   pub rest : (t : ℕ) → t ≢ u → w .vector t ≤ s .applied i t
 
-pub ready-next : {s : State} {i u k : ℕ} {w : Open} → Frame s → ReadyAt s i u k w → Next s i u k w
+pub ready-next : {s : State} {i u k : ℕ} {w : Open} → Frame s → ReadyAt s i u k w → NextAt s i u k w
 ready-next {s} {i} {u} {k} {w} f r = record {
   writer = b .writer;
   other = λ e. (omega (arith, next, b .number .1, ap (λ (j : ℕ). s .applied j u) e));
@@ -187,7 +182,7 @@ ready-next {s} {i} {u} {k} {w} f r = record {
     next = passes-own (s .applied i) u (w .vector) (at u (b .writer)) ∙ o .number
 
 module _ {s : State} {i u k : ℕ} {w : Open} (f : Frame s) (r : ReadyAt s i u k w) where
-  pub arrives : Arrives s i u k w
+  pub arrives : MayApply s i u k w
   arrives =
       let n = ready-next f r in
       let o = f .open-write u k w (r .is) in
@@ -237,7 +232,7 @@ apply-midway {s} {i} {u} {k} {w} m r =
 -- a write of the desk itself --
 
 module _ {s : State} (f : Frame s) (i x v : ℕ) (hi : In (s .setup .desks) i) (hx : In (s .setup .cells) x) (hv : v ≤ most-status) where
-  pub issues : Arrives s i i (nextNumber s i) (newWrite s i x v)
+  pub issues : MayApply s i i (nextNumber s i) (newWrite s i x v)
   issues = record {
     desk = hi;
     writer = hi;
@@ -294,7 +289,7 @@ module _ {s : State} (f : Frame s) (i x v : ℕ) (hi : In (s .setup .desks) i) (
   -- what is held at i has had enough of i's own writes
   own-quiet : Quiet s i → Quiet (write s i x v) i
   own-quiet q =
-      upd2-some (λ b d z. Waits (write s i x v) i b z) (s .opens) i (nextNumber s i) (stillOpen (s .setup .desks) (mark (newWrite s i x v) i done))
+      upd2-some (λ b d z. HeldWaits (write s i x v) i b z) (s .opens) i (nextNumber s i) (stillOpen (s .setup .desks) (mark (newWrite s i x v) i done))
       (λ z e m. let n = still-is (s .setup .desks) (mark (newWrite s i x v) i done) z e in
       let o : upd (newWrite s i x v .marks) i done i ≡ held = rw (← n) at m in
       absurd (omega (arith, upd-same (newWrite s i x v .marks) i done)))

@@ -1,26 +1,16 @@
 -- A cell that is never written reads unset; a verdict is yes only if every cell shows a written 1; a trip is its reads.
-use mathlib.Core.Path.{_≡_, refl, sym, ap, _∙_}
-use mathlib.Core.Logic.{_≢_, _↔_}
-use mathlib.Core.List.{List, [], _∷_, map, List·Memᴰ, List·Memᴰ·head, List·Memᴰ·tail, Memᴰ·append-left, Memᴰ·append-right}
-use mathlib.Core.Option.{Option, none, some}
-use Prim.Native.Nat.{ℕ}
-use native.Mathlib.Omega.{arith}
-use borrow.Author.Tests.{eqb-true, eq-eqb}
-use lib.ListN.{length}
-use Rattle.laws.specs.Loop.{cases}
-use Rattle.laws.specs.Says.{Says, clash, apart}
-use Rattle.laws.specs.Update.{upd2-all, upd2-other}
-use Rattle.laws.specs.Lists.{any, every, any-map, every-map, says-any, says-every}
-use Rattle.machine.specs.Table.{most-desks, most-cells, most-open, blank, set, done, Open, State, fresh}
-use Rattle.machine.specs.Answer.{Shown, unset, shown, Verdict, Yes, No, Unknown, Answer, shows, judged}
-use Rattle.machine.specs.Steps.{Out, read, shownAt, mark, apply, hold, nextNumber, newWrite, raise, reads, hasStatus, verdict, Step, Read, Write, Deliver, Trip, step, answers}
-use Rattle.machine.specs.Rules.{In, Rules}
-use Rattle.machine.specs.Refusals.{Accepted}
-use Rattle.machine.specs.History.{write-at, eventsOf, Act, take-step, save-and-load, run, history}
-use Rattle.machine.specs.Blanks.{Unwritten, HasStatus, ShowsStatus, AllShow, SomeShows, TripIsReads}
-use Rattle.machine.specs.Proofs.Kept.{fresh-rules, step-keeps-rules}
-use Rattle.machine.specs.Proofs.Refusals.{accepted-exactly, accepted-effect, step-cases}
-use Rattle.machine.specs.Proofs.Cases.{deliver-cases, still-cases, settle-keeps, reads-keep}
+use Rattle.laws.specs.Kit.{_≡_, refl, sym, ap, _∙_, _≢_, _↔_, List, [], _∷_, map, List·Memᴰ, List·Memᴰ·head, List·Memᴰ·tail}
+use Rattle.laws.specs.{Kit.{Memᴰ·append-left, Memᴰ·append-right, Option, none, some, ℕ, arith, eqb-true, eq-eqb, length}, Loop.{cases}}
+use Rattle.laws.specs.{Says.{Says, clash, apart}, Update.{upd2-all, upd2-other}, Lists.{any, every, any-map, every-map, says-any}}
+use Rattle.laws.specs.Lists.{says-every}
+use Rattle.machine.specs.{Table.{most-desks, most-cells, most-open, blank, set, done, Open, State, fresh}, Answer.{Shown, unset}}
+use Rattle.machine.specs.{Answer.{shown, Verdict, Yes, No, Unknown, Answer, shows, judged}, Steps.{Out, read, shownAt, mark, apply}}
+use Rattle.machine.specs.Steps.{hold, nextNumber, newWrite, raise, reads, hasStatus, verdict, Step, Read, Write, Deliver, Trip, step}
+use Rattle.machine.specs.{Steps.{answers}, Rules.{In, Rules}, Refusals.{Accepted}, History.{write-at, eventsOf, Act, take-step}}
+use Rattle.machine.specs.{History.{save-and-load, run, history}, Blanks.{Unwritten, HasStatus, ShowsStatus, AllShow, SomeShows}}
+use Rattle.machine.specs.{Blanks.{TripIsReads}, Proofs.RulesKept.{fresh-rules, step-keeps-rules}}
+use Rattle.machine.specs.{Proofs.Refusals.{accepted-exactly, accepted-effect, step-cases}, Proofs.Cases.{deliver-cases, still-cases}}
+use Rattle.machine.specs.Proofs.Cases.{settle-keeps, reads-keep}
 
 -- Never written --
 

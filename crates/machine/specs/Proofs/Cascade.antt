@@ -1,27 +1,17 @@
 -- The cascade keeps the rules, ends with nothing ready held, and applies no more than the desk had left to apply.
-use mathlib.Core.Path.{_≡_, refl, sym}
-use mathlib.Core.Bool.{true}
-use mathlib.Core.Option.{Option, none, some}
-use mathlib.Core.List.{_∷_, []}
-use Prim.Native.Nat.{ℕ, zero, suc, _-_, _≤_}
-use native.Mathlib.Omega.{arith}
-use lib.ListN.{length}
-use Rattle.laws.specs.Loop.{cases, scan-found, scan-none}
-use Rattle.laws.specs.Says.{apart, says-both, says-eqb}
-use Rattle.laws.specs.Sum.{sum, sum-le, sum-one, tally-above}
+use Rattle.laws.specs.Kit.{_≡_, refl, sym, true, Option, none, some, _∷_, [], ℕ, zero, suc, _-_, _≤_, arith, length}
+use Rattle.laws.specs.{Loop.{cases, scan-found, scan-none}, Says.{apart, says-both, says-eqb}, Sum.{sum, sum-le, sum-one, tally-above}}
 use Rattle.laws.specs.Update.{same-or}
-use Rattle.machine.specs.Table.{name, held, Open, State, written}
-use Rattle.machine.specs.Steps.{ready, apply, isOpen, openCount, dueOpen, due, firstDue, Settled, settleBy, settle}
-use Rattle.machine.specs.Rules.{In, Quiet, Frame, Rules}
-use Rattle.machine.specs.Proofs.Ready.{option-all}
+use Rattle.machine.specs.{Table.{name, held, Open, State, written}, Steps.{ready, apply, isOpen, openCount, dueOpen, due, firstDue}}
+use Rattle.machine.specs.{Steps.{Settled, settleBy, settle}, Rules.{In, Quiet, Frame, Rules}, Proofs.Ready.{option-all}}
 use Rattle.machine.specs.Proofs.Apply.{Midway, ReadyAt, ready-next, arrives, here, same, apply-written, apply-midway}
 
 -- the writes that desk i has yet to apply
-unfoldable pub left : State → ℕ → ℕ
-left s i = sum (s .setup .desks) (λ u. written s u - s .applied i u)
+unfoldable pub leftToApply : State → ℕ → ℕ
+leftToApply s i = sum (s .setup .desks) (λ u. written s u - s .applied i u)
 
-pub apply-left : {s : State} {i u k : ℕ} {w : Open} → Frame s → ReadyAt s i u k w → suc (left (apply s i u k w) i) ≡ left s i
-unfolding left
+pub apply-left : {s : State} {i u k : ℕ} {w : Open} → Frame s → ReadyAt s i u k w → suc (leftToApply (apply s i u k w) i) ≡ leftToApply s i
+unfolding leftToApply
 apply-left {s} {i} {u} {k} {w} f r =
     let n = ready-next f r in
     let a = arrives f r in
@@ -30,8 +20,8 @@ apply-left {s} {i} {u} {k} {w} f r =
     (λ j ne. omega (arith, apply-written f r j, same f (s .clock) a i j (λ p q. ne q))))
 
 -- what a desk has yet to apply is open
-pub left-few : {s : State} → Frame s → (i : ℕ) → In (s .setup .desks) i → left s i ≤ openCount s
-unfolding left openCount
+pub left-few : {s : State} → Frame s → (i : ℕ) → In (s .setup .desks) i → leftToApply s i ≤ openCount s
+unfolding leftToApply openCount
 left-few {s} f i hi =
     sum-le (s .setup .desks) _ _
     (λ u a b. tally-above (written s u) (s .applied i u) (isOpen s u)
@@ -83,8 +73,8 @@ module _ {i : ℕ} (P : ℕ → State → Settled → Type 0) (none-left : (s : 
 
 -- f turns from s on
 record Ends (i f : ℕ) (s : State) (r : Settled) : Type 0 where
-  pub rules : left s i ≤ f → Rules (r .state)
-  pub names : length (r .names) ≤ left s i
+  pub rules : leftToApply s i ≤ f → Rules (r .state)
+  pub names : length (r .names) ≤ leftToApply s i
 
 settle-ends : (f : ℕ) {s : State} {i : ℕ} → Midway s i → In (s .setup .desks) i → Ends i f s (settle f s i)
 settle-ends f {s} {i} m hi =
@@ -100,8 +90,8 @@ settle-ends f {s} {i} m hi =
     record { rules = λ l. t hi .rules (omega arith); names = omega (arith, t hi .names) })
     f m hi hi
 
-pub settle-rules : (f : ℕ) {s : State} {i : ℕ} → Midway s i → In (s .setup .desks) i → left s i ≤ f → Rules (settle f s i .state)
+pub settle-rules : (f : ℕ) {s : State} {i : ℕ} → Midway s i → In (s .setup .desks) i → leftToApply s i ≤ f → Rules (settle f s i .state)
 settle-rules f m hi l = settle-ends f m hi .rules l
 
-pub settle-names : (f : ℕ) {s : State} {i : ℕ} → Midway s i → In (s .setup .desks) i → length (settle f s i .names) ≤ left s i
+pub settle-names : (f : ℕ) {s : State} {i : ℕ} → Midway s i → In (s .setup .desks) i → length (settle f s i .names) ≤ leftToApply s i
 settle-names f m hi = settle-ends f m hi .names

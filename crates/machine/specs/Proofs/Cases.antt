@@ -1,18 +1,9 @@
 -- The cases of a delivery, of a write that may close, of the cascade, of a trip and of a step.
-use mathlib.Core.Path.{_≡_, refl}
-use mathlib.Core.Logic.{_≢_}
-use mathlib.Core.Bool.{true, false}
-use mathlib.Core.List.{List, [], _∷_}
-use mathlib.Core.Option.{Option, none, some}
-use Prim.Native.Nat.{ℕ, zero, suc}
-use native.Mathlib.Omega.{arith}
-use Rattle.laws.specs.Loop.{cases}
-use Rattle.machine.specs.Table.{most-open, Vec, name, placeOf, away, Open, State, written}
-use Rattle.machine.specs.Answer.{Refusal, holds, applies}
-use Rattle.machine.specs.Steps.{Out, refuse, failing, read, everywhere, stillOpen, apply, hold, firstDue, Settled, applyNext, settleBy, settle, deliverBy, reads, Step, Read, Write, Deliver, Trip, step}
-use Rattle.machine.specs.Rules.{In}
-use Rattle.machine.specs.Proofs.Refusals.{deliverEffect, step-cases}
-use Rattle.machine.specs.Proofs.Ready.{option-all}
+use Rattle.laws.specs.{Kit.{_≡_, refl, _≢_, true, false, List, [], _∷_, Option, none, some, ℕ, zero, suc, arith}, Loop.{cases}}
+use Rattle.machine.specs.{Table.{most-open, Vec, name, markIn, away, Open, State, written}, Answer.{Refusal, holds, applies}}
+use Rattle.machine.specs.Steps.{Out, refuse, failing, read, everywhere, stillOpen, apply, hold, firstDue, Settled, applyNext}
+use Rattle.machine.specs.{Steps.{settleBy, settle, deliverBy, reads, Step, Read, Write, Deliver, Trip, step}, Rules.{In}}
+use Rattle.machine.specs.{Proofs.Refusals.{deliverEffect, step-cases}, Proofs.Ready.{option-all}}
 
 -- a delivery that is accepted
 pub record Delivery (s : State) (i u k : ℕ) (w : Open) : Type 0 where
@@ -31,7 +22,7 @@ pub deliver-cases : (s : State) (i u k : ℕ) (Q : Out → Type 0) → ((r : Ref
     → Q (step s (Deliver i u k))
 deliver-cases s i u k Q refusal f g =
     step-cases s (Deliver i u k) Q refusal (λ h.
-    option-all (λ o. placeOf o i ≡ away → Q (deliverEffect s i u k o)) (s .opens u k) (λ e ha. absurd (omega arith))
+    option-all (λ o. markIn o i ≡ away → Q (deliverEffect s i u k o)) (s .opens u k) (λ e ha. absurd (omega arith))
     (λ w e ha. let d : Delivery s i u k w =
     record { desk = h .0 .0; writer = h .0 .1; other = h .1 .0; number = h .1 .1 .0; is = e; is-away = ha } in
     option-all (λ o. Q (deliverBy s i u k w o)) (failing (s .setup .desks) (s .applied i) u (w .vector)) (g w d) (f w d))

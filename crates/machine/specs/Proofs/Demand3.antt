@@ -1,29 +1,14 @@
 -- Demand 3, of every schedule with saves and reloads anywhere.
-use mathlib.Core.Path.{_≡_, sym, _∙_}
-use mathlib.Core.Logic.{_≢_, inl, inr, _↔_, Iff·trans}
-use mathlib.Core.Bool.{Bool, true, false}
-use mathlib.Core.List.{List, _∷_, Memᴰ·append-left}
-use mathlib.Core.Option.{none, some}
-use Prim.Native.Nat.{ℕ, suc, _≤_, _<_}
-use native.Mathlib.Omega.{arith}
-use borrow.Author.Tests.{eqb-false, ltb-true, eq-eqb, ne-eqb, not-true}
-use lib.Dec.{eqb}
-use Rattle.laws.specs.Ends.{cut-at}
-use Rattle.laws.specs.Loop.{scan, scan-holds}
-use Rattle.laws.specs.Update.{same-or}
-use Rattle.laws.specs.Says.{clash}
-use Rattle.machine.specs.Table.{most-desks, most-cells, Vec, name, away, held, done, Open, State, fresh, written, place}
-use Rattle.machine.specs.Steps.{fails, failing, isNone, ready}
-use Rattle.machine.specs.Rules.{In, Rules}
-use Rattle.machine.specs.History.{Event, write-at, applied, deskList, Act, run, history}
-use Rattle.machine.specs.Demand3.{WriteAt, of-write, Has, CauseMissing, Received, HeldIffCauseMissing, UpTo, Demand3}
-use Rattle.machine.specs.Proofs.Kept.{fresh-rules, one-place, done-counted}
-use Rattle.machine.specs.Proofs.Order.{at-one, Ordered, forward}
-use Rattle.machine.specs.Proofs.Traced.{Origin, origin-write}
-use Rattle.machine.specs.Proofs.Observed.{Observed, observed-fresh}
-use Rattle.machine.specs.Proofs.Runs.{rules-kept, observed-run}
-use Rattle.machine.specs.Proofs.Counted.{write-in, names-observed, open-observed}
-use Rattle.machine.specs.Proofs.Ready.{option-cases}
+use Rattle.laws.specs.Kit.{_≡_, sym, _∙_, _≢_, inl, inr, _↔_, Iff·trans, Bool, true, false, List, _∷_, Memᴰ·append-left, none, some, ℕ, suc}
+use Rattle.laws.specs.{Kit.{_≤_, _<_, arith, eqb-false, ltb-true, eq-eqb, ne-eqb, not-true, eqb}, Ends.{cut-at}, Loop.{scan, scan-holds}}
+use Rattle.laws.specs.{Update.{same-or}, Says.{clash}}
+use Rattle.machine.specs.{Table.{most-desks, most-cells, Vec, name, away, held, done, Open, State, fresh, markOf}, Steps.{fails}}
+use Rattle.machine.specs.{Steps.{failing, isNone, ready}, Rules.{In, Rules}, History.{Event, write-at, applied, deskList, Act, run}}
+use Rattle.machine.specs.{History.{history}, Demand3.{WriteAt, of-write, Has, CauseMissing, Received, HeldIffCauseMissing, UpTo}}
+use Rattle.machine.specs.{Demand3.{Demand3}, Proofs.RulesKept.{fresh-rules, one-place, done-counted}}
+use Rattle.machine.specs.{Proofs.Order.{at-one, HistoryOrdered, forward}, Proofs.TableTraced.{Origin, origin-write}}
+use Rattle.machine.specs.{Proofs.StepsTraced.{Observed, observed-fresh}, Proofs.RunsTraced.{rules-kept, observed-run}}
+use Rattle.machine.specs.{Proofs.NamesObserved.{write-in, names-observed, open-observed}, Proofs.Ready.{option-cases}}
 
 -- a write that is not ready: its own number is not next, or another desk's place fails
 data Unready (a : Vec) (u : ℕ) (w : Vec) : Type 0 where
@@ -44,21 +29,21 @@ unready n a u w e =
     (λ z. lacks (r .0) z (ltb-true (a (r .0)) (w (r .0)) (rw (ne-eqb (r .0) u z, fails) at (r .1))))
 
 module _ {s : State} {h : List Event} (r : Rules s) (b : Observed s h) where
-  ordered : Ordered h
+  ordered : HistoryOrdered h
   ordered = b .traced .story .ordered
 
-  applied-observed : (i u k q : ℕ) → In (s .setup .desks) i → WriteAt h q u k → (place s i u k ≡ done) ↔ Has (deskList i h) u k
+  applied-observed : (i u k q : ℕ) → In (s .setup .desks) i → WriteAt h q u k → (markOf s i u k ≡ done) ↔ Has (deskList i h) u k
   applied-observed i u k q hi w =
       let c = write-in r (b .traced) w in
       Iff·trans (done-counted (r .frame) i u k hi (c .0) (c .1)) (λ le. b .traced .counts i u k .1 (c .1 .0, le), λ m. b .traced .counts i u k .0 m .1)
 
-  unreceived : (i u k q : ℕ) → In (s .setup .desks) i → WriteAt h q u k → (place s i u k ≡ away) ↔ (Received h i u k → ⊥)
+  unreceived : (i u k q : ℕ) → In (s .setup .desks) i → WriteAt h q u k → (markOf s i u k ≡ away) ↔ (Received h i u k → ⊥)
   unreceived i u k q hi w =
       option-cases (s .opens u k)
-      (λ e. let d : place s i u k ≡ done = rw e in
+      (λ e. let d : markOf s i u k ≡ done = rw e in
       (λ z. absurd (omega arith), λ n. absurd (n (b .marked .got i u k (applied-observed i u k q hi w .0 d)))))
       (λ x e. let m = b .marked .marks u k x e i in
-      let d : place s i u k ≡ x .marks i = rw e in
+      let d : markOf s i u k ≡ x .marks i = rw e in
       (λ z. m .not-yet (sym d ∙ z), λ n. d ∙ same-or (x .marks i) away (λ z. z) (λ z. absurd (n (m .came z)))))
 
   -- the vector of u.k, wherever u.k stands
@@ -89,12 +74,12 @@ module _ {s : State} {h : List Event} (r : Rules s) (b : Observed s h) where
   held-iff : HeldIffCauseMissing s h
   held-iff i u k q hi w got = (to, from)
     where
-      to : place s i u k ≡ held → CauseMissing h i q
+      to : markOf s i u k ≡ held → CauseMissing h i q
       to z =
-          option-cases (s .opens u k) (λ e. let d : place s i u k ≡ done = rw e in absurd (omega arith))
-          (λ x e. let d : place s i u k ≡ x .marks i = rw e in held-lacks i u k q x hi w e (sym d ∙ z))
+          option-cases (s .opens u k) (λ e. let d : markOf s i u k ≡ done = rw e in absurd (omega arith))
+          (λ x e. let d : markOf s i u k ≡ x .marks i = rw e in held-lacks i u k q x hi w e (sym d ∙ z))
 
-      from : CauseMissing h i q → place s i u k ≡ held
+      from : CauseMissing h i q → markOf s i u k ≡ held
       from c = let n = write-in r (b .traced) w in elim (one-place r i u k hi (n .0) (n .1)) [
         | inl z ↦ absurd (unreceived i u k q hi w .0 z got)
         | inr o ↦ elim o [

@@ -1,21 +1,11 @@
 -- A desk as a process of the paper: each effect on the table is the paper's action at its desk, and nothing at any other.
-use mathlib.Core.Path.{_≡_, refl, sym, ap, _∙_, fun-ext}
-use mathlib.Core.Logic.{_≢_}
-use mathlib.Core.Bool.{true, false}
-use mathlib.Core.Option.{Option, none, some}
-use Prim.Native.Nat.{ℕ, suc, _≤_, _<_, max}
-use native.Mathlib.Omega.{arith}
-use borrow.Author.Tests.{eqb-true, eq-eqb, ne-eqb, le-ltb}
-use lib.Dec.{eqb}
-use Rattle.laws.specs.Loop.{cases, scan-empty}
-use Rattle.laws.specs.Says.{apart}
-use Rattle.laws.specs.Update.{upd, upd2, same-or, upd-same, upd-other, upd-map, upd2-same, upd2-row, upd2-here, upd2-other, upd2-all, upd2-is}
-use Rattle.machine.specs.Table.{Vec, Cell, blank, set, held, done, Open, State}
-use Rattle.machine.specs.Steps.{fails, failing, ready, isNone, readClock, read, stillOpen, mark, apply, hold, nextNumber, raise, newWrite, write}
-use Rattle.machine.specs.Rules.{In, Flat, Quiet}
-use Rattle.machine.specs.Paper.{Message, Process, WRITE, READ, receipt, resume, Idle, vectorOf, valueOf, messageOf, markedOf, waitingOf, desk}
-use Rattle.machine.specs.Proofs.Cases.{still-cases}
-use Rattle.machine.specs.Proofs.Ready.{done-everywhere}
+use Rattle.laws.specs.Kit.{_≡_, refl, sym, ap, _∙_, fun-ext, _≢_, true, false, Option, none, some, ℕ, suc, _≤_, _<_, max, arith, eqb-true}
+use Rattle.laws.specs.{Kit.{eq-eqb, ne-eqb, le-ltb, eqb}, Loop.{cases, scan-empty}, Says.{apart}, Update.{upd, upd2, same-or, upd-same}}
+use Rattle.laws.specs.Update.{upd-other, upd-map, upd2-same, upd2-row, upd2-here, upd2-other, upd2-all, upd2-is}
+use Rattle.machine.specs.{Table.{Vec, Cell, blank, set, held, done, Open, State}, Steps.{fails, failing, ready, isNone, readClock}}
+use Rattle.machine.specs.{Steps.{read, stillOpen, mark, apply, hold, nextNumber, raise, newWrite, write}, Rules.{In, Flat, Quiet}}
+use Rattle.machine.specs.Paper.{Message, Process, WRITE, READ, receipt, resume, Idle, vectorOf, valueOf, messageOf, markedOf}
+use Rattle.machine.specs.{Paper.{waitingOf, desk}, Proofs.Cases.{still-cases}, Proofs.Ready.{done-everywhere}}
 
 -- processes are the same if their parts are
 process-is : {p q : Process} → p .Apply ≡ q .Apply → p .Write-co ≡ q .Write-co → p .LastWriteOn ≡ q .LastWriteOn → p .memory ≡ q .memory
@@ -29,13 +19,13 @@ set-all q p = record { Apply = p .Apply; Write-co = p .Write-co; LastWriteOn = p
 -- Waiting --
 
 -- what waits is held
-pub record Waits (i u : ℕ) (o : Option Open) (m : Message) : Type 0 where
+pub record WaitsHeld (i u : ℕ) (o : Option Open) (m : Message) : Type 0 where
   pub entry : Open
   pub is : o ≡ some entry
   pub is-held : entry .marks i ≡ held
   pub message : m ≡ messageOf u entry
 
-pub waits : {i u : ℕ} (o : Option Open) {m : Message} → waitingOf i u o ≡ some m → Waits i u o m
+pub waits : {i u : ℕ} (o : Option Open) {m : Message} → waitingOf i u o ≡ some m → WaitsHeld i u o m
 waits none e = absurd (let z : _≡_ {A = ℕ} 0 1 = cc in omega arith)
 waits {i} {u} (some w) {m} e =
     cases (eqb (w .marks i) held)

@@ -1,22 +1,11 @@
 -- Desks' lists and what they show, of a history with one more event.
-use mathlib.Core.Path.{_≡_, refl, sym, _∙_, ap, subst}
-use mathlib.Core.Logic.{_⊎_, inl, inr, _↔_}
-use mathlib.Core.Bool.{true, false}
-use mathlib.Core.List.{List, [], _∷_, _++_, append-nil, append-assoc, List·Memᴰ, List·Memᴰ·head, List·Memᴰ·tail, List·Memᴰ·not-nil, Memᴰ·cast, Memᴰ·append-left, Memᴰ·append-right, List·Memᴰ·append-cases, List·Memᴰ·eq-of-singleton}
-use mathlib.Core.Option.{Option, some}
-use Prim.Native.Nat.{ℕ, zero, suc, _+_, _<_}
-use native.Mathlib.Omega.{arith}
-use borrow.Author.Tests.{eqb-true, eq-eqb, ne-eqb}
-use lib.Dec.{eqb}
-use lib.ListN.{length}
-use Rattle.laws.specs.Loop.{cases}
-use Rattle.laws.specs.Says.{clash, apart}
-use Rattle.laws.specs.Update.{same-or}
-use Rattle.laws.specs.Ends.{inside, outside, cut-end}
-use Rattle.machine.specs.Table.{Name, name}
-use Rattle.machine.specs.Answer.{Shown, unset}
-use Rattle.machine.specs.History.{Event, read-at, write-at, receive-at, apply-at, Entry, own-read, applied, entryOf, listFrom, deskList, Written, isName, writtenAs, afterWrite, afterEntry, latestFrom, latest, At}
-use Rattle.machine.specs.Proofs.Order.{add}
+use Rattle.laws.specs.Kit.{_≡_, refl, sym, _∙_, ap, subst, _⊎_, inl, inr, _↔_, true, false, List, [], _∷_, _++_, append-nil, append-assoc}
+use Rattle.laws.specs.Kit.{List·Memᴰ, List·Memᴰ·head, List·Memᴰ·tail, List·Memᴰ·not-nil, Memᴰ·cast, Memᴰ·append-left, Memᴰ·append-right}
+use Rattle.laws.specs.Kit.{List·Memᴰ·append-cases, List·Memᴰ·eq-of-singleton, Option, some, ℕ, zero, suc, _+_, _<_, arith, eqb-true, eq-eqb}
+use Rattle.laws.specs.{Kit.{ne-eqb, eqb, length}, Loop.{cases}, Says.{clash, apart}, Update.{same-or}, Ends.{inside, outside, cut-end}}
+use Rattle.machine.specs.{Table.{Name, name}, Answer.{Shown, unset}, History.{Event, read-at, write-at, receive-at, apply-at, Entry}}
+use Rattle.machine.specs.History.{own-read, applied, entryOf, listFrom, deskList, Written, isName, writtenAs, afterWrite, afterEntry}
+use Rattle.machine.specs.{History.{latestFrom, latest, At}, Proofs.Order.{add}}
 
 -- b is the entry of the event e at the place p, in the list of the desk i
 pub data OwnEntry (i p : ℕ) (e : Event) (b : Entry) : Type 0 where
@@ -31,13 +20,13 @@ no-own : (i p : ℕ) (e : Event) → ((x : ℕ) (v : Shown) → e ≡ read-at i 
 no-own i p e f g b (reads x v q _) = f x v q
 no-own i p e f g b (applies w q _) = g w q
 
-pub entries : (i p : ℕ) (e : Event) → Entries i p e (entryOf i p e)
-entries i p (read-at j x v) = same-or j i
+pub entries-of : (i p : ℕ) (e : Event) → Entries i p e (entryOf i p e)
+entries-of i p (read-at j x v) = same-or j i
     (λ q. one (own-read p x v) (rw (eq-eqb j i q, entryOf)) (reads x v (ap (λ (d : ℕ). read-at d x v) q) refl))
     (λ n. nothing (rw (ne-eqb j i n, entryOf)) (no-own i p (read-at j x v) (λ y z q. n (cc)) (λ w q. clash (cc))))
-entries i p (write-at j x v k) = nothing refl (no-own i p (write-at j x v k) (λ y z q. clash (cc)) (λ w q. clash (cc)))
-entries i p (receive-at j u) = nothing refl (no-own i p (receive-at j u) (λ y z q. clash (cc)) (λ w q. clash (cc)))
-entries i p (apply-at j u) = same-or j i
+entries-of i p (write-at j x v k) = nothing refl (no-own i p (write-at j x v k) (λ y z q. clash (cc)) (λ w q. clash (cc)))
+entries-of i p (receive-at j u) = nothing refl (no-own i p (receive-at j u) (λ y z q. clash (cc)) (λ w q. clash (cc)))
+entries-of i p (apply-at j u) = same-or j i
     (λ q. one (applied u) (rw (eq-eqb j i q, entryOf)) (applies u (ap (λ (d : ℕ). apply-at d u) q) refl))
     (λ n. nothing (rw (ne-eqb j i n, entryOf)) (no-own i p (apply-at j u) (λ y z q. clash (cc)) (λ w q. n (cc))))
 
@@ -62,7 +51,7 @@ pub desk-cut : (i : ℕ) (h : List Event) (e : Event) (earlier : List Entry) (b 
     → deskList i (add h e) ≡ earlier ++ b ∷ later → DeskCut i h e earlier b
 desk-cut i h e earlier b later eq =
     let q = sym (desk-add i h e) ∙ eq in
-    elim (entries i (length h) e) [
+    elim (entries-of i (length h) e) [
       | nothing z _ ↦ in-old later (rw (z, append-nil) at q)
       | one b′ z o ↦ elim (cut-end (deskList i h) b′ earlier b later (rw z at q)) [
         | inside m q ↦ in-old m q
@@ -75,7 +64,7 @@ pub mem-old : (i : ℕ) (h : List Event) (e : Event) {b : Entry} → List·Mem�
 mem-old i h e m = rw (desk-add i h e) (Memᴰ·append-left (entryOf i (length h) e) m)
 
 pub mem-new : (i : ℕ) (h : List Event) (e : Event) {b : Entry} → OwnEntry i (length h) e b → List·Memᴰ b (deskList i (add h e))
-mem-new i h e {b} o = rw (desk-add i h e) (Memᴰ·append-right (deskList i h) (go (entryOf i (length h) e) (entries i (length h) e) o))
+mem-new i h e {b} o = rw (desk-add i h e) (Memᴰ·append-right (deskList i h) (go (entryOf i (length h) e) (entries-of i (length h) e) o))
   where
     same : (b′ : Entry) → OwnEntry i (length h) e b′ → OwnEntry i (length h) e b → b ≡ b′
     same b′ (reads x v q r) (reads x′ v′ q′ r′) = cc
@@ -90,7 +79,7 @@ mem-new i h e {b} o = rw (desk-add i h e) (Memᴰ·append-right (deskList i h) (
 pub mem-cases : (i : ℕ) (h : List Event) (e : Event) {b : Entry} → List·Memᴰ b (deskList i (add h e)) → List·Memᴰ b (deskList i h) ⊎ OwnEntry i (length h) e b
 mem-cases i h e {b} m = elim (List·Memᴰ·append-cases (deskList i h) (rw (desk-add i h e) at m)) [
   | inl m ↦ inl m
-  | inr m ↦ elim (entries i (length h) e) [
+  | inr m ↦ elim (entries-of i (length h) e) [
     | nothing z _ ↦ absurd (List·Memᴰ·not-nil (rw z at m))
     | one b′ z o ↦ inr (subst (OwnEntry i (length h) e) (sym (List·Memᴰ·eq-of-singleton (rw z at m))) o)
   ]
@@ -125,7 +114,7 @@ listed-from i q [] p x v m = absurd (List·Memᴰ·not-nil m)
 listed-from i q (e ∷ h) p x v m =
     elim (List·Memᴰ·append-cases (entryOf i q e) m) [
       | inr r ↦ (let k = listed-from i (suc q) h p x v r in omega arith)
-      | inl m ↦ elim (entries i q e) [
+      | inl m ↦ elim (entries-of i q e) [
         | nothing z _ ↦ absurd (List·Memᴰ·not-nil (rw z at m))
         | one b z o ↦ (let y = List·Memᴰ·eq-of-singleton (rw z at m) in
             elim o [ reads x v _ r ↦ (let y : p ≡ q = cc in omega arith) | applies w _ r ↦ clash (cc) ])
@@ -212,7 +201,7 @@ module _ (i : ℕ) (h : List Event) (e : Event) (idle : (w : Name) → e ≡ app
   unfolding latestFrom
   latest-keep x f =
       ap (latest (add h e) x) (desk-add i h e) ∙ latest-append (add h e) x unset (deskList i h) (entryOf i (length h) e)
-      ∙ elim (entries i (length h) e) [
+      ∙ elim (entries-of i (length h) e) [
         | nothing z _ ↦ rw z
         | one b z o ↦ elim o [ reads y v q r ↦ rw (z, r) | applies w q r ↦ absurd (idle w q) ]
       ]

@@ -1,30 +1,19 @@
 -- How many writes are held, and what each step does to that number; the numbers that an answer shows.
-use mathlib.Core.Path.{_≡_, refl, sym, ap, _∙_}
-use mathlib.Core.Logic.{_≢_}
-use mathlib.Core.List.{List}
-use mathlib.Core.Option.{Option, some}
-use Prim.Native.Nat.{ℕ, suc, _+_, _-_, _*_, _≤_}
-use native.Mathlib.Omega.{arith}
-use borrow.Author.Tests.{ne-eqb}
-use lib.Dec.{eqb}
-use lib.ListN.{length}
-use Rattle.laws.specs.Each.{Each, no, and, each-then}
-use Rattle.laws.specs.Sum.{sum, one, tally, sum-le, sum-same, sum-zero, sum-more, sum-times, tally-miss, tally-none}
-use Rattle.laws.specs.Update.{upd, upd-same, upd-other, upd2-same, upd2-other, same-or}
-use Rattle.machine.specs.Table.{most-desks, most-open, most-status, Name, name, Cell, blank, set, held, done, Open, State, fresh, written, placeOf, place}
-use Rattle.machine.specs.Answer.{Answer, unset, shown, shownOf, began, shows, wrote, holds, applies, judged, refused}
-use Rattle.machine.specs.Steps.{stillOpen, mark, apply, hold, read, reads, raise, nextNumber, newWrite, write, isOpen, openCount, Settled, settle, Step, Read, Write, Deliver, Trip, step}
-use Rattle.machine.specs.Rules.{In, Frame, Rules}
-use Rattle.machine.specs.Proofs.Ready.{failing-at, done-everywhere, option-cases}
-use Rattle.machine.specs.Proofs.Apply.{Midway, ReadyAt, apply-written, to-be-open, issues, here, same}
-use Rattle.machine.specs.Proofs.Cascade.{settle-all}
-use Rattle.machine.specs.Proofs.Cases.{Delivery, deliver-cases, still-cases, reads-keep}
-use Rattle.machine.specs.Proofs.Refusals.{step-cases}
-use Rattle.machine.specs.Proofs.Kept.{delivered-at, delivered-midway}
+use Rattle.laws.specs.Kit.{_≡_, refl, sym, ap, _∙_, _≢_, List, Option, some, ℕ, suc, _+_, _-_, _*_, _≤_, arith, ne-eqb, eqb, length}
+use Rattle.laws.specs.{Each.{Each, no, and, each-then}, Sum.{sum, one, tally, sum-le, sum-same, sum-zero, sum-more, sum-times, tally-miss}}
+use Rattle.laws.specs.{Sum.{tally-none}, Update.{upd, upd-same, upd-other, upd2-same, upd2-other, same-or}}
+use Rattle.machine.specs.Table.{most-desks, most-open, most-status, Name, name, Cell, blank, set, held, done, Open, State, fresh}
+use Rattle.machine.specs.{Table.{written, markIn, markOf}, Answer.{Answer, unset, shown, shownOf, began, shows, wrote, holds}}
+use Rattle.machine.specs.{Answer.{applies, judged, refused}, Steps.{stillOpen, mark, apply, hold, read, reads, raise, nextNumber}}
+use Rattle.machine.specs.Steps.{newWrite, write, isOpen, openCount, Settled, settle, Step, Read, Write, Deliver, Trip, step}
+use Rattle.machine.specs.{Rules.{In, Frame, Rules}, Proofs.Ready.{failing-at, done-everywhere, option-cases}, Proofs.Apply.{Midway}}
+use Rattle.machine.specs.{Proofs.Apply.{ReadyAt, apply-written, to-be-open, issues, here, same}, Proofs.Cascade.{settle-all}}
+use Rattle.machine.specs.{Proofs.Cases.{Delivery, deliver-cases, still-cases, reads-keep}, Proofs.Refusals.{step-cases}}
+use Rattle.machine.specs.Proofs.RulesKept.{delivered-at, delivered-midway}
 
 -- at how many desks u.k is held
 abbrev pub heldAt : State → ℕ → ℕ → ℕ
-heldAt s u k = tally (s .setup .desks) (λ i. eqb (place s i u k) held)
+heldAt s u k = tally (s .setup .desks) (λ i. eqb (markOf s i u k) held)
 
 -- the same of all accepted writes together: how many deliveries were received and wait
 unfoldable pub heldCount : State → ℕ
@@ -73,8 +62,8 @@ marks-one n i m f hi ne =
     (λ j q. rw (upd-other f i m j q))
 
 -- a write that is applied everywhere is at each desk as its marks say
-still-place : (n : ℕ) (w : Open) (j : ℕ) → In n j → placeOf (stillOpen n w) j ≡ w .marks j
-still-place n w j hj = still-cases (λ o. placeOf o j ≡ w .marks j) n w (λ e. sym (done-everywhere n w e j hj)) (λ e. refl)
+still-place : (n : ℕ) (w : Open) (j : ℕ) → In n j → markIn (stillOpen n w) j ≡ w .marks j
+still-place n w j hj = still-cases (λ o. markIn o j ≡ w .marks j) n w (λ e. sym (done-everywhere n w e j hj)) (λ e. refl)
 
 pub apply-held : {s : State} {i u k : ℕ} {w : Open} → Frame s → ReadyAt s i u k w → heldCount s ≡ one (eqb (w .marks i) held) + heldCount (apply s i u k w)
 apply-held {s} {i} {u} {k} {w} f r =
@@ -165,30 +154,30 @@ settle-held f {i = i} m hi =
 
 -- the writes that an answer names, and what is held, of the table s before and s′ after: a hold adds one, and of the writes that are applied
 -- together the first had not been received and the others were held
-abbrev pub Counted : State → Answer → State → Type 0
-Counted s began s′ = heldCount s′ ≡ heldCount s
-Counted s (shows unset) s′ = heldCount s′ ≡ heldCount s
-Counted s (shows (shown v u k)) s′ = (v ≤ most-status) × (Made s (name u k) × (heldCount s′ ≡ heldCount s))
-Counted s (wrote w) s′ = Made s′ w × (heldCount s′ ≡ heldCount s)
-Counted s (holds t) s′ = In (s .setup .desks) t × (heldCount s′ ≡ suc (heldCount s))
-Counted s (applies l) s′ = Each (Made s) l × (heldCount s′ + length l ≡ suc (heldCount s))
-Counted s (judged v) s′ = heldCount s′ ≡ heldCount s
-Counted s (refused r) s′ = heldCount s′ ≡ heldCount s
+abbrev pub HeldCounted : State → Answer → State → Type 0
+HeldCounted s began s′ = heldCount s′ ≡ heldCount s
+HeldCounted s (shows unset) s′ = heldCount s′ ≡ heldCount s
+HeldCounted s (shows (shown v u k)) s′ = (v ≤ most-status) × (Made s (name u k) × (heldCount s′ ≡ heldCount s))
+HeldCounted s (wrote w) s′ = Made s′ w × (heldCount s′ ≡ heldCount s)
+HeldCounted s (holds t) s′ = In (s .setup .desks) t × (heldCount s′ ≡ suc (heldCount s))
+HeldCounted s (applies l) s′ = Each (Made s) l × (heldCount s′ + length l ≡ suc (heldCount s))
+HeldCounted s (judged v) s′ = heldCount s′ ≡ heldCount s
+HeldCounted s (refused r) s′ = heldCount s′ ≡ heldCount s
 
-pub step-counted : {s : State} → Rules s → (a : Step) → Counted s (step s a .answer) (step s a .state)
-step-counted {s} r (Read i x) = step-cases s (Read i x) (λ o. Counted s (o .answer) (o .state)) (λ _. refl) (λ h. go (s .cell i x) refl)
+pub step-counted : {s : State} → Rules s → (a : Step) → HeldCounted s (step s a .answer) (step s a .state)
+step-counted {s} r (Read i x) = step-cases s (Read i x) (λ o. HeldCounted s (o .answer) (o .state)) (λ _. refl) (λ h. go (s .cell i x) refl)
   where
-    go : (c : Cell) → s .cell i x ≡ c → Counted s (shows (shownOf c)) (read s i x)
+    go : (c : Cell) → s .cell i x ≡ c → HeldCounted s (shows (shownOf c)) (read s i x)
     go blank e = read-held s i x
     go (set v u w) e =
         let c = r .frame .cell i x v u w e in
         (c .status-in, ((c .writer-in, (c .first, c .issued u)), read-held s i x))
 step-counted {s} r (Write i x v) =
-    step-cases s (Write i x v) (λ o. Counted s (o .answer) (o .state)) (λ _. refl)
+    step-cases s (Write i x v) (λ o. HeldCounted s (o .answer) (o .state)) (λ _. refl)
     (λ h. let a = issues (r .frame) i x v (h .0) (h .1 .0) (h .1 .1 .0) in
     ((h .0, omega (arith, here (r .frame) (raise s i .clock) a)), write-held (r .frame) i x v (h .0) (h .1 .0) (h .1 .1 .0)))
 step-counted {s} r (Deliver i u k) =
-    deliver-cases s i u k (λ o. Counted s (o .answer) (o .state)) (λ _. refl)
+    deliver-cases s i u k (λ o. HeldCounted s (o .answer) (o .state)) (λ _. refl)
     (λ w d t e. (failing-at (s .setup .desks) (s .applied i) u (w .vector) t e .0, hold-held d))
     (λ w d e. let at = delivered-at r d e in
     let t = settle-held most-open (delivered-midway r d e) (d .desk) in
@@ -196,4 +185,4 @@ step-counted {s} r (Deliver i u k) =
       and (d .writer, d .number) (each-then (λ n q. (q .0, rw (apply-written (r .frame) at (n .writer)) at (q .1))) (t .names)),
       omega (arith, t .count),
     ))
-step-counted {s} r (Trip i xs) = step-cases s (Trip i xs) (λ o. Counted s (o .answer) (o .state)) (λ _. refl) (λ h. reads-held s i xs)
+step-counted {s} r (Trip i xs) = step-cases s (Trip i xs) (λ o. HeldCounted s (o .answer) (o .state)) (λ _. refl) (λ h. reads-held s i xs)

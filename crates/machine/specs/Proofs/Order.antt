@@ -1,21 +1,9 @@
 -- The causal order of a history, and what one more event does to it.
-use mathlib.Core.Path.{_≡_, refl, sym, ap, subst}
-use mathlib.Core.Logic.{_⊎_, inl, inr, _↔_}
-use mathlib.Core.Bool.{true, false}
-use mathlib.Core.List.{List, [], _∷_, _++_}
-use Prim.Native.Nat.{ℕ, suc, _≤_, _<_}
-use native.Mathlib.Omega.{arith}
-use native.Mathlib.Decide.{decLe}
-use borrow.Author.Tests.{eq-eqb, ne-eqb}
-use lib.Dec.{eqb}
-use lib.ListN.{length}
-use Rattle.laws.specs.Ends.{AtEnd, before, last, at-inside, at-before, at-end, at-either, inside, outside, cut-end, by-parts}
-use Rattle.laws.specs.Count.{count, count-end}
-use Rattle.laws.specs.Says.{clash}
-use Rattle.laws.specs.Update.{same-or}
-use Rattle.machine.specs.Answer.{shown}
-use Rattle.machine.specs.Rules.{In}
-use Rattle.machine.specs.History.{Event, read-at, write-at, receive-at, apply-at, writePasses, writesOf, At, OpOf, a-read, a-write, Precedes, same-desk, shown-by, chained}
+use Rattle.laws.specs.Kit.{_≡_, refl, sym, ap, subst, _⊎_, inl, inr, _↔_, true, false, List, [], _∷_, _++_, ℕ, suc, _≤_, _<_, arith, decLe}
+use Rattle.laws.specs.{Kit.{eq-eqb, ne-eqb, eqb, length}, Ends.{AtEnd, before, last, at-inside, at-before, at-end, at-either, inside}}
+use Rattle.laws.specs.{Ends.{outside, cut-end, by-parts}, Count.{count, count-end}, Says.{clash}, Update.{same-or}}
+use Rattle.machine.specs.{Answer.{shown}, Rules.{In}, History.{Event, read-at, write-at, receive-at, apply-at, writePasses, writesOf}}
+use Rattle.machine.specs.History.{At, OpOf, a-read, a-write, Precedes, same-desk, shown-by, chained}
 use Rattle.machine.specs.Demand3.{WriteAt, UpTo, NumberedInOrder}
 
 -- one more event
@@ -23,7 +11,7 @@ abbrev pub add : List Event → Event → List Event
 add h e = h ++ e ∷ []
 
 -- of a history: what a read shows was written before, no name is written twice, numbers count from 1
-pub record Ordered (h : List Event) : Type 0 where
+pub record HistoryOrdered (h : List Event) : Type 0 where
   pub source : (q i x v u k : ℕ) → At h q (read-at i x (shown v u k)) → (p : ℕ) × (p < q) × WriteAt h p u k
   pub once : (p q u k : ℕ) → WriteAt h p u k → WriteAt h q u k → p ≡ q
   pub numbered : NumberedInOrder h
@@ -36,7 +24,7 @@ pub one-desk : {i j : ℕ} {e : Event} → OpOf i e → OpOf j e → j ≡ i
 one-desk a-read a-read = refl
 one-desk a-write a-write = refl
 
-pub forward : {h : List Event} {p q : ℕ} → Ordered h → Precedes h p q → p < q
+pub forward : {h : List Event} {p q : ℕ} → HistoryOrdered h → Precedes h p q → p < q
 forward o (same-desk a b x y lt) = lt
 forward {p = p} {q = q} o (shown-by {i = i} {u = u} {x = x} {v = v} {k = k} a b) =
     let r = o .source q i x v u k b in
@@ -99,7 +87,7 @@ module _ (h : List Event) (e : Event) where
   upto-old b =
       record { place = b .place; write = write-old (b .write); order = elim (b .order) [ inl z ↦ inl z | inr c ↦ inr (prec-old c) ] }
 
-  module _ (o : Ordered (add h e)) where
+  module _ (o : HistoryOrdered (add h e)) where
     pub prec-less : {p q : ℕ} → Precedes (add h e) p q → q < length h → Precedes h p q
     prec-less {p} {q} (same-desk a b x y lt) k = same-desk (at-less p a (omega arith)) (at-less q b k) x y lt
     prec-less {p} {q} (shown-by a b) k = let lt = forward o (shown-by a b) in shown-by (at-less p a (omega arith)) (at-less q b k)
@@ -226,7 +214,7 @@ not-op n = record {
   next = λ u x v k q. absurd (n u (subst (OpOf u) (sym q) a-write));
 }
 
-pub ordered-add : {h : List Event} {e : Event} → Ordered h → NewEvent h e → Ordered (add h e)
+pub ordered-add : {h : List Event} {e : Event} → HistoryOrdered h → NewEvent h e → HistoryOrdered (add h e)
 ordered-add {h} {e} o n = record {
   source = λ q i x v u k a. elim (at-either h e q (read-at i x (shown v u k)) a) [
     | before a ↦ (let r = o .source q i x v u k a in (r .0, r .1, write-old h e (r .2)))

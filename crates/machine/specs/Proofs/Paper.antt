@@ -1,24 +1,18 @@
 -- Every accepted step is a run of the paper's atomic actions at its desk, after which no waiting thread is enabled anywhere.
-use mathlib.Core.Path.{_≡_, refl, sym, ap, subst, _∙_}
-use mathlib.Core.Logic.{_≢_}
-use mathlib.Core.Bool.{true}
-use mathlib.Core.List.{List, _∷_, map, []}
-use mathlib.Core.Option.{Option, none, some}
-use Prim.Native.Nat.{ℕ, _≤_}
-use native.Mathlib.Omega.{arith}
-use Rattle.laws.specs.Update.{upd2, same-or, upd-other, upd2-same, upd2-other, upd2-all}
+use Rattle.laws.specs.Kit.{_≡_, refl, sym, ap, subst, _∙_, _≢_, true, List, _∷_, map, [], Option, none, some, ℕ, _≤_, arith}
+use Rattle.laws.specs.{Update.{upd2, same-or, upd-other, upd2-same, upd2-other, upd2-all}, Says.{clash}}
 use Rattle.machine.specs.Table.{most-open, Name, name, Cell, blank, set, held, done, Open, Setup, State}
-use Rattle.machine.specs.Answer.{shownOf, shows, wrote}
-use Rattle.machine.specs.Steps.{Out, failing, read, everywhere, mark, apply, hold, nextNumber, newWrite, raise, write, Settled, settle, reads, Step, Read, Write, Deliver, Trip, step}
-use Rattle.machine.specs.Rules.{In, Frame, Rules}
-use Rattle.machine.specs.Refusals.{Accepted}
-use Rattle.machine.specs.Paper.{Message, Process, READ, sent, returned, a-write, a-read, a-receipt, a-thread, Action, Does, does-write, does-read, does-receipt, does-thread, Runs, ends, then, Idle, vectorOf, valueOf, messageOf, waitingOf, desk, receiptOf, actionsOf, actor, PaperRun, KeepsMessage, OpenAs, shownBy}
-use Rattle.machine.specs.Proofs.Kept.{Midway, ReadyAt, ready-next, step-keeps-rules, settle-all, delivered-at, delivered-midway}
-use Rattle.machine.specs.Proofs.Refusals.{step-cases}
-use Rattle.machine.specs.Proofs.Cases.{Delivery, deliver-cases, still-cases, settle-keeps, reads-keep, setup-stays}
-use Rattle.machine.specs.Proofs.Desks.{Waiting, waitingAt, set-all, marked-is, quiet-idle, read-here, read-there, receipt-here, hold-there, resume-here, apply-there, write-here, write-there}
+use Rattle.machine.specs.{Answer.{shownOf, shows, wrote}, Steps.{Out, failing, read, everywhere, mark, apply, hold, nextNumber}}
+use Rattle.machine.specs.Steps.{newWrite, raise, write, Settled, settle, reads, Step, Read, Write, Deliver, Trip, step}
+use Rattle.machine.specs.{Rules.{In, Frame, Rules}, Refusals.{Accepted}, Paper.{Message, Process, READ, sent, returned, a-write}}
+use Rattle.machine.specs.Paper.{a-read, a-receipt, a-thread, Action, Does, does-write, does-read, does-receipt, does-thread}
+use Rattle.machine.specs.Paper.{ProcessRuns, ends, then, Idle, vectorOf, valueOf, messageOf, waitingOf, desk, receiptOf, actionsOf}
+use Rattle.machine.specs.{Paper.{actor, PaperRun, KeepsMessage, OpenAs, shownBy}, Proofs.RulesKept.{Midway, ReadyAt, ready-next}}
+use Rattle.machine.specs.Proofs.RulesKept.{step-keeps-rules, settle-all, delivered-at, delivered-midway}
+use Rattle.machine.specs.{Proofs.Refusals.{step-cases}, Proofs.Cases.{Delivery, deliver-cases, still-cases, settle-keeps, reads-keep}}
+use Rattle.machine.specs.{Proofs.Cases.{setup-stays}, Proofs.Desks.{Waiting, waitingAt, set-all, marked-is, quiet-idle, read-here}}
+use Rattle.machine.specs.Proofs.Desks.{read-there, receipt-here, hold-there, resume-here, apply-there, write-here, write-there}
 use Rattle.machine.specs.Proofs.Ready.{option-cases, done-everywhere, not-both}
-use Rattle.laws.specs.Says.{clash}
 
 -- a waiting message that is ready goes on, whatever else waits
 thread : {s : State} {i u k : ℕ} {w : Open} → Frame s → ReadyAt s i u k w → (q : Waiting)
@@ -36,7 +30,7 @@ reads-as s i x = subst (λ (p : Process). Does (s .setup .desks) i (desk s i) (a
 
 -- from s to s′: actions at i, nothing elsewhere
 pub record Moves (s : State) (i : ℕ) (l : List Action) (s′ : State) : Type 0 where
-  pub runs : Runs (s .setup .desks) i (desk s i) l (desk s′ i)
+  pub runs : ProcessRuns (s .setup .desks) i (desk s i) l (desk s′ i)
   pub others : (j : ℕ) → j ≢ i → desk s′ j ≡ desk s j
 
 -- one application, then the rest

@@ -1,30 +1,21 @@
 -- A schedule of the machine, with saves and reloads, is a run of the paper's n processes and the messages between them.
-use mathlib.Core.Path.{_≡_, refl, sym, ap, subst, _∙_}
-use mathlib.Core.Bool.{not}
-use mathlib.Core.List.{List, _∷_, _++_, map, []}
-use mathlib.Core.Option.{Option, none, some, Option·some-injective}
-use Prim.Native.Nat.{ℕ, suc, _≤_, _<_}
-use native.Mathlib.Omega.{arith}
-use native.Mathlib.Decide.{decLe}
-use Rattle.laws.specs.Says.{apart}
-use Rattle.laws.specs.Update.{upd, same-or, upd-same, upd-other, upd-is, upd2-all, upd2-same, upd2-other}
+use Rattle.laws.specs.Kit.{_≡_, refl, sym, ap, subst, _∙_, not, List, _∷_, _++_, map, [], Option, none, some, Option·some-injective, ℕ, suc}
+use Rattle.laws.specs.{Kit.{_≤_, _<_, arith, decLe}, Says.{apart}, Update.{upd, same-or, upd-same, upd-other, upd-is, upd2-all, upd2-same}}
+use Rattle.laws.specs.Update.{upd2-other}
 use Rattle.machine.specs.Table.{most-desks, most-cells, most-open, Name, name, held, Open, Setup, State, fresh, written}
-use Rattle.machine.specs.Answer.{wrote}
-use Rattle.machine.specs.Steps.{Out, isNone, isOpen, failing, apply, hold, nextNumber, write, settle, Step, Read, Write, Deliver, Trip, step}
-use Rattle.machine.specs.Rules.{In, Frame, Rules}
-use Rattle.machine.specs.Refusals.{Accepted}
-use Rattle.machine.specs.Paper.{Message, Process, start, sent, Action, a-write, a-read, a-receipt, a-thread, Does, Runs, ends, then, messageOf, desk, actionsOf, receiptOf}
-use Rattle.machine.specs.History.{Act, take-step, save-and-load, run}
-use Rattle.machine.specs.PaperRuns.{Ways, System, take, Carries, sends, takes, none-by-read, none-by-thread, Deed, deed, Acts, acts, SystemRun, over, and-then, waysOf, system, deedsOf, deeds, RunsAsPaper, SentIn, Receives, ReceivedIsSent}
-use Rattle.machine.specs.Proofs.Grown.{Grown}
-use Rattle.machine.specs.Proofs.Apply.{to-be-open, apply-written}
-use Rattle.machine.specs.Proofs.Kept.{Midway, ReadyAt, fresh-rules, step-keeps-rules, settle-all, delivered-at, delivered-midway}
-use Rattle.machine.specs.Proofs.Refusals.{accepted-exactly, step-cases}
-use Rattle.machine.specs.Proofs.Cases.{Delivery, deliver-cases, reads-keep, step-keeps, setup-stays}
-use Rattle.machine.specs.Proofs.Paper.{Moves, trip-reads, new-number, read-moves, write-moves, hold-moves, apply-moves, message-kept, message-sent}
-use Rattle.machine.specs.Proofs.Ways.{ways-fresh, hold-takes, apply-takes, on-its-way, held-off, write-sends, nothing-under}
-use Rattle.machine.specs.Proofs.Runs.{rules-kept}
-use Rattle.machine.specs.Proofs.Ready.{option-all, option-cases, not-both}
+use Rattle.machine.specs.{Answer.{wrote}, Steps.{Out, isNone, isOpen, failing, apply, hold, nextNumber, write, settle, Step, Read}}
+use Rattle.machine.specs.{Steps.{Write, Deliver, Trip, step}, Rules.{In, Frame, Rules}, Refusals.{Accepted}, Paper.{Message, Process}}
+use Rattle.machine.specs.Paper.{start, sent, Action, a-write, a-read, a-receipt, a-thread, Does, ProcessRuns, ends, then, messageOf}
+use Rattle.machine.specs.{Paper.{desk, actionsOf, receiptOf}, History.{Act, take-step, save-and-load, run}, PaperRuns.{Ways, System}}
+use Rattle.machine.specs.PaperRuns.{take, Carries, sends, takes, none-by-read, none-by-thread, Deed, deed, Acts, acts, SystemRun}
+use Rattle.machine.specs.PaperRuns.{over, and-then, waysOf, system, deedsOf, deeds, RunsAsPaper, SentIn, Receives, ReceivedIsSent}
+use Rattle.machine.specs.{Proofs.CountsRise.{Grown}, Proofs.Apply.{to-be-open, apply-written}, Proofs.RulesKept.{Midway, ReadyAt}}
+use Rattle.machine.specs.Proofs.RulesKept.{fresh-rules, step-keeps-rules, settle-all, delivered-at, delivered-midway}
+use Rattle.machine.specs.{Proofs.Refusals.{accepted-exactly, step-cases}, Proofs.Cases.{Delivery, deliver-cases, reads-keep}}
+use Rattle.machine.specs.{Proofs.Cases.{step-keeps, setup-stays}, Proofs.Paper.{Moves, trip-reads, new-number, read-moves}}
+use Rattle.machine.specs.Proofs.Paper.{write-moves, hold-moves, apply-moves, message-kept, message-sent}
+use Rattle.machine.specs.Proofs.OnTheWay.{ways-fresh, hold-takes, apply-takes, on-its-way, held-off, write-sends, nothing-under}
+use Rattle.machine.specs.{Proofs.RunsTraced.{rules-kept}, Proofs.Ready.{option-all, option-cases, not-both}}
 
 pub desk-starts : (n m i : ℕ) → desk (fresh n m) i ≡ start
 desk-starts n m i = refl
@@ -53,7 +44,7 @@ module _ (n i : ℕ) (hi : In n i) (f : ℕ → Process) where
   Leave [] = Unit {0}
   Leave (a ∷ l) = ((p : Process) (w : Ways) → Carries n i p w a w) × Leave l
 
-  quietly : {w : Ways} {p q : Process} {l : List Action} → Runs n i p l q → Leave l → SystemRun n (at w p) (map (deed i) l) (at w q)
+  quietly : {w : Ways} {p q : Process} {l : List Action} → ProcessRuns n i p l q → Leave l → SystemRun n (at w p) (map (deed i) l) (at w q)
   quietly ends u = over
   quietly {w} {p} (then {a = a} d r) u = and-then (one d (u .0 p w)) (quietly r (u .1))
 
@@ -65,7 +56,7 @@ module _ (n i : ℕ) (hi : In n i) (f : ℕ → Process) where
   threads-leave [] = tt
   threads-leave (x ∷ l) = ((λ p w. none-by-thread), threads-leave l)
 
-  first : {w w′ : Ways} {p q : Process} {a : Action} {l : List Action} → Runs n i p (a ∷ l) q → Carries n i p w a w′ → Leave l
+  first : {w w′ : Ways} {p q : Process} {a : Action} {l : List Action} → ProcessRuns n i p (a ∷ l) q → Carries n i p w a w′ → Leave l
       → SystemRun n (at w p) (map (deed i) (a ∷ l)) (at w′ q)
   first (then d r) c u = and-then (one d c) (quietly r u)
 

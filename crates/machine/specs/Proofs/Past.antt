@@ -1,29 +1,14 @@
 -- The causal order as it is computed is the causal order.
-use mathlib.Core.Path.{_≡_, refl}
-use mathlib.Core.Logic.{inl, inr, _↔_}
-use mathlib.Core.Bool.{Bool, true, false, _&&_, _||_}
-use mathlib.Core.List.{List, [], _∷_, List·Memᴰ, List·Memᴰ·head, List·Memᴰ·tail, List·Memᴰ·not-nil, List·Memᴰ·cases-cons}
-use mathlib.Core.Option.{Option, none, some}
-use Prim.Native.Nat.{ℕ, zero, suc, _+_, _≤_, _<_}
-use native.Mathlib.Omega.{arith}
-use borrow.Author.Tests.{ltb-true, lt-ltb, eqb-true, eq-eqb}
-use lib.Dec.{eqb, ltb}
-use lib.ListN.{length, getElem?}
-use Rattle.laws.specs.Ends.{at-inside}
-use Rattle.laws.specs.Loop.{cases}
-use Rattle.laws.specs.Says.{clash}
+use Rattle.laws.specs.Kit.{_≡_, refl, inl, inr, _↔_, Bool, true, false, _&&_, _||_, List, [], _∷_, List·Memᴰ, List·Memᴰ·head}
+use Rattle.laws.specs.Kit.{List·Memᴰ·tail, List·Memᴰ·not-nil, List·Memᴰ·cases-cons, Option, none, some, ℕ, zero, suc, _+_, _≤_, _<_, arith}
+use Rattle.laws.specs.{Kit.{ltb-true, lt-ltb, eqb-true, eq-eqb, eqb, ltb, length, getElem?}, Ends.{at-inside}, Loop.{cases}, Says.{clash}}
 use Rattle.laws.specs.Update.{same-or}
-use Rattle.machine.specs.Table.{most-desks, most-cells, Name, State, fresh}
-use Rattle.machine.specs.Answer.{unset, shown}
-use Rattle.machine.specs.History.{Event, read-at, write-at, receive-at, apply-at, At, OpOf, a-read, a-write, Precedes, same-desk, shown-by, chained, Act, history}
-use Rattle.machine.specs.Past.{someBelow, those, isOpOf, inProcessOrder, isReadFrom, linkOf, linked, beforeBy, before, writesName, inPast, enables, X-co-safe, InPast, Enabling, enabling}
-use Rattle.machine.specs.Demand3.{WriteAt}
-use Rattle.machine.specs.Rules.{In, Rules}
-use Rattle.machine.specs.Proofs.Kept.{fresh-rules}
-use Rattle.machine.specs.Proofs.Order.{forward}
-use Rattle.machine.specs.Proofs.Observed.{observed-fresh}
-use Rattle.machine.specs.Proofs.Runs.{observed-run}
-use Rattle.machine.specs.Proofs.Ready.{option-cases}
+use Rattle.machine.specs.{Table.{most-desks, most-cells, Name, State, fresh}, Answer.{unset, shown}, History.{Event, read-at}}
+use Rattle.machine.specs.History.{write-at, receive-at, apply-at, At, OpOf, a-read, a-write, Precedes, same-desk, shown-by, chained}
+use Rattle.machine.specs.{History.{Act, history}, Past.{someBelow, those, isOpOf, inProcessOrder, isReadFrom, linkOf, linked}}
+use Rattle.machine.specs.Past.{beforeBy, before, writesName, inPast, enables, X-co-safe, InPast, Enabling, enabling}
+use Rattle.machine.specs.{Demand3.{WriteAt}, Rules.{In, Rules}, Proofs.RulesKept.{fresh-rules}, Proofs.Order.{forward}}
+use Rattle.machine.specs.{Proofs.StepsTraced.{observed-fresh}, Proofs.RunsTraced.{observed-run}, Proofs.Ready.{option-cases}}
 
 -- some number below n passes
 below-some : (n : ℕ) (g : ℕ → Bool) → someBelow n g ≡ true → (r : ℕ) × (g r ≡ true)

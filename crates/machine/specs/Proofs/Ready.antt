@@ -1,22 +1,8 @@
 -- Readiness, and "applied at all n desks", said of the numbers.
-use mathlib.Core.Path.{_≡_, refl, sym, _∙_, ap, fun-ext}
-use mathlib.Core.Logic.{_≢_}
-use mathlib.Core.Bool.{Bool, true, false}
-use mathlib.Core.Option.{Option, none, some}
-use Prim.Native.Nat.{ℕ, suc, _≤_}
-use native.Mathlib.Omega.{arith}
-use borrow.Author.Tests.{ltb-false, eqb-true, eqb-false, eq-eqb, ne-eqb, le-ltb, not-false}
-use lib.Dec.{eqb, leb}
-use Rattle.laws.specs.Loop.{cases, scan, scan-found, scan-none}
-use Rattle.laws.specs.All.{all-at}
-use Rattle.laws.specs.Says.{Says, says-both, says-leb, apart, all-not}
-use Rattle.laws.specs.Update.{upd, upd-same, upd-other, same-or}
-use Rattle.machine.specs.Table.{Vec, done, Open}
-use Rattle.machine.specs.Steps.{within, fails, failing, isNone, ready, everywhere, stillOpen}
-use Rattle.machine.specs.Rules.{In}
-
-pub says-within : (n i : ℕ) → Says (within n i) (In n i)
-says-within n i = says-both (leb 1 i) (leb i n) (says-leb 1 i) (says-leb i n)
+use Rattle.laws.specs.Kit.{_≡_, refl, sym, _∙_, ap, fun-ext, _≢_, Bool, true, false, Option, none, some, ℕ, suc, _≤_, arith, ltb-false}
+use Rattle.laws.specs.{Kit.{eqb-true, eqb-false, eq-eqb, ne-eqb, le-ltb, not-false, eqb}, Loop.{cases, scan, scan-found, scan-none}}
+use Rattle.laws.specs.{All.{all-at}, Says.{apart, all-not}, Update.{upd, upd-same, upd-other, same-or}}
+use Rattle.machine.specs.{Table.{Vec, done, Open}, Steps.{fails, failing, isNone, ready, everywhere, stillOpen}, Rules.{In}}
 
 -- an option's two cases, with the equation at hand: of what speaks of it, and of what does not
 pub option-all : {A : Type 0} (P : Option A → Type 0) (x : Option A) → (x ≡ none → P none) → ((a : A) → x ≡ some a → P (some a)) → P x

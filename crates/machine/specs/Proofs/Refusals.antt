@@ -1,22 +1,14 @@
 -- Each refusal is given in its condition and at no other time, and leaves the table as found.
-use mathlib.Core.Path.{_≡_, refl, sym, ap, subst}
-use mathlib.Core.Logic.{_⊎_, inl, inr, ⊎-elim, _↔_}
-use mathlib.Core.Bool.{Bool, true, false, not, _&&_}
-use mathlib.Core.List.{List, _∷_, []}
-use mathlib.Core.Option.{Option, none, some}
-use Prim.Native.Nat.{ℕ}
-use lib.Dec.{eqb, leb, ltb}
-use lib.ListN.{length}
-use Rattle.laws.specs.Loop.{cases}
-use Rattle.laws.specs.Says.{Says, says-leb, says-ltb, says-eqb, says-not, says-both, clash, apart}
-use Rattle.laws.specs.Lists.{every, says-every}
-use Rattle.machine.specs.Table.{most-desks, most-cells, most-open, most-trip, most-writes, most-status, name, away, done, Open, State, fresh, written, placeOf}
-use Rattle.machine.specs.Answer.{Refusal, no-desk, no-cell, no-status, spent, full, own-write, no-write, received, trip-size, no-size, began, shows, wrote, applies, judged, refused}
-use Rattle.machine.specs.Steps.{Out, refuse, need, within, failing, shownAt, read, nextNumber, write, openCount, reads, verdict, deliverBy, deliverOpen, Step, Read, Write, Deliver, Trip, step, begins, Begun, begin}
-use Rattle.machine.specs.Rules.{In}
-pub use Rattle.machine.specs.Proofs.Ready.{says-within}
-use Rattle.machine.specs.Proofs.Ready.{option-all}
-use Rattle.machine.specs.Refusals.{Row, _or_, rowsOf, rowsOfBegin, FirstFails, AllPass, Accepted}
+use Rattle.laws.specs.Kit.{_≡_, refl, sym, ap, subst, _⊎_, inl, inr, ⊎-elim, _↔_, Bool, true, false, not, _&&_, List, _∷_, [], Option, none}
+use Rattle.laws.specs.{Kit.{some, ℕ, eqb, leb, ltb, length}, Loop.{cases}, Says.{Says, says-leb, says-ltb, says-eqb, says-not, says-both}}
+use Rattle.laws.specs.{Says.{clash, apart}, Lists.{every, says-every}}
+use Rattle.machine.specs.Table.{most-desks, most-cells, most-open, most-trip, most-writes, most-status, name, away, done, Open, State}
+use Rattle.machine.specs.{Table.{fresh, written, markIn}, Answer.{Refusal, no-desk, no-cell, no-status, spent, full, own-write}}
+use Rattle.machine.specs.{Answer.{no-write, received, trip-size, no-size, began, shows, wrote, applies, judged, refused}, Steps.{Out}}
+use Rattle.machine.specs.Steps.{refuse, need, within, failing, shownAt, read, nextNumber, write, openCount, reads, verdict, deliverBy}
+use Rattle.machine.specs.{Steps.{deliverOpen, Step, Read, Write, Deliver, Trip, step, begins, Begun, begin}, Rules.{In}}
+use Rattle.machine.specs.{Proofs.Ready.{option-all}, Refusals.{Row, _or_, rowsOf, rowsOfBegin, FirstFails, AllPass, Accepted}}
+pub use Rattle.machine.specs.Within.{says-within}
 
 -- an outcome by the rows: refused by the first that fails, or what is done if all pass
 record ByRows (s : State) (l : List Row) (effect o : Out) : Type 0 where
@@ -76,7 +68,7 @@ effectOf s (Deliver i u k) = deliverEffect s i u k (s .opens u k)
 effectOf s (Trip i xs) = record { answer = judged (verdict (reads s i xs .shown)); state = reads s i xs .state }
 
 -- the last row of a delivery
-open-rows : (s : State) (i u k : ℕ) (o : Option Open) → ByRows s ((placeOf o i ≡ away or received) ∷ []) (deliverEffect s i u k o) (deliverOpen s i u k o)
+open-rows : (s : State) (i u k : ℕ) (o : Option Open) → ByRows s ((markIn o i ≡ away or received) ∷ []) (deliverEffect s i u k o) (deliverOpen s i u k o)
 open-rows s i u k none = need-rows false received (says-eqb done away) (end-rows (λ r e. clash (cc)))
 open-rows s i u k (some w) =
     need-rows (eqb (w .marks i) away) received (says-eqb (w .marks i) away)

@@ -1,7 +1,5 @@
-use mathlib.Core.Path.{sym}
-use native.Mathlib.Omega.{arith}
-use borrow.Author.Needs.{needs}
-use Rattle.schedule.specs.LineLaws.{passed-none, passed-end, end-is}
+use Rattle.laws.specs.Kit.{sym, arith, needs}
+use Rattle.schedule.specs.Link.LineLaws.{passed-none, passed-end, end-is}
 use Rattle.reader.proofs.end_of.Statement.{statement}
 use Rattle.reader.proofs.end_of.Tie as tie
 

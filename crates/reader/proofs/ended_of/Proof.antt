@@ -1,5 +1,5 @@
-use borrow.Author.Needs.{needs}
-use Rattle.schedule.specs.LineLaws.{ended-end}
+use Rattle.laws.specs.Kit.{needs}
+use Rattle.schedule.specs.Link.LineLaws.{ended-end}
 use Rattle.reader.proofs.ended_of.Statement.{statement}
 use Rattle.reader.proofs.ended_of.Tie as tie
 

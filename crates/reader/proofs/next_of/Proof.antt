@@ -1,7 +1,5 @@
-use native.Mathlib.Omega.{arith}
-use borrow.Author.Needs.{needs}
-use Rattle.schedule.specs.Lines.{nextAt}
-use Rattle.schedule.specs.LineLaws.{end-le}
+use Rattle.laws.specs.Kit.{arith, needs}
+use Rattle.schedule.specs.{Lines.{nextAt}, Link.LineLaws.{end-le}}
 use Rattle.reader.proofs.next_of.Statement.{statement}
 use Rattle.reader.proofs.next_of.Tie as tie
 

@@ -1,9 +1,4 @@
-use Prim.Native.Nat.{_+_, _-_, _<_, _≤_}
-use mathlib.Core.Path.{_≡_, sym, _∙_}
-use native.Mathlib.Omega.{arith}
-use lib.ListN.{length}
-use lib.Seq.{length-take-le}
-use borrow.Author.Needs.{needs}
+use Rattle.laws.specs.Kit.{_+_, _-_, _<_, _≤_, _≡_, sym, _∙_, arith, length, length-take-le, needs}
 use Rattle.replay.proofs.fill.Statement.{statement}
 use Rattle.replay.proofs.fill.Tie as tie
 
@@ -47,26 +42,6 @@ returns-3 : tie.Need-returns-3 Inv-loop μ-loop
 returns-3 c = (omega arith, sym (length-take-le _ _ (omega arith)))
 
 pub fill-spec : {M : Type 1} → statement M
-fill-spec =
-    tie.close
-    (tie.spec
-    Inv-loop
-    μ-loop
-    (λ c. search needs)
-    (λ c. search needs)
-    (λ c. search needs)
-    (λ c. search needs)
-    (λ c κs. search needs)
-    same-length
-    (λ c. search needs)
-    sub-count
-    part-count-start
-    (λ c. search needs)
-    (λ c κs. search needs)
-    same-length-2
-    returns-2
-    add-n
-    loop-less
-    loop-again
-    (λ c. search needs)
-    returns-3)
+fill-spec = tie.close (tie.spec Inv-loop μ-loop (λ c. search needs) (λ c. search needs) (λ c. search needs) (λ c. search needs)
+    (λ c κs. search needs) same-length (λ c. search needs) sub-count part-count-start (λ c. search needs) (λ c κs. search needs)
+    same-length-2 returns-2 add-n loop-less loop-again (λ c. search needs) returns-3)

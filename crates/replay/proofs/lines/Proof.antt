@@ -1,11 +1,6 @@
-use mathlib.Core.Path.{_≡_, sym, ap, _∙_}
-use Prim.Native.Nat.{_-_}
-use native.Mathlib.Omega.{arith}
-use lib.ListN.{length}
-use lib.Seq.{length-sets, length-take-le}
+use Rattle.laws.specs.Kit.{_≡_, sym, ap, _∙_, _-_, arith, length, length-sets, length-take-le, needs}
 use Rattle.session.specs.Run.{ran-progress}
 use Rattle.replay.specs.Answers.{Reading, reading-start, reading-comes, reading-sum, reading-on, reading-end}
-use borrow.Author.Needs.{needs}
 use Rattle.replay.proofs.lines.Statement.{statement}
 use Rattle.replay.proofs.lines.Tie as tie
 
@@ -59,21 +54,6 @@ all-sent-requires : tie.Need-all-sent-requires Inv-loop μ-loop
 all-sent-requires c κs = reading-end (c .before .loop .inv .0) (c .loop-test .left)
 
 pub lines-spec : {M : Type 1} → statement M
-lines-spec =
-    tie.close
-    (tie.spec
-    Inv-loop
-    μ-loop
-    (λ c κs. search needs)
-    loop-holds
-    (λ c. search needs)
-    run-requires
-    add-next
-    array-share-prefix-out
-    slice-aggregate-print
-    print-requires
-    (λ c. search needs)
-    loop-less
-    loop-again
-    all-sent-requires
+lines-spec = tie.close (tie.spec Inv-loop μ-loop (λ c κs. search needs) loop-holds (λ c. search needs) run-requires add-next
+    array-share-prefix-out slice-aggregate-print print-requires (λ c. search needs) loop-less loop-again all-sent-requires
     (λ c. search needs))

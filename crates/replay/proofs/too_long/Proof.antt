@@ -1,6 +1,6 @@
-use Rattle.session.specs.Laws.{transcript-long}
+use Rattle.session.specs.TranscriptLaws.{transcript-long}
 use Rattle.replay.specs.Answers.{long-comes}
-use borrow.Author.Needs.{needs}
+use Rattle.laws.specs.Kit.{needs}
 use Rattle.replay.proofs.too_long.Statement.{statement}
 use Rattle.replay.proofs.too_long.Tie as tie
 

@@ -1,16 +1,12 @@
-use mathlib.Core.Path.{sym, _∙_}
-use Prim.Native.Nat.{_-_, _+_, _*_}
-use Rattle.laws.specs.All.{Rest, rest-fails, rest-next, rest-end}
-use borrow.Author.Tests.{not-true, not-false}
+use Rattle.laws.specs.{Kit.{sym, _∙_, _-_, _+_, _*_, not-true, not-false, needs}, All.{Rest, rest-fails, rest-next, rest-end}}
 use Rattle.table.specs.Value.{desk-cells, cellAt}
-use Rattle.rules.specs.Test.{cell, allCells}
-use borrow.Author.Needs.{needs}
+use Rattle.rules.specs.Mirror.Test.{cellTest, allCells}
 use Rattle.rules.proofs.cells_ok.Statement.{statement}
 use Rattle.rules.proofs.cells_ok.Tie as tie
 
 abbrev Inv-loop : tie.InvT-loop
 Inv-loop m a i cells x₀ x =
-    Rest (λ y. cell m a y (cellAt cells (i * desk-cells + y)) .passes) desk-cells (allCells m a i cells .passes) x
+    Rest (λ y. cellTest m a y (cellAt cells (i * desk-cells + y)) .passes) desk-cells (allCells m a i cells .passes) x
 
 abbrev μ-loop : tie.MeasureT-loop
 μ-loop m a i cells x₀ x = desk-cells - x
@@ -31,18 +27,5 @@ returns-2 : tie.Need-returns-2 Inv-loop μ-loop
 returns-2 c = rest-end (c .before .loop .inv) (search needs)
 
 pub cells-ok-spec : {M : Type 1} → statement M
-cells-ok-spec =
-    tie.close
-    (tie.spec
-    Inv-loop
-    μ-loop
-    loop-holds
-    (λ c. search needs)
-    (λ c. search needs)
-    (λ c κs. search needs)
-    (λ c κs. search needs)
-    returns
-    (λ c. search needs)
-    (λ c. search needs)
-    loop-again
-    returns-2)
+cells-ok-spec = tie.close (tie.spec Inv-loop μ-loop loop-holds (λ c. search needs) (λ c. search needs) (λ c κs. search needs)
+    (λ c κs. search needs) returns (λ c. search needs) (λ c. search needs) loop-again returns-2)

@@ -1,4 +1,4 @@
-use borrow.Author.Needs.{needs}
+use Rattle.laws.specs.Kit.{needs}
 use Rattle.rules.proofs.desk_ok.Statement.{statement}
 use Rattle.rules.proofs.desk_ok.Tie as tie
 
@@ -6,12 +6,5 @@ returns : tie.Need-returns
 returns c = cc
 
 pub desk-ok-spec : {M : Type 1} → statement M
-desk-ok-spec =
-    tie.close
-    (tie.spec
-    (λ c κs. search needs)
-    (λ c κs. search needs)
-    (λ c κs. search needs)
-    (λ c κs. search needs)
-    (λ c κs. search needs)
-    returns)
+desk-ok-spec = tie.close (tie.spec (λ c κs. search needs) (λ c κs. search needs) (λ c κs. search needs) (λ c κs. search needs)
+    (λ c κs. search needs) returns)

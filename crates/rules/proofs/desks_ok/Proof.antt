@@ -1,18 +1,13 @@
-use mathlib.Core.Path.{sym, _∙_}
-use Prim.Native.Nat.{_-_}
-use Rattle.laws.specs.All.{Rest, rest-fails, rest-next, rest-end}
-use borrow.Author.Tests.{not-true, not-false}
+use Rattle.laws.specs.{Kit.{sym, _∙_, _-_, not-true, not-false, getD, needs}, All.{Rest, rest-fails, rest-next, rest-end}}
 use Rattle.table.specs.Value.{desk0}
 use Rattle.clock.specs.Vectors.{places}
-use lib.ListN.{getD}
-use Rattle.rules.specs.Test.{desk, allDesks}
-use borrow.Author.Needs.{needs}
+use Rattle.rules.specs.Mirror.Test.{deskTest, allDesks}
 use Rattle.rules.proofs.desks_ok.Statement.{statement}
 use Rattle.rules.proofs.desks_ok.Tie as tie
 
 abbrev Inv-loop : tie.InvT-loop
 Inv-loop n m own gap cells opens desks i₀ i =
-    Rest (λ j. desk n m own gap cells opens j (getD desks j desk0) .passes) places (allDesks n m own gap cells opens desks .passes) i
+    Rest (λ j. deskTest n m own gap cells opens j (getD desks j desk0) .passes) places (allDesks n m own gap cells opens desks .passes) i
 
 abbrev μ-loop : tie.MeasureT-loop
 μ-loop n m own gap cells opens desks i₀ i = places - i
@@ -33,17 +28,5 @@ returns-2 : tie.Need-returns-2 Inv-loop μ-loop
 returns-2 c = rest-end (c .before .loop .inv) (search needs)
 
 pub desks-ok-spec : {M : Type 1} → statement M
-desks-ok-spec =
-    tie.close
-    (tie.spec
-    Inv-loop
-    μ-loop
-    loop-holds
-    (λ c. search needs)
-    (λ c. search needs)
-    (λ c κs. search needs)
-    returns
-    (λ c. search needs)
-    (λ c. search needs)
-    loop-again
-    returns-2)
+desks-ok-spec = tie.close (tie.spec Inv-loop μ-loop loop-holds (λ c. search needs) (λ c. search needs) (λ c κs. search needs) returns
+    (λ c. search needs) (λ c. search needs) loop-again returns-2)

@@ -1,5 +1,4 @@
-use mathlib.Core.Path.{_∙_}
-use borrow.Author.Needs.{needs}
+use Rattle.laws.specs.Kit.{_∙_, needs}
 use Rattle.rules.proofs.due_ok.Statement.{statement}
 use Rattle.rules.proofs.due_ok.Tie as tie
 
@@ -17,13 +16,5 @@ returns c = let p = c .before .before .before .before .before in
     )
 
 pub due-ok-spec : {M : Type 1} → statement M
-due-ok-spec =
-    tie.close
-    (tie.spec
-    (λ c κs. search needs)
-    (λ c κs. search needs)
-    (λ c κs. search needs)
-    (λ c κs. search needs)
-    (λ c κs. search needs)
-    (λ c κs. search needs)
-    returns)
+due-ok-spec = tie.close (tie.spec (λ c κs. search needs) (λ c κs. search needs) (λ c κs. search needs) (λ c κs. search needs)
+    (λ c κs. search needs) (λ c κs. search needs) returns)

@@ -1,16 +1,12 @@
-use mathlib.Core.Path.{sym, _∙_}
-use Prim.Native.Nat.{_-_}
-use Rattle.laws.specs.All.{Rest, rest-fails, rest-next, rest-end}
-use borrow.Author.Tests.{not-true, not-false}
+use Rattle.laws.specs.{Kit.{sym, _∙_, _-_, not-true, not-false, needs}, All.{Rest, rest-fails, rest-next, rest-end}}
 use Rattle.table.specs.Value.{entries}
-use Rattle.rules.specs.Test.{entry, allEntries}
-use borrow.Author.Needs.{needs}
+use Rattle.rules.specs.Mirror.Test.{entryTest, allEntries}
 use Rattle.rules.proofs.entries_ok.Statement.{statement}
 use Rattle.rules.proofs.entries_ok.Tie as tie
 
 abbrev Inv-loop : tie.InvT-loop
 Inv-loop n m own opens e₀ e =
-    Rest (λ f. entry n m own opens f .passes) entries (allEntries n m own opens .passes) e
+    Rest (λ f. entryTest n m own opens f .passes) entries (allEntries n m own opens .passes) e
 
 abbrev μ-loop : tie.MeasureT-loop
 μ-loop n m own opens e₀ e = entries - e
@@ -31,15 +27,5 @@ returns-2 : tie.Need-returns-2 Inv-loop μ-loop
 returns-2 c = rest-end (c .before .loop .inv) (search needs)
 
 pub entries-ok-spec : {M : Type 1} → statement M
-entries-ok-spec =
-    tie.close
-    (tie.spec
-    Inv-loop
-    μ-loop
-    loop-holds
-    (λ c κs. search needs)
-    returns
-    (λ c. search needs)
-    (λ c. search needs)
-    loop-again
-    returns-2)
+entries-ok-spec = tie.close (tie.spec Inv-loop μ-loop loop-holds (λ c κs. search needs) returns (λ c. search needs) (λ c. search needs)
+    loop-again returns-2)

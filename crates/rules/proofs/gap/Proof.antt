@@ -1,8 +1,5 @@
-use mathlib.Core.Path.{_≡_, sym, _∙_}
-use borrow.Author.Tests.{not-true, not-false}
-use Rattle.rules.specs.Gap.{gap-here, gap-down, gap-zero}
-use Rattle.rules.specs.Test.{has, gapOf}
-use borrow.Author.Needs.{needs}
+use Rattle.laws.specs.Kit.{_≡_, sym, _∙_, not-true, not-false, needs}
+use Rattle.rules.specs.{Link.Gap.{gap-here, gap-down, gap-zero}, Mirror.Test.{has, gapOf}}
 use Rattle.rules.proofs.gap.Statement.{statement}
 use Rattle.rules.proofs.gap.Tie as tie
 
@@ -25,15 +22,5 @@ returns-2 c = let L = c .before .loop in
     sym (gap-zero _ (L .k) (search needs)) ∙ L .inv
 
 pub gap-spec : {M : Type 1} → statement M
-gap-spec =
-    tie.close
-    (tie.spec
-    Inv-loop
-    μ-loop
-    (λ c. search needs)
-    (λ c κs. search needs)
-    returns
-    (λ c. search needs)
-    (λ c. search needs)
-    loop-again
-    returns-2)
+gap-spec = tie.close (tie.spec Inv-loop μ-loop (λ c. search needs) (λ c κs. search needs) returns (λ c. search needs) (λ c. search needs)
+    loop-again returns-2)

@@ -1,16 +1,11 @@
-use mathlib.Core.Path.{ap, _∙_}
-use Prim.Native.Nat.{ℕ, _-_}
+use Rattle.laws.specs.{Kit.{ap, _∙_, ℕ, _-_, getD, add-one, needs}, Tab.{FilledTo, filled-start, filled-more, filled-end}}
 use Rattle.clock.specs.Vectors.{places}
-use Rattle.laws.specs.Tab.{Filled, filled-start, filled-more, filled-end}
-use lib.ListN.{getD}
-use native.Mathlib.Numerals.{add-one}
-use Rattle.rules.specs.Test.{has, gapOf, gapAt, gaps}
-use borrow.Author.Needs.{needs}
+use Rattle.rules.specs.Mirror.Test.{has, gapOf, gapAt, gaps}
 use Rattle.rules.proofs.gap_counts.Statement.{statement}
 use Rattle.rules.proofs.gap_counts.Tie as tie
 
 abbrev Inv-loop : tie.InvT-loop
-Inv-loop opens own v₀ t₀ v t = Filled places (gapAt own opens) v₀ v t
+Inv-loop opens own v₀ t₀ v t = FilledTo places (gapAt own opens) v₀ v t
 
 abbrev μ-loop : tie.MeasureT-loop
 μ-loop opens own v₀ t₀ v t = places - t
@@ -29,19 +24,5 @@ unfolding gaps
 returns c = filled-end (c .before .loop .inv) (search needs)
 
 pub gap-counts-spec : {M : Type 1} → statement M
-gap-counts-spec =
-    tie.close
-    (tie.spec
-    Inv-loop
-    μ-loop
-    loop-holds
-    (λ c. search needs)
-    (λ c. search needs)
-    (λ c. search needs)
-    (λ c κs. search needs)
-    (λ c. search needs)
-    (λ c. search needs)
-    (λ c. search needs)
-    (λ c. search needs)
-    loop-again
-    returns)
+gap-counts-spec = tie.close (tie.spec Inv-loop μ-loop loop-holds (λ c. search needs) (λ c. search needs) (λ c. search needs)
+    (λ c κs. search needs) (λ c. search needs) (λ c. search needs) (λ c. search needs) (λ c. search needs) loop-again returns)

@@ -1,5 +1,5 @@
-use Rattle.rules.specs.Walk.{has-yes, has-no}
-use borrow.Author.Needs.{needs}
+use Rattle.rules.specs.Link.CodeLaws.{has-yes, has-no}
+use Rattle.laws.specs.Kit.{needs}
 use Rattle.rules.proofs.has.Statement.{statement}
 use Rattle.rules.proofs.has.Tie as tie
 
@@ -12,11 +12,4 @@ returns-2 c = let g = c .before .before .before .args in
     has-no (g .opens .now) (g .u) (g .k) (c .before .before .find .result) (c .before .before .find .ensures) (c .enum-told2 .given .1)
 
 pub has-spec : {M : Type 1} → statement M
-has-spec =
-    tie.close
-    (tie.spec
-    (λ c κs. search needs)
-    (λ c. search needs)
-    (λ c. search needs)
-    returns
-    returns-2)
+has-spec = tie.close (tie.spec (λ c κs. search needs) (λ c. search needs) (λ c. search needs) returns returns-2)

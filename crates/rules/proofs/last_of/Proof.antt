@@ -1,11 +1,6 @@
-use mathlib.Core.Path.{refl, sym, ap, _∙_}
-use Prim.Native.Nat.{_-_}
-use Rattle.laws.specs.All.{Rest, rest-fails, rest-next, rest-end}
-use mathlib.Core.Bool.{not}
-use Rattle.table.specs.Value.{entries}
-use Rattle.table.specs.Names.{namedAt}
-use Rattle.rules.specs.Test.{lastOf}
-use borrow.Author.Needs.{needs}
+use Rattle.laws.specs.{Kit.{refl, sym, ap, _∙_, _-_, not, needs}, All.{Rest, rest-fails, rest-next, rest-end}}
+use Rattle.table.specs.{Value.{entries}, EntryNames.{namedAt}}
+use Rattle.rules.specs.Mirror.Test.{lastOf}
 use Rattle.rules.proofs.last_of.Statement.{statement}
 use Rattle.rules.proofs.last_of.Tie as tie
 
@@ -29,16 +24,5 @@ returns-2 : tie.Need-returns-2 Inv-loop μ-loop
 returns-2 c = rest-end (c .before .loop .inv) (search needs)
 
 pub last-of-spec : {M : Type 1} → statement M
-last-of-spec =
-    tie.close
-    (tie.spec
-    Inv-loop
-    μ-loop
-    (λ c. search needs)
-    loop-holds
-    (λ c κs. search needs)
-    returns
-    (λ c. search needs)
-    (λ c. search needs)
-    loop-again
-    returns-2)
+last-of-spec = tie.close (tie.spec Inv-loop μ-loop (λ c. search needs) loop-holds (λ c κs. search needs) returns (λ c. search needs)
+    (λ c. search needs) loop-again returns-2)

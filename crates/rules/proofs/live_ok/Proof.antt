@@ -1,5 +1,4 @@
-use mathlib.Core.Path.{sym, _∙_}
-use borrow.Author.Needs.{needs}
+use Rattle.laws.specs.Kit.{sym, _∙_, needs}
 use Rattle.rules.proofs.live_ok.Statement.{statement}
 use Rattle.rules.proofs.live_ok.Tie as tie
 
@@ -10,11 +9,4 @@ returns-2 : tie.Need-returns-2
 returns-2 c = rw (sym (c .before .before .lt .ensures) ∙ c .before .if1 .left) (c .zero .ensures)
 
 pub live-ok-spec : {M : Type 1} → statement M
-live-ok-spec =
-    tie.close
-    (tie.spec
-    (λ c κs. search needs)
-    (λ c κs. search needs)
-    (λ c κs. search needs)
-    returns
-    returns-2)
+live-ok-spec = tie.close (tie.spec (λ c κs. search needs) (λ c κs. search needs) (λ c κs. search needs) returns returns-2)

@@ -1,14 +1,12 @@
-use mathlib.Core.Path.{_≡_, _∙_}
-use lib.Dec.{leb}
+use Rattle.laws.specs.Kit.{_≡_, _∙_, leb, needs}
 use Rattle.clock.specs.Vectors.{place}
-use Rattle.table.specs.Names.{number}
-use borrow.Author.Needs.{needs}
+use Rattle.table.specs.EntryNames.{entryNumber}
 use Rattle.rules.proofs.mark_live.Statement.{statement}
 use Rattle.rules.proofs.mark_live.Tie as tie
 
 -- the number against the count, as the code has them
 known : (c : tie.After-le)
-    → let g = c .before .before .before .before .before .before .before .args in leb (number (g .o)) (place (g .a) (g .o .writer)) ≡ c .le .result
+    → let g = c .before .before .before .before .before .before .before .args in leb (entryNumber (g .o)) (place (g .a) (g .o .writer)) ≡ c .le .result
 known c = cc
 
 returns : tie.Need-returns
@@ -18,18 +16,6 @@ returns-2 : tie.Need-returns-2
 returns-2 c = rw (known (c .before .before) ∙ c .before .if1 .left) (c .wait-ok .ensures)
 
 pub mark-live-spec : {M : Type 1} → statement M
-mark-live-spec =
-    tie.close
-    (tie.spec
-    (λ c κs. search needs)
-    (λ c κs. search needs)
-    (λ c κs. search needs)
-    (λ c κs. search needs)
-    (λ c κs. search needs)
-    (λ c κs. search needs)
-    (λ c κs. search needs)
-    (λ c κs. search needs)
-    (λ c κs. search needs)
-    (λ c κs. search needs)
-    returns
-    returns-2)
+mark-live-spec = tie.close (tie.spec (λ c κs. search needs) (λ c κs. search needs) (λ c κs. search needs) (λ c κs. search needs)
+    (λ c κs. search needs) (λ c κs. search needs) (λ c κs. search needs) (λ c κs. search needs) (λ c κs. search needs)
+    (λ c κs. search needs) returns returns-2)

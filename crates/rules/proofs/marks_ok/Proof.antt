@@ -1,16 +1,12 @@
-use mathlib.Core.Path.{sym, _∙_}
-use Prim.Native.Nat.{_-_}
-use Rattle.laws.specs.All.{Rest, rest-fails, rest-next, rest-end}
-use borrow.Author.Tests.{not-true, not-false}
+use Rattle.laws.specs.{Kit.{sym, _∙_, _-_, not-true, not-false, needs}, All.{Rest, rest-fails, rest-next, rest-end}}
 use Rattle.table.specs.Value.{entries, openAt}
-use Rattle.rules.specs.Test.{mark, allMarks}
-use borrow.Author.Needs.{needs}
+use Rattle.rules.specs.Mirror.Test.{markTest, allMarks}
 use Rattle.rules.proofs.marks_ok.Statement.{statement}
 use Rattle.rules.proofs.marks_ok.Tie as tie
 
 abbrev Inv-loop : tie.InvT-loop
 Inv-loop n a i opens e₀ e =
-    Rest (λ f. mark n a i (openAt opens f) .passes) entries (allMarks n a i opens .passes) e
+    Rest (λ f. markTest n a i (openAt opens f) .passes) entries (allMarks n a i opens .passes) e
 
 abbrev μ-loop : tie.MeasureT-loop
 μ-loop n a i opens e₀ e = entries - e
@@ -31,16 +27,5 @@ returns-2 : tie.Need-returns-2 Inv-loop μ-loop
 returns-2 c = rest-end (c .before .loop .inv) (search needs)
 
 pub marks-ok-spec : {M : Type 1} → statement M
-marks-ok-spec =
-    tie.close
-    (tie.spec
-    Inv-loop
-    μ-loop
-    loop-holds
-    (λ c κs. search needs)
-    (λ c κs. search needs)
-    returns
-    (λ c. search needs)
-    (λ c. search needs)
-    loop-again
-    returns-2)
+marks-ok-spec = tie.close (tie.spec Inv-loop μ-loop loop-holds (λ c κs. search needs) (λ c κs. search needs) returns (λ c. search needs)
+    (λ c. search needs) loop-again returns-2)

@@ -1,5 +1,4 @@
-use native.Mathlib.Omega.{arith}
-use borrow.Author.Needs.{needs}
+use Rattle.laws.specs.Kit.{arith, needs}
 use Rattle.rules.proofs.numbers.Statement.{statement}
 use Rattle.rules.proofs.numbers.Tie as tie
 
@@ -7,8 +6,4 @@ returns : tie.Need-returns
 returns c = λ t. omega (arith, c .before .shared-slice-known .given t)
 
 pub numbers-spec : {M : Type 1} → statement M
-numbers-spec =
-    tie.close
-    (tie.spec
-    (λ c κs. search needs)
-    returns)
+numbers-spec = tie.close (tie.spec (λ c κs. search needs) returns)

@@ -1,10 +1,6 @@
-use mathlib.Core.Bool.{true}
-use mathlib.Core.Path.{_≡_, sym, _∙_}
-use borrow.Author.Tests.{not-true, not-false}
+use Rattle.laws.specs.Kit.{true, _≡_, sym, _∙_, not-true, not-false, needs}
 use Rattle.machine.specs.Steps.{begins}
-use Rattle.rules.specs.Test.{ownTest}
-use Rattle.rules.specs.Walk.{desks-within}
-use borrow.Author.Needs.{needs}
+use Rattle.rules.specs.{Mirror.Test.{ownTest}, Link.CodeLaws.{desks-within}}
 use Rattle.rules.proofs.passes.Statement.{statement}
 use Rattle.rules.proofs.passes.Tie as tie
 
@@ -24,13 +20,5 @@ returns-2 c = rw (begun (c .before .before .before .before), ← c .before .befo
     (cc)
 
 pub passes-spec : {M : Type 1} → statement M
-passes-spec =
-    tie.close
-    (tie.spec
-    (λ c κs. search needs)
-    returns
-    (λ c κs. search needs)
-    (λ c κs. search needs)
-    entries-ok-requires
-    (λ c κs. search needs)
-    returns-2)
+passes-spec = tie.close (tie.spec (λ c κs. search needs) returns (λ c κs. search needs) (λ c κs. search needs) entries-ok-requires
+    (λ c κs. search needs) returns-2)

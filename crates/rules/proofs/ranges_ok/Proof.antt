@@ -1,4 +1,4 @@
-use borrow.Author.Needs.{needs}
+use Rattle.laws.specs.Kit.{needs}
 use Rattle.rules.proofs.ranges_ok.Statement.{statement}
 use Rattle.rules.proofs.ranges_ok.Tie as tie
 
@@ -6,17 +6,6 @@ returns : tie.Need-returns
 returns c = cc
 
 pub ranges-ok-spec : {M : Type 1} → statement M
-ranges-ok-spec =
-    tie.close
-    (tie.spec
-    (λ c κs. search needs)
-    (λ c κs. search needs)
-    (λ c κs. search needs)
-    (λ c κs. search needs)
-    (λ c κs. search needs)
-    (λ c κs. search needs)
-    (λ c κs. search needs)
-    (λ c κs. search needs)
-    (λ c κs. search needs)
-    (λ c κs. search needs)
-    returns)
+ranges-ok-spec = tie.close (tie.spec (λ c κs. search needs) (λ c κs. search needs) (λ c κs. search needs) (λ c κs. search needs)
+    (λ c κs. search needs) (λ c κs. search needs) (λ c κs. search needs) (λ c κs. search needs) (λ c κs. search needs)
+    (λ c κs. search needs) returns)

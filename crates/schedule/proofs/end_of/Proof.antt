@@ -1,13 +1,10 @@
-use Prim.Native.Nat.{_≤_, _-_}
-use native.Mathlib.Omega.{arith}
-use lib.ListN.{length}
-use Rattle.schedule.specs.LineLaws.{Passed, passed-none, passed-more, passed-here, passed-end}
-use borrow.Author.Needs.{needs}
+use Rattle.laws.specs.Kit.{_≤_, _-_, arith, length, needs}
+use Rattle.schedule.specs.Link.LineLaws.{NoLineEnd, passed-none, passed-more, passed-here, passed-end}
 use Rattle.schedule.proofs.end_of.Statement.{statement}
 use Rattle.schedule.proofs.end_of.Tie as tie
 
 abbrev Inv-loop : tie.InvT-loop
-Inv-loop s at e₀ e = (e ≤ length s) × Passed s at e
+Inv-loop s at e₀ e = (e ≤ length s) × NoLineEnd s at e
 
 abbrev μ-loop : tie.MeasureT-loop
 μ-loop s at e₀ e = length s - e
@@ -28,16 +25,5 @@ returns-3 : tie.Need-returns-3 Inv-loop μ-loop
 returns-3 c = let L = c .before .loop in omega (arith, passed-end _ _ (L .e) (c .loop-test .left) (L .inv .1))
 
 pub end-of-spec : {M : Type 1} → statement M
-end-of-spec =
-    tie.close
-    (tie.spec
-    Inv-loop
-    μ-loop
-    returns
-    loop-holds
-    (λ c. search needs)
-    returns-2
-    (λ c. search needs)
-    (λ c. search needs)
-    loop-again
-    returns-3)
+end-of-spec = tie.close (tie.spec Inv-loop μ-loop returns loop-holds (λ c. search needs) returns-2 (λ c. search needs) (λ c. search needs)
+    loop-again returns-3)

@@ -1,8 +1,6 @@
-use mathlib.Core.Path.{refl, _∙_}
-use native.Mathlib.Omega.{arith}
+use Rattle.laws.specs.Kit.{refl, _∙_, arith, needs}
 use Rattle.text.specs.Fields.{FieldIs}
-use Rattle.schedule.specs.Forms.{no-field, one-field, too-many, no-more}
-use borrow.Author.Needs.{needs}
+use Rattle.schedule.specs.Mirror.Forms.{no-field, one-field, too-many, no-more}
 use Rattle.schedule.proofs.last_two.Statement.{statement}
 use Rattle.schedule.proofs.last_two.Tie as tie
 
@@ -35,16 +33,5 @@ returns-4 c f =
     one-field _ _ _ _ _ (first (b .before .before .before .before)) ∙ (one-field _ _ _ _ _ (second b) ∙ no-more _ _ _ (omega (arith, c .if1 .left)))
 
 pub last-two-spec : {M : Type 1} → statement M
-last-two-spec =
-    tie.close
-    (tie.spec
-    (λ c κs. search needs)
-    (λ c. search needs)
-    (λ c. search needs)
-    returns
-    (λ c κs. search needs)
-    (λ c. search needs)
-    (λ c. search needs)
-    returns-2
-    returns-3
-    returns-4)
+last-two-spec = tie.close (tie.spec (λ c κs. search needs) (λ c. search needs) (λ c. search needs) returns (λ c κs. search needs)
+    (λ c. search needs) (λ c. search needs) returns-2 returns-3 returns-4)

@@ -1,8 +1,5 @@
-use Prim.Native.Nat.{ℕ, _+_}
-use mathlib.Core.Path.{ap}
-use native.Mathlib.Omega.{arith}
-use Rattle.schedule.specs.LineLaws.{line-take, line-past, end-le, start-past, start-within}
-use borrow.Author.Needs.{needs}
+use Rattle.laws.specs.Kit.{ℕ, _+_, ap, arith, needs}
+use Rattle.schedule.specs.Link.LineLaws.{line-take, line-past, end-le, start-past, start-within}
 use Rattle.schedule.proofs.line_at.Statement.{statement}
 use Rattle.schedule.proofs.line_at.Tie as tie
 
@@ -21,14 +18,7 @@ returns-2 c =
     )
 
 pub line-at-spec : {M : Type 1} → statement M
-line-at-spec =
-    tie.close
-    (tie.spec
-    (λ c κs. search needs)
+line-at-spec = tie.close (tie.spec (λ c κs. search needs)
     (λ c. let a = c .before .before .before .args in omega (arith, end-le (a .s .now) (a .at)))
-    (λ c. let a = c .before .before .before .args in omega (arith, end-le (a .s .now) (a .at)))
-    (λ c. search needs)
-    returns
-    (λ c. search needs)
-    (λ c. let a = c .before .before .before .args in omega (arith, end-le (a .s .now) (a .at)))
-    returns-2)
+    (λ c. let a = c .before .before .before .args in omega (arith, end-le (a .s .now) (a .at))) (λ c. search needs) returns
+    (λ c. search needs) (λ c. let a = c .before .before .before .args in omega (arith, end-le (a .s .now) (a .at))) returns-2)

@@ -1,7 +1,6 @@
-use native.Mathlib.Omega.{arith}
-use Rattle.schedule.specs.Forms.{no-bytes, too-long, told-none, told-two, told-three, line-trip, line-other}
-use Rattle.schedule.specs.Value.{said-by-value}
-use borrow.Author.Needs.{needs}
+use Rattle.laws.specs.Kit.{arith, needs}
+use Rattle.schedule.specs.Mirror.Forms.{no-bytes, too-long, told-none, told-two, told-three, line-trip, line-other}
+use Rattle.schedule.specs.LineValue.{said-by-value}
 use Rattle.schedule.proofs.line_of.Statement.{statement}
 use Rattle.schedule.proofs.line_of.Tie as tie
 
@@ -36,16 +35,5 @@ returns-6 c =
     said-by-value (told-none _ _ (line-other _ (k .before .if1 .left) (k .if2 .left) (r .0 .0 .1) (r .0 .1) (r .1)))
 
 pub line-of-spec : {M : Type 1} → statement M
-line-of-spec =
-    tie.close
-    (tie.spec
-    returns
-    returns-2
-    shared-slice-read-letter
-    (λ c κs. search needs)
-    (λ c κs. search needs)
-    (λ c κs. search needs)
-    returns-3
-    returns-4
-    returns-5
-    returns-6)
+line-of-spec = tie.close (tie.spec returns returns-2 shared-slice-read-letter (λ c κs. search needs) (λ c κs. search needs)
+    (λ c κs. search needs) returns-3 returns-4 returns-5 returns-6)

@@ -1,8 +1,6 @@
-use mathlib.Core.Path.{_≡_, refl, sym, ap, _∙_}
-use Rattle.schedule.specs.Grammar.{three}
-use Rattle.schedule.specs.Value.{lineValue}
-use Rattle.schedule.specs.Forms.{sayAt, triples, pairSays, no-field, one-field, three-two}
-use borrow.Author.Needs.{needs}
+use Rattle.laws.specs.Kit.{_≡_, refl, sym, ap, _∙_, needs}
+use Rattle.schedule.specs.{Grammar.{three}, LineValue.{lineValue}, Mirror.Forms.{sayAt, triples, pairSays, no-field, one-field}}
+use Rattle.schedule.specs.Mirror.Forms.{three-two}
 use Rattle.schedule.proofs.three.Statement.{statement}
 use Rattle.schedule.proofs.three.Tie as tie
 
@@ -20,16 +18,7 @@ returns : tie.Need-returns
 returns c = sym (ap lineValue (no-field _ 1 _ (rw (c .enum-told .given .1) at (c .before .before .next-field .ensures)) refl))
 
 pub three-spec : {M : Type 1} → statement M
-three-spec =
-    tie.close
-    (tie.spec
-    (λ c κs. search needs)
-    (λ c. search needs)
-    (λ c. search needs)
-    returns
-    (λ c κs. search needs)
-    (λ c. search needs)
-    (λ c. search needs)
-    (λ c. sym (ap lineValue (said (c .before .before)) ∙ rw (c .enum-told2 .given .1)))
+three-spec = tie.close (tie.spec (λ c κs. search needs) (λ c. search needs) (λ c. search needs) returns (λ c κs. search needs)
+    (λ c. search needs) (λ c. search needs) (λ c. sym (ap lineValue (said (c .before .before)) ∙ rw (c .enum-told2 .given .1)))
     (λ c. sym (ap lineValue (said (c .before .before .before .before)) ∙ rw (c .before .before .b .given .1, c .if1 .taken)))
     (λ c. sym (ap lineValue (said (c .before .before .before .before)) ∙ rw (c .before .before .b .given .1, c .if1 .left))))

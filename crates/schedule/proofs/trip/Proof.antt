@@ -1,8 +1,6 @@
-use mathlib.Core.Path.{refl, _∙_}
+use Rattle.laws.specs.Kit.{refl, _∙_, needs}
 use Rattle.text.specs.Fields.{FieldIs}
-use Rattle.schedule.specs.Forms.{no-field, one-field, told-none}
-use Rattle.schedule.specs.Cells.{told-trip, trip-bad}
-use borrow.Author.Needs.{needs}
+use Rattle.schedule.specs.{Mirror.Forms.{no-field, one-field, told-none}, Link.TripCells.{told-trip, trip-bad}}
 use Rattle.schedule.proofs.trip.Statement.{statement}
 use Rattle.schedule.proofs.trip.Tie as tie
 
@@ -23,15 +21,5 @@ returns-3 c =
     rw (one-field _ 1 _ _ _ (desk (b .before .before .before .before))) (told-trip _ _ _ _ _ _ (rw (c .before .n .given .1) at (b .trip-cells .ensures)))
 
 pub trip-spec : {M : Type 1} → statement M
-trip-spec =
-    tie.close
-    (tie.spec
-    (λ c κs. search needs)
-    (λ c. search needs)
-    (λ c. search needs)
-    returns
-    (λ c κs. search needs)
-    (λ c. search needs)
-    (λ c. search needs)
-    returns-2
-    returns-3)
+trip-spec = tie.close (tie.spec (λ c κs. search needs) (λ c. search needs) (λ c. search needs) returns (λ c κs. search needs)
+    (λ c. search needs) (λ c. search needs) returns-2 returns-3)

@@ -1,10 +1,6 @@
-use Prim.Native.Nat.{_≤_, _-_, _+_, _*_}
-use mathlib.Core.Path.{_≡_, refl, _∙_}
-use native.Mathlib.Omega.{arith}
-use lib.ListN.{length}
+use Rattle.laws.specs.Kit.{_≤_, _-_, _+_, _*_, _≡_, refl, _∙_, arith, length, needs}
 use Rattle.text.specs.Fields.{fieldsAt, FieldIs}
-use Rattle.schedule.specs.Cells.{storing, store-one, store-bad, store-end}
-use borrow.Author.Needs.{needs}
+use Rattle.schedule.specs.Link.TripCells.{storing, store-one, store-bad, store-end}
 use Rattle.schedule.proofs.trip_cells.Statement.{statement}
 use Rattle.schedule.proofs.trip_cells.Tie as tie
 
@@ -40,20 +36,7 @@ returns-2 : tie.Need-returns-2 Inv-loop μ-loop
 returns-2 c = c .before .loop .inv .1 ∙ store-end _ _ _ _ (c .loop-test .left)
 
 pub trip-cells-spec : {M : Type 1} → statement M
-trip-cells-spec =
-    tie.close
-    (tie.spec
-    Inv-loop
-    μ-loop
-    loop-holds
-    (λ c κs. search needs)
-    (λ c. search needs)
-    (λ c. search needs)
-    returns
-    (λ c. omega (arith, one (c .before) .small))
-    (λ c. omega (arith, c .before .before .before .before))
-    (λ c. omega (arith, c .before .before .before .before))
-    (λ c. omega (arith, c .before .before .before .before))
-    loop-less
-    loop-again
+trip-cells-spec = tie.close (tie.spec Inv-loop μ-loop loop-holds (λ c κs. search needs) (λ c. search needs) (λ c. search needs) returns
+    (λ c. omega (arith, one (c .before) .small)) (λ c. omega (arith, c .before .before .before .before))
+    (λ c. omega (arith, c .before .before .before .before)) (λ c. omega (arith, c .before .before .before .before)) loop-less loop-again
     returns-2)

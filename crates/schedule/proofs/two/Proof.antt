@@ -1,9 +1,5 @@
-use mathlib.Core.Path.{_≡_, sym, ap, _∙_}
-use mathlib.Core.Option.{some}
-use Rattle.schedule.specs.Grammar.{two}
-use Rattle.schedule.specs.Value.{lineValue}
-use Rattle.schedule.specs.Forms.{sayAt, pairs, pairSays}
-use borrow.Author.Needs.{needs}
+use Rattle.laws.specs.Kit.{_≡_, sym, ap, _∙_, some, needs}
+use Rattle.schedule.specs.{Grammar.{two}, LineValue.{lineValue}, Mirror.Forms.{sayAt, pairs, pairSays}}
 use Rattle.schedule.proofs.two.Statement.{statement}
 use Rattle.schedule.proofs.two.Tie as tie
 
@@ -23,12 +19,6 @@ returns c =
     sym (ap lineValue (b .last-two .ensures f ∙ ap (pairSays f) (c .enum-told .given .1)))
 
 pub two-spec : {M : Type 1} → statement M
-two-spec =
-    tie.close
-    (tie.spec
-    (λ c κs. search needs)
-    (λ c. search needs)
-    (λ c. search needs)
-    returns
+two-spec = tie.close (tie.spec (λ c κs. search needs) (λ c. search needs) (λ c. search needs) returns
     (λ c. sym (ap lineValue (said (c .before .before)) ∙ rw (c .if1 .taken)))
     (λ c. sym (ap lineValue (said (c .before .before)) ∙ rw (c .if1 .left))))

@@ -1,8 +1,6 @@
-use native.Mathlib.Omega.{arith}
-use mathlib.Core.Path.{refl}
+use Rattle.laws.specs.Kit.{arith, refl, needs}
 use Rattle.machine.specs.Steps as steps
-use Rattle.session.specs.Act.{acted-step, acted-quiet, acted-none}
-use borrow.Author.Needs.{needs}
+use Rattle.session.specs.Link.LineTurn.{acted-step, acted-quiet, acted-none}
 use Rattle.session.proofs.act.Statement.{statement}
 use Rattle.session.proofs.act.Tie as tie
 
@@ -65,24 +63,6 @@ returns-6 c ds p =
     rw (c .no-step2 .ensures, e) (acted-none _ (rw e at p) refl)
 
 pub act-spec : {M : Type 1} → statement M
-act-spec =
-    tie.close
-    (tie.spec
-    (λ c. search needs)
-    deliver-at-requires
-    (λ c. search needs)
-    read-at-requires
-    (λ c. search needs)
-    write-at-requires
-    (λ c. search needs)
-    trip-requires
-    (λ c. search needs)
-    (λ c κs. search needs)
-    (λ c. search needs)
-    (λ c κs. search needs)
-    returns
-    returns-2
-    returns-3
-    returns-4
-    returns-5
-    returns-6)
+act-spec = tie.close (tie.spec (λ c. search needs) deliver-at-requires (λ c. search needs) read-at-requires (λ c. search needs)
+    write-at-requires (λ c. search needs) trip-requires (λ c. search needs) (λ c κs. search needs) (λ c. search needs)
+    (λ c κs. search needs) returns returns-2 returns-3 returns-4 returns-5 returns-6)

@@ -1,7 +1,7 @@
 use Rattle.answer.specs.Bytes.{answerLine}
 use Rattle.reply.specs.Meaning.{answerOf}
 use Rattle.session.specs.Run.{print-upto, print-short}
-use borrow.Author.Needs.{needs}
+use Rattle.laws.specs.Kit.{needs}
 use Rattle.session.proofs.print.Statement.{statement}
 use Rattle.session.proofs.print.Tie as tie
 
@@ -16,13 +16,5 @@ returns-2 c =
     print-short (g .args .out .now) (g .args .at) (answerLine (answerOf (g .args .a) (g .args .names .now))) _ _ (g .pre) (c .before .before .before .before .put .ensures) (c .enum-told .given .1)
 
 pub print-spec : {M : Type 1} → statement M
-print-spec =
-    tie.close
-    (tie.spec
-    (λ c κs. search needs)
-    (λ c. search needs)
-    (λ c. search needs)
-    (λ c. search needs)
-    returns
-    (λ c. search needs)
-    returns-2)
+print-spec = tie.close (tie.spec (λ c κs. search needs) (λ c. search needs) (λ c. search needs) (λ c. search needs) returns
+    (λ c. search needs) returns-2)

@@ -1,19 +1,8 @@
-use Prim.Native.Nat.{ℕ, _-_, _<_, _≤_}
-use mathlib.Core.Path.{_≡_, refl, sym, ap, _∙_}
-use mathlib.Core.List.{List}
-use native.Mathlib.Omega.{arith}
-use lib.ListN.{length, getD}
-use Rattle.laws.specs.Stores.{stored-long}
-use Rattle.schedule.specs.Lines.{lineAt, nextAt}
-use Rattle.schedule.specs.LineLaws.{line-within, next-more}
-use Rattle.table.specs.Value.{desk0}
-use Rattle.table.specs.Model.{tableOf}
-use Rattle.session.specs.Line.{actor, seatOf}
-use Rattle.session.specs.Act.{Seated}
-use Rattle.session.specs.Session.{Session}
-use Rattle.session.specs.Holds.{Holds, owns-put}
+use Rattle.laws.specs.{Kit.{ℕ, _-_, _<_, _≤_, _≡_, refl, sym, ap, _∙_, List, arith, length, getD, needs}, Stores.{stored-long}}
+use Rattle.schedule.specs.{Lines.{lineAt, nextAt}, Link.LineLaws.{line-within, next-more}}
+use Rattle.table.specs.{Value.{desk0}, Model.{tableOf}}
+use Rattle.session.specs.{Mirror.LineValue.{lineActor, seatOf}, Link.LineTurn.{Seated}, Session.{Session}, Holds.{Holds, owns-put}}
 use Rattle.session.specs.Run.{InLoop, going-start, going-on, going-end, said-is, next-place}
-use borrow.Author.Needs.{needs}
 use Rattle.session.proofs.run.Statement.{statement}
 use Rattle.session.proofs.run.Tie as tie
 
@@ -36,7 +25,7 @@ abbrev textOf : tie.After-first-line Inv-loop μ-loop → List ℕ
 textOf c = c .before .before .before .before .before .before .before .before .before .args .text .now
 
 -- the place in the array of desks is the seat of the line's desk
-seat-is : (c : tie.After-seat Inv-loop μ-loop) → c .seat .result ≡ seatOf (actor (c .before .before .said .result))
+seat-is : (c : tie.After-seat Inv-loop μ-loop) → c .seat .result ≡ seatOf (lineActor (c .before .before .said .result))
 seat-is c = c .seat .ensures .0 ∙ ap seatOf (c .before .actor .ensures)
 
 -- what a line asks, of any session that the values hold
@@ -44,7 +33,7 @@ seated : (c : tie.After-opens-size Inv-loop μ-loop) (z : Session)
     → let L = read c .before .before .before .loop in
     Holds (tableOf (L .n) (L .m) (L .desks) (L .cells) (L .opens)) z
     → Seated (tableOf (L .n) (L .m) (L .desks) (L .cells) (L .opens)) (L .own)
-    (actor (c .before .before .before .before .before .before .before .said .result))
+    (lineActor (c .before .before .before .before .before .before .before .said .result))
     (getD (L .desks) (c .before .before .before .before .before .seat .result) desk0) z
 seated c z h = let L = read c .before .before .before .loop in record {
   holds = h;
@@ -128,37 +117,8 @@ returns-2 c z h =
     going-end (L .inv .going z h) (λ l. omega (arith, c .if1 .taken, L .inv .long, L .inv .room))
 
 pub run-spec : {M : Type 1} → statement M
-run-spec =
-    tie.close
-    (tie.spec
-    Inv-loop
-    μ-loop
-    (λ c κs. search needs)
-    (λ c κs. search needs)
-    loop-holds
-    (λ c. search needs)
-    (λ c κs. search needs)
-    (λ c. search needs)
-    (λ c κs. search needs)
-    (λ c κs. search needs)
-    (λ c κs. search needs)
-    (λ c κs. search needs)
-    (λ c κs. search needs)
-    (λ c κs. search needs)
-    (λ c. search needs)
-    (λ c. search needs)
-    turn-requires
-    (λ c. search needs)
-    (λ c. search needs)
-    (λ c. search needs)
-    (λ c. search needs)
-    (λ c. search needs)
-    (λ c. search needs)
-    (λ c κs. search needs)
-    behind-requires
-    loop-less
-    loop-again
-    (λ c. search needs)
-    returns
-    (λ c. search needs)
-    returns-2)
+run-spec = tie.close (tie.spec Inv-loop μ-loop (λ c κs. search needs) (λ c κs. search needs) loop-holds (λ c. search needs)
+    (λ c κs. search needs) (λ c. search needs) (λ c κs. search needs) (λ c κs. search needs) (λ c κs. search needs) (λ c κs. search needs)
+    (λ c κs. search needs) (λ c κs. search needs) (λ c. search needs) (λ c. search needs) turn-requires (λ c. search needs)
+    (λ c. search needs) (λ c. search needs) (λ c. search needs) (λ c. search needs) (λ c. search needs) (λ c κs. search needs)
+    behind-requires loop-less loop-again (λ c. search needs) returns (λ c. search needs) returns-2)

@@ -1,10 +1,6 @@
-use mathlib.Core.Path.{refl}
-use native.Mathlib.Omega.{arith}
-use Rattle.schedule.specs.Grammar.{lineOf}
-use Rattle.schedule.specs.Value.{value-said}
-use Rattle.schedule.specs.Facts.{cells-there, few-cells}
-use Rattle.session.specs.Line.{means}
-use borrow.Author.Needs.{needs}
+use Rattle.laws.specs.Kit.{refl, arith, needs}
+use Rattle.schedule.specs.{Grammar.{lineOf}, LineValue.{value-said}, LineFacts.{cells-there, few-cells}}
+use Rattle.session.specs.Mirror.LineValue.{means}
 use Rattle.session.proofs.said.Statement.{statement}
 use Rattle.session.proofs.said.Tie as tie
 
@@ -20,10 +16,4 @@ returns-2 : tie.Need-returns-2
 returns-2 c = rw (c .if1 .left) record { is = refl; few = search needs }
 
 pub said-spec : {M : Type 1} → statement M
-said-spec =
-    tie.close
-    (tie.spec
-    (λ c κs. search needs)
-    (λ c κs. search needs)
-    returns
-    returns-2)
+said-spec = tie.close (tie.spec (λ c κs. search needs) (λ c κs. search needs) returns returns-2)

@@ -1,9 +1,6 @@
-use mathlib.Core.Path.{sym, _∙_}
-use native.Mathlib.Omega.{arith}
+use Rattle.laws.specs.Kit.{sym, _∙_, arith, needs}
 use Rattle.clock.specs.Vectors.{places}
-use Rattle.machine.specs.Rules.{In}
-use Rattle.machine.specs.Proofs.Refusals.{says-within}
-use borrow.Author.Needs.{needs}
+use Rattle.machine.specs.{Rules.{In}, Proofs.Refusals.{says-within}}
 use Rattle.session.proofs.seat.Statement.{statement}
 use Rattle.session.proofs.seat.Tie as tie
 
@@ -20,10 +17,4 @@ returns-2 : tie.Need-returns-2
 returns-2 c = (rw (← c .before .inside .ensures, c .if1 .left), search needs)
 
 pub seat-spec : {M : Type 1} → statement M
-seat-spec =
-    tie.close
-    (tie.spec
-    (λ c κs. search needs)
-    sub-result
-    returns
-    returns-2)
+seat-spec = tie.close (tie.spec (λ c κs. search needs) sub-result returns returns-2)

@@ -1,6 +1,5 @@
-use Rattle.session.specs.Line.{lineIn}
-use Rattle.session.specs.Act.{turned-first, turned-act, acting}
-use borrow.Author.Needs.{needs}
+use Rattle.session.specs.{Mirror.LineValue.{lineIn}, Link.LineTurn.{turned-first, turned-act, acting}}
+use Rattle.laws.specs.Kit.{needs}
 use Rattle.session.proofs.turn.Statement.{statement}
 use Rattle.session.proofs.turn.Tie as tie
 
@@ -18,10 +17,4 @@ returns-2 c ds z h =
     turned-act z (lineIn (g .s) (g .list .now)) (c .before .before .before .before .before .if1 .left) h (λ p. c .before .act .ensures ds p)
 
 pub turn-spec : {M : Type 1} → statement M
-turn-spec =
-    tie.close
-    (tie.spec
-    (λ c κs. search needs)
-    returns
-    act-requires
-    returns-2)
+turn-spec = tie.close (tie.spec (λ c κs. search needs) returns act-requires returns-2)

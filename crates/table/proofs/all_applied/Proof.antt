@@ -1,15 +1,7 @@
-use Rattle.machine.specs.Table.{done}
-use Prim.Native.Nat.{_≤_, _-_, _+_}
-use mathlib.Core.Path.{_≡_, sym, _∙_}
-use native.Mathlib.Omega.{arith}
-use borrow.Author.Tests.{eq-eqb, ne-eqb}
-use lib.Dec.{eqb}
-use Rattle.laws.specs.All.{Rest, rest-fails, rest-next, rest-end}
-use Rattle.machine.specs.Steps.{everywhere}
+use Rattle.machine.specs.{Table.{done}, Steps.{everywhere}}
+use Rattle.laws.specs.{Kit.{_≤_, _-_, _+_, _≡_, sym, _∙_, arith, eq-eqb, ne-eqb, eqb, needs}, All.{Rest, rest-fails, rest-next, rest-end}}
 use Rattle.clock.specs.Vectors.{place, place-at}
-use Rattle.table.specs.Value.{openAt}
-use Rattle.table.specs.Model.{openM}
-use borrow.Author.Needs.{needs}
+use Rattle.table.specs.{Value.{openAt}, Model.{openM}}
 use Rattle.table.proofs.all_applied.Statement.{statement}
 use Rattle.table.proofs.all_applied.Tie as tie
 
@@ -42,16 +34,5 @@ returns-2 : tie.Need-returns-2 Inv-loop μ-loop
 returns-2 c = rest-end (c .before .loop .inv .1) (search needs)
 
 pub all-applied-spec : {M : Type 1} → statement M
-all-applied-spec =
-    tie.close
-    (tie.spec
-    Inv-loop
-    μ-loop
-    loop-holds
-    (λ c. search needs)
-    (λ c κs. search needs)
-    returns
-    (λ c. search needs)
-    (λ c. search needs)
-    loop-again
-    returns-2)
+all-applied-spec = tie.close (tie.spec Inv-loop μ-loop loop-holds (λ c. search needs) (λ c κs. search needs) returns (λ c. search needs)
+    (λ c. search needs) loop-again returns-2)

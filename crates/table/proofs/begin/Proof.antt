@@ -1,6 +1,5 @@
-use mathlib.Core.Path.{sym, _∙_}
-use Rattle.table.specs.Begin.{begins-yes, begins-no}
-use borrow.Author.Needs.{needs}
+use Rattle.laws.specs.Kit.{sym, _∙_, needs}
+use Rattle.table.specs.Beginning.{begins-yes, begins-no}
 use Rattle.table.proofs.begin.Statement.{statement}
 use Rattle.table.proofs.begin.Tie as tie
 
@@ -13,11 +12,4 @@ returns-2 c = let g = c .before .before .before .args in
     rw (c .fresh2 .ensures) (begins-no (g .n) (g .m) (sym (c .before .before .begins .ensures) ∙ c .before .if1 .left))
 
 pub begin-spec : {M : Type 1} → statement M
-begin-spec =
-    tie.close
-    (tie.spec
-    (λ c κs. search needs)
-    (λ c κs. search needs)
-    returns
-    (λ c κs. search needs)
-    returns-2)
+begin-spec = tie.close (tie.spec (λ c κs. search needs) (λ c κs. search needs) returns (λ c κs. search needs) returns-2)

@@ -1,4 +1,4 @@
-use borrow.Author.Needs.{needs}
+use Rattle.laws.specs.Kit.{needs}
 use Rattle.table.proofs.begins.Statement.{statement}
 use Rattle.table.proofs.begins.Tie as tie
 
@@ -11,10 +11,4 @@ returns-2 c = let i = c .before .inside .ensures in
     rw (← i, c .if1 .left)
 
 pub begins-spec : {M : Type 1} → statement M
-begins-spec =
-    tie.close
-    (tie.spec
-    (λ c κs. search needs)
-    (λ c κs. search needs)
-    returns
-    returns-2)
+begins-spec = tie.close (tie.spec (λ c κs. search needs) (λ c κs. search needs) returns returns-2)

@@ -1,6 +1,5 @@
-use mathlib.Core.Path.{sym, _∙_}
+use Rattle.laws.specs.Kit.{sym, _∙_, needs}
 use Rattle.table.specs.Value.{cell-writer, cell-status, cell-vector}
-use borrow.Author.Needs.{needs}
 use Rattle.table.proofs.cell_at.Statement.{statement}
 use Rattle.table.proofs.cell_at.Tie as tie
 
@@ -11,15 +10,5 @@ returns c = let g = c .before .before .before .before .args in
     λ j. record { writer = sym (cell-writer l (g .s)) j; status = sym (cell-status l (g .s)) j; vector = v j }
 
 pub cell-at-spec : {M : Type 1} → statement M
-cell-at-spec =
-    tie.close
-    (tie.spec
-    (λ c. search needs)
-    (λ c. search needs)
-    (λ c κs. search needs)
-    (λ c. search needs)
-    (λ c. search needs)
-    (λ c. search needs)
-    (λ c. search needs)
-    (λ c. search needs)
-    returns)
+cell-at-spec = tie.close (tie.spec (λ c. search needs) (λ c. search needs) (λ c κs. search needs) (λ c. search needs) (λ c. search needs)
+    (λ c. search needs) (λ c. search needs) (λ c. search needs) returns)

@@ -1,13 +1,6 @@
 use Rattle.clock.specs.Vectors.{places}
-use mathlib.Core.Path.{_≡_}
-use native.Mathlib.Omega.{arith}
-use lib.ListN.{length}
-use Prim.Native.Nat.{_<_}
-use Rattle.laws.specs.Own.{unmapped, at-own}
-use Rattle.table.specs.Value.{desk0}
-use Rattle.table.specs.Shape.{DeskShape}
-use Rattle.table.specs.declared.Desk.{Desk}
-use borrow.Author.Needs.{needs}
+use Rattle.laws.specs.{Kit.{_≡_, arith, length, _<_, needs}, Owned.{unmapped, at-own}}
+use Rattle.table.specs.{Value.{desk0}, TypeShape.{DeskShape}, declared.Desk.{Desk}}
 use Rattle.table.proofs.desks_shape.Statement.{statement}
 use Rattle.table.proofs.desks_shape.Tie as tie
 

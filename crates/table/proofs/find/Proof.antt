@@ -1,9 +1,5 @@
-use Rattle.table.specs.Value.{entries}
-use Prim.Native.Nat.{_-_}
-use mathlib.Core.Path.{sym, _∙_}
-use native.Mathlib.Omega.{arith}
-use Rattle.table.specs.Names.{namedAt, Seen, seen-none, seen-more, seen-all}
-use borrow.Author.Needs.{needs}
+use Rattle.table.specs.{Value.{entries}, EntryNames.{namedAt, Seen, seen-none, seen-more, seen-all}}
+use Rattle.laws.specs.Kit.{_-_, sym, _∙_, arith, needs}
 use Rattle.table.proofs.find.Statement.{statement}
 use Rattle.table.proofs.find.Tie as tie
 
@@ -23,17 +19,5 @@ returns-2 : tie.Need-returns-2 Inv-loop μ-loop
 returns-2 c = seen-all (c .before .loop .inv) (search needs)
 
 pub find-spec : {M : Type 1} → statement M
-find-spec =
-    tie.close
-    (tie.spec
-    Inv-loop
-    μ-loop
-    (λ c κs. search needs)
-    (λ c. seen-none)
-    (λ c. search needs)
-    (λ c κs. search needs)
-    returns
-    (λ c. search needs)
-    (λ c. search needs)
-    loop-again
-    returns-2)
+find-spec = tie.close (tie.spec Inv-loop μ-loop (λ c κs. search needs) (λ c. seen-none) (λ c. search needs) (λ c κs. search needs) returns
+    (λ c. search needs) (λ c. search needs) loop-again returns-2)

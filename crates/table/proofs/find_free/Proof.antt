@@ -1,10 +1,5 @@
-use Rattle.table.specs.Value.{entries}
-use Prim.Native.Nat.{_-_}
-use mathlib.Core.Path.{sym, _∙_}
-use native.Mathlib.Omega.{arith}
-use borrow.Author.Tests.{eq-eqb, ne-eqb}
-use Rattle.table.specs.Names.{freeAt, Seen, seen-none, seen-more, seen-all}
-use borrow.Author.Needs.{needs}
+use Rattle.table.specs.{Value.{entries}, EntryNames.{freeAt, Seen, seen-none, seen-more, seen-all}}
+use Rattle.laws.specs.Kit.{_-_, sym, _∙_, arith, eq-eqb, ne-eqb, needs}
 use Rattle.table.proofs.find_free.Statement.{statement}
 use Rattle.table.proofs.find_free.Tie as tie
 
@@ -25,17 +20,5 @@ returns-2 : tie.Need-returns-2 Inv-loop μ-loop
 returns-2 c = seen-all (c .before .loop .inv) (search needs)
 
 pub find-free-spec : {M : Type 1} → statement M
-find-free-spec =
-    tie.close
-    (tie.spec
-    Inv-loop
-    μ-loop
-    (λ c κs. search needs)
-    (λ c. seen-none)
-    (λ c. search needs)
-    (λ c κs. search needs)
-    returns
-    (λ c. search needs)
-    (λ c. search needs)
-    loop-again
-    returns-2)
+find-free-spec = tie.close (tie.spec Inv-loop μ-loop (λ c κs. search needs) (λ c. seen-none) (λ c. search needs) (λ c κs. search needs)
+    returns (λ c. search needs) (λ c. search needs) loop-again returns-2)

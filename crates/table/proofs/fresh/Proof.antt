@@ -1,5 +1,5 @@
-use Rattle.table.specs.Begin.{freshTable}
-use borrow.Author.Needs.{needs}
+use Rattle.table.specs.Beginning.{freshTable}
+use Rattle.laws.specs.Kit.{needs}
 use Rattle.table.proofs.fresh.Statement.{statement}
 use Rattle.table.proofs.fresh.Tie as tie
 

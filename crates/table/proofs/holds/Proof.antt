@@ -1,9 +1,5 @@
-use mathlib.Core.Path.{sym, ap, _∙_}
-use Rattle.table.specs.Value.{openAt}
-use Rattle.table.specs.Names.{other-writer, same-writer}
-use lib.Dec.{eqb}
-use Prim.Native.Nat.{ℕ}
-use borrow.Author.Needs.{needs}
+use Rattle.laws.specs.Kit.{sym, ap, _∙_, eqb, ℕ, needs}
+use Rattle.table.specs.{Value.{openAt}, EntryNames.{other-writer, same-writer}}
 use Rattle.table.proofs.holds.Statement.{statement}
 use Rattle.table.proofs.holds.Tie as tie
 
@@ -19,12 +15,4 @@ returns-2 c = let g = c .before .before .before .before .args in
     ∙ sym (same-writer (openAt (g .opens .now) (g .e)) (g .u) (g .k) (search needs) (sym w ∙ c .before .if1 .left))
 
 pub holds-spec : {M : Type 1} → statement M
-holds-spec =
-    tie.close
-    (tie.spec
-    (λ c κs. search needs)
-    (λ c κs. search needs)
-    returns
-    (λ c. search needs)
-    (λ c κs. search needs)
-    returns-2)
+holds-spec = tie.close (tie.spec (λ c κs. search needs) (λ c κs. search needs) returns (λ c. search needs) (λ c κs. search needs) returns-2)

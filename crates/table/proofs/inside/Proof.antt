@@ -1,5 +1,4 @@
-use borrow.Author.Tests.{le-leb}
-use borrow.Author.Needs.{needs}
+use Rattle.laws.specs.Kit.{le-leb, needs}
 use Rattle.table.proofs.inside.Statement.{statement}
 use Rattle.table.proofs.inside.Tie as tie
 

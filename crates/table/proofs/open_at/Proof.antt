@@ -1,6 +1,5 @@
-use mathlib.Core.Path.{sym, _∙_}
+use Rattle.laws.specs.Kit.{sym, _∙_, needs}
 use Rattle.table.specs.Value.{open-writer, open-status, open-cell, open-vector, open-marks}
-use borrow.Author.Needs.{needs}
 use Rattle.table.proofs.open_at.Statement.{statement}
 use Rattle.table.proofs.open_at.Tie as tie
 
@@ -18,20 +17,6 @@ returns c = let g = c .before .before .before .before .before .before .before .a
     }
 
 pub open-at-spec : {M : Type 1} → statement M
-open-at-spec =
-    tie.close
-    (tie.spec
-    (λ c. search needs)
-    (λ c. search needs)
-    (λ c κs. search needs)
-    (λ c. search needs)
-    (λ c κs. search needs)
-    (λ c. search needs)
-    (λ c. search needs)
-    (λ c. search needs)
-    (λ c. search needs)
-    (λ c. search needs)
-    (λ c. search needs)
-    (λ c. search needs)
-    (λ c. search needs)
-    returns)
+open-at-spec = tie.close (tie.spec (λ c. search needs) (λ c. search needs) (λ c κs. search needs) (λ c. search needs) (λ c κs. search needs)
+    (λ c. search needs) (λ c. search needs) (λ c. search needs) (λ c. search needs) (λ c. search needs) (λ c. search needs)
+    (λ c. search needs) (λ c. search needs) returns)

@@ -1,6 +1,5 @@
-use mathlib.Core.Path.{sym}
+use Rattle.laws.specs.Kit.{sym, needs}
 use Rattle.table.specs.Value.{open-place}
-use borrow.Author.Needs.{needs}
 use Rattle.table.proofs.place_at.Statement.{statement}
 use Rattle.table.proofs.place_at.Tie as tie
 
@@ -8,12 +7,5 @@ returns : tie.Need-returns
 returns c = let g = c .before .args in sym (open-place (g .opens .now) (g .e) (g .t) (search needs))
 
 pub place-at-spec : {M : Type 1} → statement M
-place-at-spec =
-    tie.close
-    (tie.spec
-    (λ c. search needs)
-    (λ c. search needs)
-    (λ c. search needs)
-    (λ c. search needs)
-    (λ c. search needs)
+place-at-spec = tie.close (tie.spec (λ c. search needs) (λ c. search needs) (λ c. search needs) (λ c. search needs) (λ c. search needs)
     returns)

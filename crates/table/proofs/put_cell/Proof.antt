@@ -1,7 +1,5 @@
-use mathlib.Core.Path.{_∙_}
-use lib.ListN.{length-set}
+use Rattle.laws.specs.Kit.{_∙_, length-set, needs}
 use Rattle.table.specs.Value.{putCell-steps}
-use borrow.Author.Needs.{needs}
 use Rattle.table.proofs.put_cell.Statement.{statement}
 use Rattle.table.proofs.put_cell.Tie as tie
 
@@ -14,15 +12,5 @@ returns c = let g = c .before .before .before .args in
     }
 
 pub put-cell-spec : {M : Type 1} → statement M
-put-cell-spec =
-    tie.close
-    (tie.spec
-    (λ c. search needs)
-    (λ c. search needs)
-    (λ c. search needs)
-    (λ c. search needs)
-    (λ c. search needs)
-    (λ c. search needs)
-    (λ c. search needs)
-    (λ c κs. search needs)
-    returns)
+put-cell-spec = tie.close (tie.spec (λ c. search needs) (λ c. search needs) (λ c. search needs) (λ c. search needs) (λ c. search needs)
+    (λ c. search needs) (λ c. search needs) (λ c κs. search needs) returns)

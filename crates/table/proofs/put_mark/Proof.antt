@@ -1,5 +1,5 @@
 use Rattle.table.specs.Value.{putMark}
-use borrow.Author.Needs.{needs}
+use Rattle.laws.specs.Kit.{needs}
 use Rattle.table.proofs.put_mark.Statement.{statement}
 use Rattle.table.proofs.put_mark.Tie as tie
 
@@ -8,11 +8,4 @@ unfolding putMark
 returns c = search needs
 
 pub put-mark-spec : {M : Type 1} → statement M
-put-mark-spec =
-    tie.close
-    (tie.spec
-    (λ c. search needs)
-    (λ c. search needs)
-    (λ c. search needs)
-    (λ c κs. search needs)
-    returns)
+put-mark-spec = tie.close (tie.spec (λ c. search needs) (λ c. search needs) (λ c. search needs) (λ c κs. search needs) returns)

@@ -1,10 +1,5 @@
-use mathlib.Core.Path.{ap, _∙_}
-use Prim.Native.Nat.{ℕ, _+_, _*_}
-use mathlib.Core.List.{List}
-use lib.ListN.{length-set}
-use lib.Seq.{sets}
+use Rattle.laws.specs.Kit.{ap, _∙_, ℕ, _+_, _*_, List, length-set, sets, needs}
 use Rattle.table.specs.Value.{open-width, marks-from, putOpen-steps}
-use borrow.Author.Needs.{needs}
 use Rattle.table.proofs.put_open.Statement.{statement}
 use Rattle.table.proofs.put_open.Tie as tie
 
@@ -19,20 +14,6 @@ returns c = let g = c .before .before .before .before .before .before .args in
     }
 
 pub put-open-spec : {M : Type 1} → statement M
-put-open-spec =
-    tie.close
-    (tie.spec
-    (λ c. search needs)
-    (λ c. search needs)
-    (λ c. search needs)
-    (λ c. search needs)
-    (λ c. search needs)
-    (λ c. search needs)
-    (λ c. search needs)
-    (λ c. search needs)
-    (λ c. search needs)
-    (λ c. search needs)
-    (λ c κs. search needs)
-    (λ c. search needs)
-    (λ c κs. search needs)
-    returns)
+put-open-spec = tie.close (tie.spec (λ c. search needs) (λ c. search needs) (λ c. search needs) (λ c. search needs) (λ c. search needs)
+    (λ c. search needs) (λ c. search needs) (λ c. search needs) (λ c. search needs) (λ c. search needs) (λ c κs. search needs)
+    (λ c. search needs) (λ c κs. search needs) returns)

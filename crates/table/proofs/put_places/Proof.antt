@@ -1,11 +1,6 @@
 use Rattle.clock.specs.Vectors.{places}
-use Prim.Native.Nat.{_≤_, _-_, _+_}
-use mathlib.Core.Path.{_≡_, refl, sym, _∙_}
-use native.Mathlib.Nat.{add-zero}
-use lib.ListN.{length, drop, length-set}
-use lib.Seq.{sets}
+use Rattle.laws.specs.Kit.{_≤_, _-_, _+_, _≡_, refl, sym, _∙_, add-zero, length, drop, length-set, sets, needs}
 use Rattle.laws.specs.Rows.{sets-one, sets-done}
-use borrow.Author.Needs.{needs}
 use Rattle.table.proofs.put_places.Statement.{statement}
 use Rattle.table.proofs.put_places.Tie as tie
 
@@ -31,19 +26,5 @@ returns c = let L = c .before .loop in
     (sym (sets-done (L .l) (g .at + L .t) (g .t3) (L .t) (search needs)) ∙ L .inv .1 .0, L .inv .1 .1 .1)
 
 pub put-places-spec : {M : Type 1} → statement M
-put-places-spec =
-    tie.close
-    (tie.spec
-    Inv-loop
-    μ-loop
-    loop-holds
-    (λ c. search needs)
-    (λ c. search needs)
-    (λ c. search needs)
-    (λ c. search needs)
-    (λ c. search needs)
-    (λ c. search needs)
-    (λ c. search needs)
-    loop-again
-    (λ c. search needs)
-    returns)
+put-places-spec = tie.close (tie.spec Inv-loop μ-loop loop-holds (λ c. search needs) (λ c. search needs) (λ c. search needs)
+    (λ c. search needs) (λ c. search needs) (λ c. search needs) (λ c. search needs) loop-again (λ c. search needs) returns)

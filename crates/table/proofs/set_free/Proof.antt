@@ -1,5 +1,5 @@
 use Rattle.table.specs.Value.{freeEntry}
-use borrow.Author.Needs.{needs}
+use Rattle.laws.specs.Kit.{needs}
 use Rattle.table.proofs.set_free.Statement.{statement}
 use Rattle.table.proofs.set_free.Tie as tie
 
@@ -8,9 +8,4 @@ unfolding freeEntry
 returns c = search needs
 
 pub set-free-spec : {M : Type 1} → statement M
-set-free-spec =
-    tie.close
-    (tie.spec
-    (λ c. search needs)
-    (λ c κs. search needs)
-    returns)
+set-free-spec = tie.close (tie.spec (λ c. search needs) (λ c κs. search needs) returns)

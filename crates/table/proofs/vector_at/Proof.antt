@@ -1,6 +1,5 @@
-use mathlib.Core.Path.{sym, _∙_}
+use Rattle.laws.specs.Kit.{sym, _∙_, needs}
 use Rattle.table.specs.Value.{open-vector}
-use borrow.Author.Needs.{needs}
 use Rattle.table.proofs.vector_at.Statement.{statement}
 use Rattle.table.proofs.vector_at.Tie as tie
 
@@ -8,10 +7,4 @@ returns : tie.Need-returns
 returns c = let g = c .before .before .args in c .places-at .ensures ∙ sym (open-vector (g .opens .now) (g .e))
 
 pub vector-at-spec : {M : Type 1} → statement M
-vector-at-spec =
-    tie.close
-    (tie.spec
-    (λ c. search needs)
-    (λ c. search needs)
-    (λ c κs. search needs)
-    returns)
+vector-at-spec = tie.close (tie.spec (λ c. search needs) (λ c. search needs) (λ c κs. search needs) returns)

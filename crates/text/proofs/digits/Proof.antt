@@ -1,14 +1,6 @@
-use Prim.Native.Nat.{ℕ, _≤_, _+_, _-_, _*_}
-use mathlib.Core.Path.{_≡_, refl, _∙_}
-use mathlib.Core.List.{List}
-use mathlib.Core.Logic.{inl, inr}
-use mathlib.Core.Option.{some}
-use native.Mathlib.Omega.{arith}
-use lib.ListN.{length, drop}
-use Rattle.text.specs.Number.{most-number}
-use Rattle.text.specs.Words.{join}
-use Rattle.text.specs.Fields.{digitsOn, fieldsAt, DigitsAre, at-more, at-stop, at-end, digits-large}
-use borrow.Author.Needs.{needs}
+use Rattle.laws.specs.Kit.{ℕ, _≤_, _+_, _-_, _*_, _≡_, refl, _∙_, List, inl, inr, some, arith, length, drop, needs}
+use Rattle.text.specs.{Number.{most-number}, Words.{readOnto}, Fields.{digitsOn, fieldsAt, DigitsAre, at-more, at-stop, at-end}}
+use Rattle.text.specs.Fields.{digits-large}
 use Rattle.text.proofs.digits.Statement.{statement}
 use Rattle.text.proofs.digits.Tie as tie
 
@@ -20,7 +12,7 @@ abbrev μ-loop : tie.MeasureT-loop
 μ-loop s from first v₀ i₀ v i = length s - i
 
 -- the number ends here
-ends : (s : List ℕ) (from first v i : ℕ) → Inv-loop s from first first from v i → digitsOn v (drop i s) ≡ join (some v) (fieldsAt s i) → DigitsAre s from first v i
+ends : (s : List ℕ) (from first v i : ℕ) → Inv-loop s from first first from v i → digitsOn v (drop i s) ≡ readOnto (some v) (fieldsAt s i) → DigitsAre s from first v i
 ends s from first v i h e = record { small = h .1 .1 .0; ahead = h .0; within = h .1 .0; is = h .1 .1 .1 ∙ e }
 
 -- past both tests the byte is a digit
@@ -56,20 +48,5 @@ returns-4 c =
     let L = c .before .loop in ends _ _ _ _ _ (L .inv) (at-end _ (L .i) _ (c .loop-test .left) (L .inv .1 .1 .0))
 
 pub digits-spec : {M : Type 1} → statement M
-digits-spec =
-    tie.close
-    (tie.spec
-    Inv-loop
-    μ-loop
-    loop-holds
-    (λ c. search needs)
-    returns
-    returns-2
-    (λ c. search needs)
-    (λ c κs. search needs)
-    (λ c. search needs)
-    returns-3
-    (λ c. search needs)
-    (λ c. search needs)
-    loop-again
-    returns-4)
+digits-spec = tie.close (tie.spec Inv-loop μ-loop loop-holds (λ c. search needs) returns returns-2 (λ c. search needs)
+    (λ c κs. search needs) (λ c. search needs) returns-3 (λ c. search needs) (λ c. search needs) loop-again returns-4)

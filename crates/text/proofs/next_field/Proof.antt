@@ -1,10 +1,5 @@
-use Prim.Native.Nat.{_+_, _-_}
-use mathlib.Core.Path.{_≡_}
-use mathlib.Core.Logic.{inl, inr}
-use native.Mathlib.Omega.{arith}
-use lib.ListN.{drop}
+use Rattle.laws.specs.Kit.{_+_, _≡_, inl, inr, arith, drop, needs}
 use Rattle.text.specs.Fields.{fieldsAt, digitsOn, field-unspaced, field-empty, field-zero, field-none, field-first, tells-digits}
-use borrow.Author.Needs.{needs}
 use Rattle.text.proofs.next_field.Statement.{statement}
 use Rattle.text.proofs.next_field.Tie as tie
 
@@ -38,20 +33,7 @@ returns-7 : tie.Need-returns-7
 returns-7 c = tells-digits _ _ _ (first (c .before)) (c .digits .result) (c .digits .ensures)
 
 pub next-field-spec : {M : Type 1} → statement M
-next-field-spec =
-    tie.close
-    (tie.spec
-    (λ c. λ h. absurd (omega (arith, c .if1 .taken)))
-    (λ c. search needs)
-    (λ c. λ h. field-unspaced _ _ h (c .if2 .taken))
-    (λ c. search needs)
-    (λ c. λ h. field-empty _ _ h (c .before .if2 .left) (c .if3 .taken))
-    (λ c. search needs)
-    (λ c. search needs)
-    returns-4
-    returns-5
-    returns-6
-    (λ c. search needs)
-    (λ c κs. search needs)
-    (λ c κs. search needs)
-    returns-7)
+next-field-spec = tie.close (tie.spec (λ c. λ h. absurd (omega (arith, c .if1 .taken))) (λ c. search needs)
+    (λ c. λ h. field-unspaced _ _ h (c .if2 .taken)) (λ c. search needs)
+    (λ c. λ h. field-empty _ _ h (c .before .if2 .left) (c .if3 .taken)) (λ c. search needs) (λ c. search needs) returns-4 returns-5
+    returns-6 (λ c. search needs) (λ c κs. search needs) (λ c κs. search needs) returns-7)

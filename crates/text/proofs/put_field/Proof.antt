@@ -1,8 +1,5 @@
 -- The head, and the number behind it.
-use native.Mathlib.Omega.{arith}
-use borrow.Author.Needs.{needs}
-use lib.ListN.{length-append}
-use Rattle.laws.specs.Stores.{left-start, left-put, left-last}
+use Rattle.laws.specs.{Kit.{arith, needs, length-append}, Stores.{left-start, left-put, left-last}}
 use Rattle.text.specs.Number.{decimal}
 use Rattle.text.proofs.put_field.Statement.{statement}
 use Rattle.text.proofs.put_field.Tie as tie
@@ -17,10 +14,4 @@ returns : tie.Need-returns
 returns c = left-last (c .before .before .put-number .ensures) (left-put (c .before .before .before .before .before .before .put-words .ensures) left-start)
 
 pub put-field-spec : {M : Type 1} → statement M
-put-field-spec =
-    tie.close
-    (tie.spec
-    put-words-requires
-    put-number-requires
-    (λ c. search needs)
-    returns)
+put-field-spec = tie.close (tie.spec put-words-requires put-number-requires (λ c. search needs) returns)

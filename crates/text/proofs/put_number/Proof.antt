@@ -1,14 +1,7 @@
 -- What is left, in place of the digits to come, makes the whole number.
-use Prim.Native.Nat.{ℕ, _+_, _/_, _%_, _≤_, _<_}
-use mathlib.Core.Path.{_≡_, refl, sym, ap, _∙_}
-use mathlib.Core.List.{List, [], _∷_}
-use native.Mathlib.Omega.{arith}
-use borrow.Author.Needs.{needs}
-use lib.ListN.{length, set, length-set}
-use lib.Seq.{sets}
+use Rattle.laws.specs.Kit.{ℕ, _+_, _/_, _%_, _≤_, _<_, _≡_, refl, sym, ap, _∙_, List, [], _∷_, arith, needs, length, set, length-set, sets}
 use Rattle.laws.specs.Stores.{sets-last}
-use Rattle.text.specs.Number.{decimal}
-use Rattle.text.specs.Decimal.{decimal-one, decimal-more, decimal-longer, decimal-some}
+use Rattle.text.specs.{Number.{decimal}, Link.Decimal.{decimal-one, decimal-more, decimal-longer, decimal-some}}
 use Rattle.text.proofs.put_number.Statement.{statement}
 use Rattle.text.proofs.put_number.Tie as tie
 
@@ -61,21 +54,6 @@ returns c = let L = c .before .before .loop in
     }
 
 pub put-number-spec : {M : Type 1} → statement M
-put-number-spec =
-    tie.close
-    (tie.spec
-    Inv-loop
-    μ-loop
-    (λ c κs. search needs)
-    (λ c. search needs)
-    (λ c. omega (arith, decimal-some (c .before .before .args .k)))
-    loop-holds
-    (λ c κs. search needs)
-    (λ c. search needs)
-    sub-p-2
-    (λ c. search needs)
-    loop-again
-    (λ c κs. search needs)
-    (λ c. search needs)
-    (λ c. search needs)
-    returns)
+put-number-spec = tie.close (tie.spec Inv-loop μ-loop (λ c κs. search needs) (λ c. search needs)
+    (λ c. omega (arith, decimal-some (c .before .before .args .k))) loop-holds (λ c κs. search needs) (λ c. search needs) sub-p-2
+    (λ c. search needs) loop-again (λ c κs. search needs) (λ c. search needs) (λ c. search needs) returns)

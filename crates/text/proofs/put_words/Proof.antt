@@ -1,17 +1,11 @@
 -- What is left of the words makes the whole.
-use Prim.Native.Nat.{_+_, _-_, _≤_, _<_}
-use native.Mathlib.Nat.{add-zero}
-use native.Mathlib.Numerals.{add-one}
-use native.Mathlib.Omega.{arith}
-use borrow.Author.Needs.{needs}
-use lib.ListN.{length, drop, drop-of-length-le}
-use lib.Seq.{drop-cons}
-use Rattle.laws.specs.Stores.{Left, stored-one, left-start, left-put, left-none}
+use Rattle.laws.specs.Kit.{_+_, _-_, _≤_, _<_, add-zero, add-one, arith, needs, length, drop, drop-of-length-le, drop-cons}
+use Rattle.laws.specs.Stores.{StoresLeft, stored-one, left-start, left-put, left-none}
 use Rattle.text.proofs.put_words.Statement.{statement}
 use Rattle.text.proofs.put_words.Tie as tie
 
 abbrev Inv-loop : tie.InvT-loop
-Inv-loop out₀ at words j₀ out j = (j ≤ length words) × Left out₀ at words out (at + j) (drop j words)
+Inv-loop out₀ at words j₀ out j = (j ≤ length words) × StoresLeft out₀ at words out (at + j) (drop j words)
 
 abbrev μ-loop : tie.MeasureT-loop
 μ-loop out₀ at words j₀ out j = length words - j
@@ -32,18 +26,5 @@ returns c = let L = c .before .loop in
     left-none (rw (drop-of-length-le words h) at (L .inv .1))
 
 pub put-words-spec : {M : Type 1} → statement M
-put-words-spec =
-    tie.close
-    (tie.spec
-    Inv-loop
-    μ-loop
-    loop-holds
-    (λ c. search needs)
-    (λ c. search needs)
-    (λ c. search needs)
-    (λ c. search needs)
-    (λ c. search needs)
-    loop-again
-    (λ c. search needs)
-    (λ c. search needs)
-    returns)
+put-words-spec = tie.close (tie.spec Inv-loop μ-loop loop-holds (λ c. search needs) (λ c. search needs) (λ c. search needs)
+    (λ c. search needs) (λ c. search needs) loop-again (λ c. search needs) (λ c. search needs) returns)

@@ -1,12 +1,5 @@
-use Rattle.clock.specs.Vectors.{places}
-use Prim.Native.Nat.{_≤_, _-_}
-use mathlib.Core.Path.{_≡_, ap, _∙_}
-use mathlib.Core.List.{_++_}
-use lib.ListN.{length, drop}
-use native.Mathlib.Omega.{arith}
-use Rattle.laws.specs.Tab.{tab, fill-start, fill-more, fill-end}
-use Rattle.clock.specs.Vectors.{largerAt, joined, clockOf}
-use borrow.Author.Needs.{needs}
+use Rattle.clock.specs.Vectors.{places, largerAt, joined, clockOf}
+use Rattle.laws.specs.{Kit.{_≤_, _-_, _≡_, ap, _∙_, _++_, length, drop, arith, needs}, Tab.{tab, fill-start, fill-more, fill-end}}
 use Rattle.clock.proofs.Clock.join.Statement.{statement}
 use Rattle.clock.proofs.Clock.join.Tie as tie
 
@@ -36,20 +29,5 @@ returns c = let L = c .before .loop in
     ap clockOf (L .inv .1 .0 ∙ fill-end _ _ places _ (L .inv .1 .1) (search needs) ∙ rw e)
 
 pub join-spec : {M : Type 1} → statement M
-join-spec =
-    tie.close
-    (tie.spec
-    Inv-loop
-    μ-loop
-    loop-holds
-    (λ c. search needs)
-    (λ c. search needs)
-    (λ c. search needs)
-    (λ c. search needs)
-    (λ c κs. search needs)
-    (λ c. search needs)
-    (λ c. search needs)
-    (λ c. search needs)
-    (λ c. search needs)
-    loop-again
-    returns)
+join-spec = tie.close (tie.spec Inv-loop μ-loop loop-holds (λ c. search needs) (λ c. search needs) (λ c. search needs) (λ c. search needs)
+    (λ c κs. search needs) (λ c. search needs) (λ c. search needs) (λ c. search needs) (λ c. search needs) loop-again returns)

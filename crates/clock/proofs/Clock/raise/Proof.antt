@@ -1,8 +1,5 @@
-use Rattle.clock.specs.Vectors.{places}
-use mathlib.Core.Path.{_≡_}
-use lib.ListN.{length}
-use Rattle.clock.specs.Vectors.{rises, rises-not, rises-out, rises-most}
-use borrow.Author.Needs.{needs}
+use Rattle.clock.specs.Vectors.{places, rises, rises-not, rises-out, rises-most}
+use Rattle.laws.specs.Kit.{_≡_, length, needs}
 use Rattle.clock.proofs.Clock.raise.Statement.{statement}
 use Rattle.clock.proofs.Clock.raise.Tie as tie
 
@@ -23,16 +20,5 @@ returns-4 c = let g = c .before .before .before .before .args in
     rises (g .self) (g .u) (search needs) (search needs) (search needs)
 
 pub raise-spec : {M : Type 1} → statement M
-raise-spec =
-    tie.close
-    (tie.spec
-    returns
-    (λ c. search needs)
-    returns-2
-    (λ c. search needs)
-    (λ c. search needs)
-    returns-3
-    (λ c. search needs)
-    (λ c. search needs)
-    (λ c. search needs)
-    returns-4)
+raise-spec = tie.close (tie.spec returns (λ c. search needs) returns-2 (λ c. search needs) (λ c. search needs) returns-3 (λ c. search needs)
+    (λ c. search needs) (λ c. search needs) returns-4)

@@ -1,10 +1,6 @@
-use Prim.Native.Nat.{ℕ}
-use mathlib.Core.Path.{_≡_, _∙_}
-use mathlib.Core.List.{List}
-use Rattle.laws.specs.Loop.{pick}
+use Rattle.laws.specs.{Kit.{ℕ, _≡_, _∙_, List, needs}, Loop.{pick}}
 use Rattle.table.specs.Value.{freeEntry}
-use Rattle.steps.specs.Cascade.{AppliedAt}
-use borrow.Author.Needs.{needs}
+use Rattle.steps.specs.Link.Cascade.{AppliedAt}
 use Rattle.steps.proofs.deliver.apply_at.Statement.{statement}
 use Rattle.steps.proofs.deliver.apply_at.Tie as tie
 
@@ -33,16 +29,5 @@ returns-2 : tie.Need-returns-2
 returns-2 c = cell-stored (c .before) (c .before .before .before .put-mark .last .0) (rw (c .if1 .left))
 
 pub apply-at-spec : {M : Type 1} → statement M
-apply-at-spec =
-    tie.close
-    (tie.spec
-    (λ c κs. search needs)
-    (λ c κs. search needs)
-    slot-of-requires
-    (λ c κs. search needs)
-    (λ c. search needs)
-    (λ c κs. search needs)
-    (λ c κs. search needs)
-    (λ c κs. search needs)
-    returns
-    returns-2)
+apply-at-spec = tie.close (tie.spec (λ c κs. search needs) (λ c κs. search needs) slot-of-requires (λ c κs. search needs)
+    (λ c. search needs) (λ c κs. search needs) (λ c κs. search needs) (λ c κs. search needs) returns returns-2)

@@ -1,16 +1,10 @@
-use Prim.Native.Nat.{_+_, _-_, _≤_}
-use mathlib.Core.Path.{_≡_, sym, _∙_}
-use mathlib.Core.Logic.{inl, inr}
-use mathlib.Core.Option.{none, some}
-use native.Mathlib.Omega.{arith}
-use Rattle.laws.specs.Loop.{scan, scan-end, scan-here, scan-next}
+use Rattle.laws.specs.{Kit.{_+_, _-_, _≤_, _≡_, sym, _∙_, inl, inr, none, some, arith, getD, set, needs}, Loop.{scan, scan-end, scan-here}}
+use Rattle.laws.specs.Loop.{scan-next}
 use Rattle.machine.specs.Table.{State, most-open}
-use Rattle.table.specs.Value.{openAt}
-use Rattle.table.specs.Model.{openM}
-use lib.ListN.{getD, set}
-use Rattle.steps.specs.Cascade.{midst, from, dueIn, due-at, due-not, Running, Next, Gone, Going, Safe, going-starts, going-safe, going-turn, gone-ends, gone-on}
-use Rattle.steps.specs.CascadeSearch.{scan-whole, Yields, yields-at, yields-none}
-use borrow.Author.Needs.{needs}
+use Rattle.table.specs.{Value.{openAt}, Model.{openM}}
+use Rattle.steps.specs.Link.Cascade.{midst, from, dueIn, due-at, due-not, Running, NextReady, Gone, CascadeGoing, Safe, going-starts}
+use Rattle.steps.specs.{Link.Cascade.{going-safe, going-turn, gone-ends, gone-on}, Link.CascadeSearch.{scan-whole, Yields, yields-at}}
+use Rattle.steps.specs.Link.CascadeSearch.{yields-none}
 use Rattle.steps.proofs.deliver.cascade.Statement.{statement}
 use Rattle.steps.proofs.deliver.cascade.Tie as tie
 
@@ -23,8 +17,8 @@ abbrev μ-search : tie.MeasureT-search
 
 abbrev Inv-apply : tie.InvT-apply
 Inv-apply n own cells₀ opens₀ names₀ i u e a₀ w₀ entry₀ len₀ cells opens names a w entry len =
-    Safe n i a opens len w entry × ((b : State) → Running b n i a₀ own cells₀ opens₀ → Next n a₀ opens₀ w₀ entry₀
-    → Going (from most-open (midst b i a₀ cells₀ opens₀) i w₀
+    Safe n i a opens len w entry × ((b : State) → Running b n i a₀ own cells₀ opens₀ → NextReady n a₀ opens₀ w₀ entry₀
+    → CascadeGoing (from most-open (midst b i a₀ cells₀ opens₀) i w₀
     (openM (openAt opens₀ entry₀))) b n i a own cells opens names₀ names len w entry)
 
 abbrev μ-apply : tie.MeasureT-apply
@@ -34,7 +28,7 @@ abbrev μ-apply : tie.MeasureT-apply
 gone : (c : tie.After-put-name Inv-search μ-search Inv-apply μ-apply)
     → (let A = c .before .before .before .before .before .before .apply in
     let g = c .before .before .before .before .before .before .before .args in
-    (b : State) → Running b (g .n) (g .i) (g .c) (g .own) (g .cells .now) (g .opens .now) → Next (g .n) (g .c) (g .opens .now) (g .u) (g .e)
+    (b : State) → Running b (g .n) (g .i) (g .c) (g .own) (g .cells .now) (g .opens .now) → NextReady (g .n) (g .c) (g .opens .now) (g .u) (g .e)
     → Gone (from most-open (midst b (g .i) (g .c) (g .cells .now) (g .opens .now)) (g .i) (g .u) (openM (openAt (g .opens .now) (g .e))))
     b (g .n) (g .i) (set (A .a) (A .w - 1) (getD (A .a) (A .w - 1) 0 + 1)) (g .own) (c .before .before .before .apply-at .last .0) (c .before .before .before .apply-at .last .1 .0)
     (g .names .now) (c .put-name .last .0) (A .len + 1))
@@ -98,34 +92,7 @@ returns c b r d =
     gone-ends (gone (J .before .before) b r d) (yields-none _ _ _ _ _ (J .if1 .found) (yields J) (c .enum-told2 .given .1))
 
 pub cascade-spec : {M : Type 1} → statement M
-cascade-spec =
-    tie.close
-    (tie.spec
-    Inv-search
-    μ-search
-    Inv-apply
-    μ-apply
-    apply-holds
-    (λ c κs. search needs)
-    (λ c. search needs)
-    (λ c. search needs)
-    (λ c. search needs)
-    (λ c. search needs)
-    (λ c. search needs)
-    (λ c. search needs)
-    (λ c. search needs)
-    (λ c κs. search needs)
-    (λ c κs. search needs)
-    (λ c. search needs)
-    search-holds
-    due-of-requires
-    (λ c. search needs)
-    (λ c. search needs)
-    (λ c. search needs)
-    (λ c. search needs)
-    search-again
-    (λ c. search needs)
-    (λ c. search needs)
-    (λ c. search needs)
-    apply-again
-    returns)
+cascade-spec = tie.close (tie.spec Inv-search μ-search Inv-apply μ-apply apply-holds (λ c κs. search needs) (λ c. search needs)
+    (λ c. search needs) (λ c. search needs) (λ c. search needs) (λ c. search needs) (λ c. search needs) (λ c. search needs)
+    (λ c κs. search needs) (λ c κs. search needs) (λ c. search needs) search-holds due-of-requires (λ c. search needs) (λ c. search needs)
+    (λ c. search needs) (λ c. search needs) search-again (λ c. search needs) (λ c. search needs) (λ c. search needs) apply-again returns)

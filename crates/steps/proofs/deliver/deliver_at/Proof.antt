@@ -1,15 +1,10 @@
-use Prim.Native.Nat.{ℕ, _<_}
-use mathlib.Core.Path.{_≡_, sym, subst, _∙_}
-use mathlib.Core.Bool.{true}
-use native.Mathlib.Omega.{arith}
+use Rattle.laws.specs.Kit.{ℕ, _<_, _≡_, sym, subst, _∙_, true, arith, needs}
 use Rattle.clock.specs.Vectors.{place, place-at}
 use Rattle.machine.specs.Refusals.{AllPass}
 use Rattle.reply.specs.declared.Refusal.the-variants.{Received}
-use Rattle.table.specs.Value.{entries, openAt}
-use Rattle.table.specs.Names.{namedAt, FoundIn, found-at}
-use Rattle.table.specs.Opens.{found-none}
-use Rattle.steps.specs.Deliver.{askedOf, few-desks, small-number, failed, known, none-open, known-open, meets-refused, arrival, meets-received}
-use borrow.Author.Needs.{needs}
+use Rattle.table.specs.{Value.{entries, openAt}, EntryNames.{namedAt, FoundIn, found-at}, Link.OpensModel.{found-none}}
+use Rattle.steps.specs.Link.Deliver.{askedOf, few-desks, small-number, failed, known, none-open, known-open, meets-refused, arrival}
+use Rattle.steps.specs.Link.Deliver.{meets-received}
 use Rattle.steps.proofs.deliver.deliver_at.Statement.{statement}
 use Rattle.steps.proofs.deliver.deliver_at.Tie as tie
 
@@ -99,23 +94,7 @@ returns-4 c m ds p =
     meets-received p (g .u) (g .k) (past t) _ (h .0) (h .1) q (c .receive .ensures _ _ (arrival p (g .u) (g .k) (past t) _ (h .0) (h .1) q))
 
 pub deliver-at-spec : {M : Type 1} → statement M
-deliver-at-spec =
-    tie.close
-    (tie.spec
-    (λ c κs. few-desks (c .pre .2))
-    (λ c. search needs)
-    (λ c κs. search needs)
-    returns
-    (λ c. search needs)
-    small-requires
-    find-requires
-    (λ c. search needs)
-    (λ c. search needs)
-    (λ c κs. search needs)
-    returns-2
-    (λ c. past (c .before .before .before .before .before .before .before) .0 .0 .0)
-    mark-at-requires
-    (λ c κs. search needs)
-    returns-3
-    receive-requires
-    returns-4)
+deliver-at-spec = tie.close (tie.spec (λ c κs. few-desks (c .pre .2)) (λ c. search needs) (λ c κs. search needs) returns (λ c. search needs)
+    small-requires find-requires (λ c. search needs) (λ c. search needs) (λ c κs. search needs) returns-2
+    (λ c. past (c .before .before .before .before .before .before .before) .0 .0 .0) mark-at-requires (λ c κs. search needs) returns-3
+    receive-requires returns-4)

@@ -1,18 +1,8 @@
-use Prim.Native.Nat.{ℕ, suc, _<_}
-use mathlib.Core.Path.{_≡_, sym, ap, subst, _∙_}
-use mathlib.Core.Bool.{true, _&&_}
-use native.Mathlib.Omega.{arith}
-use native.Mathlib.Numerals.{add-one}
-use borrow.Author.Tests.{eq-eqb, ne-eqb}
-use lib.Dec.{eqb}
+use Rattle.laws.specs.Kit.{ℕ, suc, _<_, _≡_, sym, ap, subst, _∙_, true, _&&_, arith, add-one, eq-eqb, ne-eqb, eqb, needs}
 use Rattle.machine.specs.Table.{held}
-use Rattle.clock.specs.Vectors.{place, place-at}
-use Rattle.clock.specs.Readiness.{readyAt}
-use Rattle.table.specs.Value.{entries, openAt}
-use Rattle.table.specs.Names.{namedAt, FoundIn, found-at}
-use Rattle.table.specs.Opens.{found-none}
-use Rattle.steps.specs.Cascade.{dueIn, due-late, due-none, due-held}
-use borrow.Author.Needs.{needs}
+use Rattle.clock.specs.{Vectors.{place, place-at}, Readiness.{readyAt}}
+use Rattle.table.specs.{Value.{entries, openAt}, EntryNames.{namedAt, FoundIn, found-at}, Link.OpensModel.{found-none}}
+use Rattle.steps.specs.Link.Cascade.{dueIn, due-late, due-none, due-held}
 use Rattle.steps.proofs.deliver.due_of.Statement.{statement}
 use Rattle.steps.proofs.deliver.due_of.Tie as tie
 
@@ -78,25 +68,7 @@ returns-5 c =
     due m ∙ rw (eq-eqb _ _ (c .before .before .before .if2 .left)) (sym (ready-is (c .before)) ∙ c .if3 .left)
 
 pub due-of-spec : {M : Type 1} → statement M
-due-of-spec =
-    tie.close
-    (tie.spec
-    (λ c. search needs)
-    (λ c. search needs)
-    (λ c. search needs)
-    (λ c. search needs)
-    (λ c. search needs)
-    (λ c. search needs)
-    returns
-    (λ c κs. search needs)
-    (λ c κs. search needs)
-    (λ c. search needs)
-    (λ c. search needs)
-    returns-2
-    (λ c. search needs)
-    (λ c κs. (entry c .0, search needs))
-    returns-3
-    (λ c κs. entry (c .before .before) .0)
-    (λ c κs. search needs)
-    returns-4
-    returns-5)
+due-of-spec = tie.close (tie.spec (λ c. search needs) (λ c. search needs) (λ c. search needs) (λ c. search needs) (λ c. search needs)
+    (λ c. search needs) returns (λ c κs. search needs) (λ c κs. search needs) (λ c. search needs) (λ c. search needs) returns-2
+    (λ c. search needs) (λ c κs. (entry c .0, search needs)) returns-3 (λ c κs. entry (c .before .before) .0) (λ c κs. search needs)
+    returns-4 returns-5)

@@ -1,15 +1,8 @@
-use Prim.Native.Nat.{ℕ}
-use mathlib.Core.Path.{_≡_, sym, subst, _∙_}
-use mathlib.Core.List.{List}
-use mathlib.Core.Option.{some}
-use native.Mathlib.Omega.{arith}
+use Rattle.laws.specs.Kit.{ℕ, _≡_, sym, subst, _∙_, List, some, arith, needs}
 use Rattle.machine.specs.Steps.{failing}
-use Rattle.clock.specs.Vectors.{places, place}
-use Rattle.clock.specs.Readiness.{readyAt}
+use Rattle.clock.specs.{Vectors.{places, place}, Readiness.{readyAt}}
 use Rattle.table.specs.Value.{openAt}
-use Rattle.steps.specs.Cascade.{in-places}
-use Rattle.steps.specs.DeliverReceive.{next-of-arrival, received-ready, received-held}
-use borrow.Author.Needs.{needs}
+use Rattle.steps.specs.{Link.Cascade.{in-places}, Link.DeliverReceive.{next-of-arrival, received-ready, received-held}}
 use Rattle.steps.proofs.deliver.receive.Statement.{statement}
 use Rattle.steps.proofs.deliver.receive.Tie as tie
 
@@ -47,14 +40,6 @@ returns-2 c b k r =
     received-held (g .names .now) (g .d) r f (m .put-mark .ensures .is)
 
 pub receive-spec : {M : Type 1} → statement M
-receive-spec =
-    tie.close
-    (tie.spec
-    (λ c κs. c .before .pre .2 .small)
-    (λ c κs. search needs)
-    cascade-requires
-    returns
-    (λ c. c .before .before .before .before .before .before .before .pre .2 .running .desk .0)
-    put-mark-requires
-    waits-for-requires
+receive-spec = tie.close (tie.spec (λ c κs. c .before .pre .2 .small) (λ c κs. search needs) cascade-requires returns
+    (λ c. c .before .before .before .before .before .before .before .pre .2 .running .desk .0) put-mark-requires waits-for-requires
     returns-2)

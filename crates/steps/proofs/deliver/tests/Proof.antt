@@ -1,13 +1,7 @@
-use Prim.Native.Nat.{ℕ}
-use mathlib.Core.Path.{_≡_, refl, sym, ap, _∙_}
-use mathlib.Core.Logic.{inl, inr}
-use native.Mathlib.Omega.{arith}
-use Rattle.machine.specs.Steps.{within}
-use Rattle.machine.specs.Rules.{In}
-use Rattle.machine.specs.Proofs.Ready.{says-within}
+use Rattle.laws.specs.Kit.{ℕ, _≡_, refl, sym, ap, _∙_, inl, inr, arith, needs}
+use Rattle.machine.specs.{Steps.{within}, Rules.{In}, Within.{says-within}}
 use Rattle.clock.specs.Vectors.{places, place, place-at}
-use Rattle.steps.specs.LookStepped.{stops, passes}
-use borrow.Author.Needs.{needs}
+use Rattle.steps.specs.Link.LookStepped.{stops, passes}
 use Rattle.steps.proofs.deliver.tests.Statement.{statement}
 use Rattle.steps.proofs.deliver.tests.Tie as tie
 
@@ -60,23 +54,7 @@ returns-6 c =
     (desks (e .before), (e .if3 .left, (m, (omega (arith, count (c .before), c .if5 .left), tt))))
 
 pub tests-spec : {M : Type 1} → statement M
-tests-spec =
-    tie.close
-    (tie.spec
-    (λ c κs. search needs)
-    returns
-    (λ c κs. search needs)
-    returns-2
-    returns-3
-    (λ c. omega (arith, writer c))
-    (λ c. omega (arith, writer c))
-    (λ c. omega (arith, writer c))
-    (λ c κs. search needs)
-    (λ c κs. search needs)
-    returns-4
-    (λ c. omega (arith, writer (c .before .before .before)))
-    (λ c. omega (arith, writer (c .before .before .before)))
-    (λ c. omega (arith, writer (c .before .before .before)))
-    (λ c κs. search needs)
-    returns-5
-    returns-6)
+tests-spec = tie.close (tie.spec (λ c κs. search needs) returns (λ c κs. search needs) returns-2 returns-3 (λ c. omega (arith, writer c))
+    (λ c. omega (arith, writer c)) (λ c. omega (arith, writer c)) (λ c κs. search needs) (λ c κs. search needs) returns-4
+    (λ c. omega (arith, writer (c .before .before .before))) (λ c. omega (arith, writer (c .before .before .before)))
+    (λ c. omega (arith, writer (c .before .before .before))) (λ c κs. search needs) returns-5 returns-6)

@@ -1,12 +1,6 @@
-use mathlib.Core.Path.{_≡_, sym, ap, _∙_}
-use mathlib.Core.Option.{none, some}
-use native.Mathlib.Omega.{arith}
-use Rattle.laws.specs.Says.{apart}
-use Rattle.machine.specs.Steps.{failing, isNone}
-use Rattle.machine.specs.Proofs.Ready.{failing-at}
-use Rattle.clock.specs.Vectors.{places, place}
-use Rattle.clock.specs.Readiness.{waitOf}
-use borrow.Author.Needs.{needs}
+use Rattle.laws.specs.{Kit.{_≡_, sym, ap, _∙_, none, some, arith, needs}, Says.{apart}}
+use Rattle.machine.specs.{Steps.{failing, isNone}, Proofs.Ready.{failing-at}}
+use Rattle.clock.specs.{Vectors.{places, place}, Readiness.{waitOf}}
 use Rattle.steps.proofs.deliver.waits_for.Statement.{statement}
 use Rattle.steps.proofs.deliver.waits_for.Tie as tie
 
@@ -28,12 +22,4 @@ returns-2 : tie.Need-returns-2
 returns-2 c = fails (c .before) ∙ ap some (sym (c .small .ensures))
 
 pub waits-for-spec : {M : Type 1} → statement M
-waits-for-spec =
-    tie.close
-    (tie.spec
-    (λ c κs. search needs)
-    (λ c. search needs)
-    (λ c. search needs)
-    returns
-    small-requires
-    returns-2)
+waits-for-spec = tie.close (tie.spec (λ c κs. search needs) (λ c. search needs) (λ c. search needs) returns small-requires returns-2)

@@ -1,11 +1,6 @@
-use borrow.Author.Tests.{not-true, not-false}
-use Rattle.laws.specs.Lists.{every-left, every-stop, every-end}
-use Prim.Native.Nat.{_≤_, _-_}
-use mathlib.Core.Path.{_≡_, refl, sym, _∙_}
-use lib.ListN.{length, drop}
-use Rattle.laws.specs.Lists.{every}
+use Rattle.laws.specs.{Kit.{not-true, not-false, _≤_, _-_, _≡_, refl, sym, _∙_, length, drop, needs}, Lists.{every-left, every-stop}}
+use Rattle.laws.specs.Lists.{every-end, every}
 use Rattle.machine.specs.Steps.{within}
-use borrow.Author.Needs.{needs}
 use Rattle.steps.proofs.look.all_inside.Statement.{statement}
 use Rattle.steps.proofs.look.all_inside.Tie as tie
 
@@ -32,18 +27,5 @@ returns-2 : tie.Need-returns-2 Inv-loop μ-loop
 returns-2 c = let a = c .before .before .before .args in every-end (within (a .m)) (a .list .now) (c .before .loop .j) (c .before .loop .inv .1) (search needs)
 
 pub all-inside-spec : {M : Type 1} → statement M
-all-inside-spec =
-    tie.close
-    (tie.spec
-    Inv-loop
-    μ-loop
-    loop-holds
-    (λ c. search needs)
-    (λ c. search needs)
-    (λ c κs. search needs)
-    (λ c κs. search needs)
-    returns
-    (λ c. search needs)
-    (λ c. search needs)
-    loop-again
-    returns-2)
+all-inside-spec = tie.close (tie.spec Inv-loop μ-loop loop-holds (λ c. search needs) (λ c. search needs) (λ c κs. search needs)
+    (λ c κs. search needs) returns (λ c. search needs) (λ c. search needs) loop-again returns-2)

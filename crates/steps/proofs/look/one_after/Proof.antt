@@ -1,4 +1,4 @@
-use borrow.Author.Tests.{eq-eqb, ne-eqb}
+use Rattle.laws.specs.Kit.{eq-eqb, ne-eqb}
 use Rattle.steps.proofs.look.one_after.Statement.{statement}
 use Rattle.steps.proofs.look.one_after.Tie as tie
 

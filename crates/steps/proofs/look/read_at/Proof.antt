@@ -1,10 +1,7 @@
-use mathlib.Core.Path.{refl}
-use mathlib.Core.Logic.{inl, inr}
+use Rattle.laws.specs.Kit.{refl, inl, inr, needs}
 use Rattle.reply.specs.declared.Refusal.the-variants.{NoDesk, NoCell}
 use Rattle.machine.specs.Proofs.Refusals.{says-within}
-use Rattle.steps.specs.LookStepped.{stops, passes, in-places, in-cells, refused-turn}
-use Rattle.steps.specs.LookLink.{read-stepped}
-use borrow.Author.Needs.{needs}
+use Rattle.steps.specs.{Link.LookStepped.{stops, passes, in-places, in-cells, refused-turn}, Link.Look.{read-stepped}}
 use Rattle.steps.proofs.look.read_at.Statement.{statement}
 use Rattle.steps.proofs.look.read_at.Tie as tie
 
@@ -34,14 +31,5 @@ returns-3 c ds os own p =
     (passes (says-within _ _) (c .before .before .inside2 .ensures) (c .before .if2 .left)))
 
 pub read-at-spec : {M : Type 1} → statement M
-read-at-spec =
-    tie.close
-    (tie.spec
-    (λ c κs. search needs)
-    (λ c κs. search needs)
-    returns
-    (λ c κs. search needs)
-    (λ c κs. search needs)
-    returns-2
-    looked-requires
-    returns-3)
+read-at-spec = tie.close (tie.spec (λ c κs. search needs) (λ c κs. search needs) returns (λ c κs. search needs) (λ c κs. search needs)
+    returns-2 looked-requires returns-3)

@@ -1,12 +1,7 @@
-use Rattle.machine.specs.Steps.{within}
-use Rattle.machine.specs.Proofs.Refusals.{says-within}
+use Rattle.machine.specs.{Steps.{within}, Proofs.Refusals.{says-within}}
 use Rattle.table.specs.Value.{desk-cells}
-use Prim.Native.Nat.{_≤_, _-_}
-use mathlib.Core.Path.{_≡_, refl, sym, _∙_}
-use lib.ListN.{length, drop}
-use Rattle.steps.specs.LookTrip.{seeAll, see-next, see-end}
-use Rattle.laws.specs.Lists.{every-at}
-use borrow.Author.Needs.{needs}
+use Rattle.laws.specs.{Kit.{_≤_, _-_, _≡_, refl, sym, _∙_, length, drop, needs}, Lists.{every-at}}
+use Rattle.steps.specs.Mirror.Trip.{seeAll, see-next, see-end}
 use Rattle.steps.proofs.look.see_all.Statement.{statement}
 use Rattle.steps.proofs.look.see_all.Tie as tie
 
@@ -37,19 +32,5 @@ returns c = let a = c .before .before .before .args in let L = c .before .loop i
     sym (see-end (a .cells .now) (a .i) (L .s) (a .list .now) (L .j) (search needs)) ∙ L .inv .1
 
 pub see-all-spec : {M : Type 1} → statement M
-see-all-spec =
-    tie.close
-    (tie.spec
-    Inv-loop
-    μ-loop
-    loop-holds
-    (λ c. search needs)
-    (λ c. search needs)
-    (λ c κs. search needs)
-    slot-of-requires
-    (λ c κs. search needs)
-    (λ c κs. search needs)
-    (λ c. search needs)
-    (λ c. search needs)
-    loop-again
-    returns)
+see-all-spec = tie.close (tie.spec Inv-loop μ-loop loop-holds (λ c. search needs) (λ c. search needs) (λ c κs. search needs)
+    slot-of-requires (λ c κs. search needs) (λ c κs. search needs) (λ c. search needs) (λ c. search needs) loop-again returns)

@@ -1,6 +1,5 @@
-use Rattle.steps.specs.LookTurn.{shownCell}
-use borrow.Author.Tests.{eq-eqb, ne-eqb}
-use borrow.Author.Needs.{needs}
+use Rattle.steps.specs.Mirror.Look.{shownCell}
+use Rattle.laws.specs.Kit.{eq-eqb, ne-eqb, needs}
 use Rattle.steps.proofs.look.shown.Statement.{statement}
 use Rattle.steps.proofs.look.shown.Tie as tie
 

@@ -1,5 +1,4 @@
-use mathlib.Core.Path.{_∙_}
-use borrow.Author.Needs.{needs}
+use Rattle.laws.specs.Kit.{_∙_, needs}
 use Rattle.steps.proofs.look.travelled.Statement.{statement}
 use Rattle.steps.proofs.look.travelled.Tie as tie
 
@@ -7,10 +6,4 @@ returns : tie.Need-returns
 returns c = c .with-clock .ensures ∙ rw (c .before .verdict .ensures, c .before .before .before .see-all .ensures)
 
 pub travelled-spec : {M : Type 1} → statement M
-travelled-spec =
-    tie.close
-    (tie.spec
-    (λ c κs. search needs)
-    (λ c κs. search needs)
-    (λ c κs. search needs)
-    returns)
+travelled-spec = tie.close (tie.spec (λ c κs. search needs) (λ c κs. search needs) (λ c κs. search needs) returns)

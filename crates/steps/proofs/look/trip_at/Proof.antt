@@ -1,11 +1,7 @@
-use mathlib.Core.Path.{refl}
-use mathlib.Core.Logic.{inl, inr}
-use Rattle.laws.specs.Lists.{says-every}
+use Rattle.laws.specs.{Kit.{refl, inl, inr, needs}, Lists.{says-every}}
 use Rattle.reply.specs.declared.Refusal.the-variants.{NoDesk, NoCell, TripSize}
 use Rattle.machine.specs.Proofs.Refusals.{says-within}
-use Rattle.steps.specs.LookStepped.{stops, passes, in-places, in-cells, refused-turn}
-use Rattle.steps.specs.LookTripLink.{trip-stepped}
-use borrow.Author.Needs.{needs}
+use Rattle.steps.specs.{Link.LookStepped.{stops, passes, in-places, in-cells, refused-turn}, Link.LookTrip.{trip-stepped}}
 use Rattle.steps.proofs.look.trip_at.Statement.{statement}
 use Rattle.steps.proofs.look.trip_at.Tie as tie
 
@@ -48,17 +44,5 @@ returns-4 c ds os own p =
     (passes (says-every _ (says-within _) _) (c .before .before .all-inside .ensures) (c .before .if3 .left)))
 
 pub trip-at-spec : {M : Type 1} → statement M
-trip-at-spec =
-    tie.close
-    (tie.spec
-    (λ c κs. search needs)
-    (λ c κs. search needs)
-    returns
-    (λ c κs. search needs)
-    (λ c κs. search needs)
-    returns-2
-    (λ c κs. search needs)
-    (λ c κs. search needs)
-    returns-3
-    travelled-requires
-    returns-4)
+trip-at-spec = tie.close (tie.spec (λ c κs. search needs) (λ c κs. search needs) returns (λ c κs. search needs) (λ c κs. search needs)
+    returns-2 (λ c κs. search needs) (λ c κs. search needs) returns-3 travelled-requires returns-4)

@@ -1,4 +1,4 @@
-use borrow.Author.Needs.{needs}
+use Rattle.laws.specs.Kit.{needs}
 use Rattle.steps.proofs.write.enter.Statement.{statement}
 use Rattle.steps.proofs.write.enter.Tie as tie
 
@@ -15,13 +15,4 @@ returns-3 : tie.Need-returns-3
 returns-3 c = rw (c .enum-told2 .given .1)
 
 pub enter-spec : {M : Type 1} → statement M
-enter-spec =
-    tie.close
-    (tie.spec
-    (λ c. search needs)
-    put-open-requires
-    (λ c. search needs)
-    (λ c. search needs)
-    returns
-    returns-2
-    returns-3)
+enter-spec = tie.close (tie.spec (λ c. search needs) put-open-requires (λ c. search needs) (λ c. search needs) returns returns-2 returns-3)

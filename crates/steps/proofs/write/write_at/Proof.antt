@@ -1,19 +1,9 @@
-use mathlib.Core.Path.{_≡_, refl}
-use mathlib.Core.Logic.{inl, inr, ⊎-elim}
-use Prim.Native.Nat.{_<_, _≤_}
-use native.Mathlib.Omega.{arith}
-use Rattle.reply.specs.declared.Refusal.{Refusal}
-use Rattle.reply.specs.declared.Refusal.the-variants.{NoDesk, NoCell, NoStatus, Spent}
-use Rattle.machine.specs.Table.{most-writes, most-status}
-use Rattle.machine.specs.Rules.{In}
-use Rattle.machine.specs.Proofs.Refusals.{says-within}
+use Rattle.laws.specs.Kit.{_≡_, refl, inl, inr, ⊎-elim, _<_, _≤_, arith, needs}
+use Rattle.reply.specs.{declared.Refusal.{Refusal}, declared.Refusal.the-variants.{NoDesk, NoCell, NoStatus, Spent}}
+use Rattle.machine.specs.{Table.{most-writes, most-status}, Rules.{In}, Proofs.Refusals.{says-within}}
 use Rattle.clock.specs.Vectors.{place, place-at}
-use Rattle.steps.specs.declared.write.Spot.the-variants.{Full}
-use Rattle.steps.specs.LookStepped.{stops, passes, in-places, in-cells, refused-turn}
-use Rattle.steps.specs.WriteTurn.{spot-in}
-use Rattle.steps.specs.WriteCount.{full-many}
-use Rattle.steps.specs.WriteLink.{written-start, write-stepped}
-use borrow.Author.Needs.{needs}
+use Rattle.steps.specs.{declared.write.Spot.the-variants.{Full}, Link.LookStepped.{stops, passes, in-places, in-cells, refused-turn}}
+use Rattle.steps.specs.{Mirror.Write.{spot-in}, OpenCount.{full-many}, Link.Write.{written-start, write-stepped}}
 use Rattle.steps.proofs.write.write_at.Statement.{statement}
 use Rattle.steps.proofs.write.write_at.Tie as tie
 
@@ -86,25 +76,6 @@ returns-6 c ds own p =
     (not-full (c .before .before .before .before)))
 
 pub write-at-spec : {M : Type 1} → statement M
-write-at-spec =
-    tie.close
-    (tie.spec
-    (λ c κs. search needs)
-    (λ c κs. search needs)
-    returns
-    (λ c κs. search needs)
-    (λ c κs. search needs)
-    returns-2
-    (λ c κs. search needs)
-    returns-3
-    (λ c κs. search needs)
-    (λ c κs. search needs)
-    returns-4
-    (λ c. search needs)
-    (λ c κs. search needs)
-    (λ c. search needs)
-    (λ c κs. search needs)
-    returns-5
-    (λ c κs. search needs)
-    written-requires
-    returns-6)
+write-at-spec = tie.close (tie.spec (λ c κs. search needs) (λ c κs. search needs) returns (λ c κs. search needs) (λ c κs. search needs)
+    returns-2 (λ c κs. search needs) returns-3 (λ c κs. search needs) (λ c κs. search needs) returns-4 (λ c. search needs)
+    (λ c κs. search needs) (λ c. search needs) (λ c κs. search needs) returns-5 (λ c κs. search needs) written-requires returns-6)

@@ -1,0 +1,6 @@
+pub mod NamesDistinct
+pub mod OrderFromCounts
+pub mod FieldPlaces
+pub mod ReadShape
+pub mod BlockFill
+pub mod SavedIsImage

@@ -1,0 +1,172 @@
+-- Where each field stands in the image.
+use Rattle.laws.specs.Kit.{ℕ, suc, _+_, _-_, _*_, _/_, _%_, _<_, _≤_, _≡_, refl, sym, _∙_, Bool, true, false, List, [], _∷_, _++_}
+use Rattle.laws.specs.Kit.{append-assoc, map, arith, eqb, leb, ltb, ne-eqb, le-leb, lt-leb, le-ltb, lt-ltb, length, replicate}
+use Rattle.laws.specs.Kit.{length-append, length-replicate, mul-le-mul-left, mul-add-div, mul-add-mod-self-left, div-eq-of-lt, mod-eq-of-lt}
+use Rattle.laws.specs.{Kit.{add-zero}, Loop.{pick}, Cat.{cat, cat-same, part, part-right, part-left, part-cat, piece-cat, length-cat}}
+use Rattle.laws.specs.Each.{each-at, each-map}
+use Rattle.machine.specs.{Table.{State}, Steps.{openCount}}
+use Rattle.image.specs.{OpenNames.{names, OpenName, names-open}, Check.{checkOf}, Encode.{word, long, body, block, openNamed, blocks}}
+use Rattle.image.specs.Encode.{deskBytes, cellPart, openPart, perDesk, openBlocks, block2, block3, block4, encodeAt}
+use Rattle.image.specs.{Fields.{length-desk, length-cell, length-open}, Link.BlockFill.{cat-plus, cat-rows}, Limits.{Wide, fit}}
+use Rattle.image.specs.Limits.{block-bytes, payload-at, check-at, payload-bytes, desk-bytes, cell-bytes, open-bytes, cells-in}
+use Rattle.image.specs.Limits.{opens-in}
+
+pub pick-has : {A : Type 0} (P : A → Type 0) (b : Bool) {x y : A} → P x → P y → P (pick b x y)
+pick-has P true h g = h
+pick-has P false h g = g
+
+-- blocks --
+
+pub length-body : (kind place : ℕ) (l : List ℕ) → length l ≤ payload-bytes → length (body kind place l) ≡ check-at
+length-body kind place l h = simp (length-append, length-replicate) (omega arith)
+
+pub length-block : (kind place : ℕ) (l : List ℕ) → length l ≤ payload-bytes → length (block kind place l) ≡ block-bytes
+unfolding block
+length-block kind place l h = rw (length-append (body kind place l), length-body kind place l h)
+
+-- the payload stands at 4
+part-block : (kind place : ℕ) (l : List ℕ) (p w : ℕ) → p + w ≤ length l → part (payload-at + p) w (block kind place l) ≡ part p w l
+unfolding block
+part-block kind place l p w h =
+    let z : List ℕ = replicate (payload-bytes - length l) 0 in
+    part-right (kind ∷ 1 ∷ word place) ((l ++ z) ++ long (checkOf (body kind place l))) 4 p w refl
+    ∙ part-left (l ++ z) (long (checkOf (body kind place l))) p w (rw length-append (omega arith))
+    ∙ part-left l z p w h
+
+-- a block of pieces of w bytes, as many as fit --
+
+module _ (w : ℕ) (f : ℕ → List ℕ) (l : (j : ℕ) → length (f j) ≡ w) where
+  pub few-bytes : length (cat f (payload-bytes / w)) ≤ payload-bytes
+  few-bytes = omega (arith, length-cat f w l (payload-bytes / w), fit w)
+
+  piece-block : (kind place j : ℕ) → j < payload-bytes / w → part (payload-at + w * j) w (block kind place (cat f (payload-bytes / w))) ≡ f j
+  piece-block kind place j h =
+      part-block kind place (cat f (payload-bytes / w)) (w * j) w (omega (arith, length-cat f w l (payload-bytes / w), mul-le-mul-left w h))
+      ∙ piece-cat f (payload-bytes / w) j (w * j) w h (length-cat f w l j) (l j)
+
+-- it lies within the block
+piece-room : (w j : ℕ) → j < payload-bytes / w → payload-at + w * j + w ≤ block-bytes
+piece-room w j h = omega (arith, mul-le-mul-left w h, fit w)
+
+module _ (ps : ℕ) (s : State) where
+  abbrev row : ℕ
+  row = perDesk ps (s .setup .cells)
+
+  abbrev opens-from : ℕ
+  opens-from = 1 + s .setup .desks + row * s .setup .desks
+
+  -- the block at place k, of whichever kind
+  unfoldable pub blockAt : ℕ → List ℕ
+  blockAt k =
+      pick (eqb k 0) (block 1 k (s .setup .desks ∷ s .setup .cells ∷ openCount s ∷ []))
+      (pick (leb k (s .setup .desks)) (block 2 k (deskBytes ps k (s .applied k) (s .clock k)))
+      (pick (ltb k opens-from)
+      (block 3 k (cat (cellPart ps s ((k - (1 + s .setup .desks)) / row) ((k - (1 + s .setup .desks)) % row)) (cells-in ps)))
+      (block 4 k (cat (openPart ps s (k - opens-from)) (opens-in ps)))))
+
+  at-2 : (i : ℕ) → i < s .setup .desks → blockAt (1 + i) ≡ block2 ps s i
+  unfolding blockAt
+  at-2 i h =
+      let e : 1 + i ≡ suc i = omega arith in
+      rw (e, ne-eqb (suc i) 0 (λ z. omega arith), le-leb (suc i) (s .setup .desks) (omega arith))
+
+  at-3 : (i q : ℕ) → i < s .setup .desks → q < row → blockAt (1 + s .setup .desks + (row * i + q)) ≡ block3 ps s i q
+  unfolding blockAt
+  at-3 i q h g =
+      let k : ℕ = 1 + s .setup .desks + (row * i + q) in
+      let a : k - (1 + s .setup .desks) ≡ row * i + q = omega arith in
+      let l = mul-le-mul-left row h in
+      let b : 1 + s .setup .desks + row * i + q ≡ k = omega arith in
+      let z : 0 < row = omega arith in
+      rw (
+        ne-eqb k 0 (λ e. omega arith),
+        lt-leb k (s .setup .desks) (omega arith),
+        lt-ltb k opens-from (omega arith),
+        a,
+        mul-add-div z i q,
+        div-eq-of-lt g,
+        mul-add-mod-self-left row i q,
+        mod-eq-of-lt g,
+        b,
+        add-zero i,
+      )
+
+  at-4 : (q : ℕ) → blockAt (opens-from + q) ≡ block4 ps s q
+  unfolding blockAt
+  at-4 q =
+      let k : ℕ = opens-from + q in
+      let a : k - opens-from ≡ q = omega arith in
+      rw (ne-eqb k 0 (λ e. omega arith), lt-leb k (s .setup .desks) (omega arith), le-ltb k opens-from (omega arith), a)
+
+  -- the image is its blocks, one after the other
+  pub encode-is : encodeAt ps s ≡ cat blockAt (blocks ps s)
+  unfolding encodeAt cat blockAt
+  encode-is =
+      let n = s .setup .desks in
+      let e2 = cat-same (λ j. blockAt (1 + j)) (block2 ps s) n at-2 in
+      let e3 = sym (cat-rows (λ j. blockAt (1 + n + j)) row n)
+      ∙ cat-same (λ i. cat (λ q. blockAt (1 + n + (row * i + q))) row) (λ i. cat (block3 ps s i) row) n (λ i h. cat-same _ _ row (λ q g. at-3 i q h g)) in
+      let e4 = cat-same (λ j. blockAt (opens-from + j)) (block4 ps s) (openBlocks ps s) (λ q _. at-4 q) in
+      sym (cat-plus blockAt opens-from (openBlocks ps s) ∙ rw (cat-plus blockAt (1 + n) (row * n), cat-plus blockAt 1 n, e2, e3, e4) (simp append-assoc))
+
+module _ (ps : ℕ) (wd : Wide ps) (s : State) where
+  length-in : (i q j : ℕ) → length (cellPart ps s i q j) ≡ cell-bytes ps
+  unfolding cellPart
+  length-in i q j = length-cell ps (s .cell (suc i) (suc (cells-in ps * q + j)))
+
+  length-entry : (q j : ℕ) → length (openPart ps s q j) ≡ open-bytes ps
+  unfolding openPart
+  length-entry q j =
+      each-at (λ (l : List ℕ). length l ≡ open-bytes ps) (map (openNamed ps s) (names s)) (replicate (open-bytes ps) 0) (length-replicate {A = ℕ} (open-bytes ps) 0)
+      (each-map (λ (l : List ℕ). length l ≡ open-bytes ps) (openNamed ps s) (OpenName s) (λ w _. length-open ps (w .writer) (s .opens (w .writer) (w .number))) (names s) (names-open s))
+      (opens-in ps * q + j)
+
+  -- what every block has whose payload fits
+  pub every-block : (P : List ℕ → Type 0) → ((kind k : ℕ) (l : List ℕ) → length l ≤ payload-bytes → P (block kind k l)) → (k : ℕ) → P (blockAt ps s k)
+  unfolding blockAt
+  every-block P h k =
+      pick-has P (eqb k 0) (h 1 k _ (omega arith))
+      (pick-has P (leb k (s .setup .desks)) (h 2 k _ (omega (arith, length-desk ps k (s .applied k) (s .clock k), wd .desk)))
+      (pick-has P (ltb k (opens-from ps s))
+      (h 3 k _ (few-bytes (cell-bytes ps) _ (length-in ((k - (1 + s .setup .desks)) / row ps s) ((k - (1 + s .setup .desks)) % row ps s))))
+      (h 4 k _ (few-bytes (open-bytes ps) _ (length-entry (k - opens-from ps s))))))
+
+  pub length-at : (k : ℕ) → length (blockAt ps s k) ≡ block-bytes
+  length-at = every-block (λ l. length l ≡ block-bytes) length-block
+
+  -- the length of the image
+  pub length-encode : length (encodeAt ps s) ≡ block-bytes * blocks ps s
+  length-encode = rw (encode-is ps s) (length-cat (blockAt ps s) block-bytes length-at (blocks ps s))
+
+  -- w bytes of the block at place k, from p on
+  pub part-at : (k p w : ℕ) → k < blocks ps s → p + w ≤ block-bytes → part (block-bytes * k + p) w (encodeAt ps s) ≡ part p w (blockAt ps s k)
+  part-at k p w h g = rw (encode-is ps s) (part-cat (blockAt ps s) (blocks ps s) k (block-bytes * k) p w h (length-cat (blockAt ps s) block-bytes length-at k) (omega (arith, length-at k)))
+
+  pub block-at : (k : ℕ) → k < blocks ps s → part (block-bytes * k) block-bytes (encodeAt ps s) ≡ blockAt ps s k
+  block-at k h = rw (encode-is ps s) (piece-cat (blockAt ps s) (blocks ps s) k (block-bytes * k) block-bytes h (length-cat (blockAt ps s) block-bytes length-at k) (length-at k))
+
+  -- w bytes of a desk's part, from p on
+  pub part-2 : (i p w : ℕ) → i < s .setup .desks → p + w ≤ desk-bytes ps → part (block-bytes + (block-bytes * i + (payload-at + p))) w (encodeAt ps s) ≡ part p w (deskBytes ps (suc i) (s .applied (suc i)) (s .clock (suc i)))
+  part-2 i p w h g =
+      let e : block-bytes + (block-bytes * i + (payload-at + p)) ≡ block-bytes * (1 + i) + (payload-at + p) = omega arith in
+      rw (e, part-at (1 + i) (payload-at + p) w (omega arith) (omega (arith, wd .desk)), at-2 ps s i h)
+      (part-block 2 (1 + i) (deskBytes ps (suc i) (s .applied (suc i)) (s .clock (suc i))) p w (omega (arith, length-desk ps (suc i) (s .applied (suc i)) (s .clock (suc i)))))
+
+  -- a cell
+  pub part-3 : (i q j : ℕ) → i < s .setup .desks → q < row ps s → j < cells-in ps
+      → part (block-bytes + (block-bytes * s .setup .desks + (block-bytes * row ps s * i + (block-bytes * q + (payload-at + cell-bytes ps * j))))) (cell-bytes ps) (encodeAt ps s) ≡ cellPart ps s i q j
+  part-3 i q j hi hq hj =
+      let w = cell-bytes ps in
+      let k : ℕ = 1 + s .setup .desks + (row ps s * i + q) in
+      let e : block-bytes + (block-bytes * s .setup .desks + (block-bytes * row ps s * i + (block-bytes * q + (payload-at + w * j)))) ≡ block-bytes * k + (payload-at + w * j) = omega arith in
+      rw (e, part-at k (payload-at + w * j) w (let l = mul-le-mul-left (row ps s) hi in omega arith) (piece-room w j hj), at-3 ps s i q hi hq)
+      (piece-block w (cellPart ps s i q) (length-in i q) 3 (1 + s .setup .desks + row ps s * i + q) j hj)
+
+  -- an open write
+  pub part-4 : (q j : ℕ) → q < openBlocks ps s → j < opens-in ps
+      → part (block-bytes + (block-bytes * s .setup .desks + (block-bytes * row ps s * s .setup .desks + (block-bytes * q + (payload-at + open-bytes ps * j))))) (open-bytes ps) (encodeAt ps s) ≡ openPart ps s q j
+  part-4 q j hq hj =
+      let w = open-bytes ps in
+      let e : block-bytes + (block-bytes * s .setup .desks + (block-bytes * row ps s * s .setup .desks + (block-bytes * q + (payload-at + w * j)))) ≡ block-bytes * (opens-from ps s + q) + (payload-at + w * j) = omega arith in
+      rw (e, part-at (opens-from ps s + q) (payload-at + w * j) w (omega arith) (piece-room w j hj), at-4 ps s q)
+      (piece-block w (openPart ps s q) (length-entry q) 4 (opens-from ps s + q) j hj)

@@ -1,0 +1,201 @@
+-- What the code puts for a table that keeps the rules is the image of its model.
+use Rattle.laws.specs.Kit.{ℕ, suc, _+_, _-_, _*_, _/_, _%_, _<_, _≤_, _≡_, sym, ap, _∙_, fun-ext, not, List, [], _∷_, map, Option, some}
+use Rattle.laws.specs.Kit.{arith, decLt, eqb-true, ne-eqb, le-leb, lt-leb, lt-ltb, le-ltb, eqb, length, getD, replicate}
+use Rattle.laws.specs.{Kit.{List·getD-eq-default, length-map, sets}, Loop.{cases}, Says.{clash}, Cat.{cat}, Each.{each-in, getD-map-in}}
+use Rattle.clock.specs.Vectors.{places, place}
+use Rattle.machine.specs.Table as machine
+use Rattle.machine.specs.{Table.{Name, State}, Steps.{isNone, openCount}, Rules.{Rules}}
+use Rattle.table.specs.{declared.Cell.{Cell}, declared.Open.{Open}, declared.Table.{Table}, Value.{desk0, desk-cells, cellAt, entries}}
+use Rattle.table.specs.{Value.{openAt}, EntryNames.{named-is}, Model.{modelOf, cellM, openM, appliedM, clockM, cellsM, opensM, slot}}
+use Rattle.table.specs.{Model.{cell-in}, Link.OpensModel.{opens-at}, Sound.{SoundTable, AllZero}}
+use Rattle.image.specs.{OpenNames.{names, no-name, length-names, OpenName, names-open}, Link.OrderFromCounts.{low, counted}}
+use Rattle.image.specs.{Link.OrderFromCounts.{names-counted, open-low}, Encode.{vectorWords, cellBytes, openBytes, deskBytes, block}}
+use Rattle.image.specs.{Encode.{blocks, openNamed, cellPart, openPart, perDesk, encodeAt, encode}, ImageSize.{most-blocks}}
+use Rattle.image.specs.{Link.FieldPlaces.{blockAt, encode-is, length-encode}, Mirror.Block.{cellRaw, openRaw}}
+use Rattle.image.specs.Mirror.TableBytes.{CellsFit, cellPiece, OrderFits, openOr, openPiece}
+use Rattle.image.specs.{Mirror.EntryOrder.{HoldsWrite, InOrder, Known}, Limits.{Wide, some-cells, some-opens, block-of, blocks-mono}}
+use Rattle.image.specs.Limits.{block-bytes, vector-bytes, cell-bytes, open-bytes, cells-in, opens-in, blocks-for, row-most}
+use Rattle.image.specs.{Limits.{opens-most, blocks-most}, Fields.{zero-words}}
+
+-- the image of s stands in the buffer from its start on, what lies behind it is as it was, and the result is its length
+pub record Saved (s : State) (before after : List ℕ) (r : ℕ) : Type 0 where
+  pub stored : after ≡ sets before 0 (encode s)
+  pub size : r ≡ length (encode s)
+
+-- an unset cell is all zero
+unset-bytes : (ps : ℕ) (c : Cell) → c .writer ≡ 0 → AllZero c → cellRaw ps c ≡ replicate (cell-bytes ps) 0
+unfolding cellRaw
+unset-bytes ps c w z =
+    let v : place (c .vector) ≡ (λ t. 0) = fun-ext (z .vector) in
+    let e : 4 + vector-bytes ps ≡ suc (suc (suc (suc (vector-bytes ps)))) = omega arith in
+    rw (w, z .status, e) (ap (λ (r : List ℕ). 0 ∷ 0 ∷ 0 ∷ 0 ∷ r) (ap (vectorWords ps) v ∙ zero-words ps))
+
+-- what the blocks of a table are made of, once its open writes are in order and its blocks are counted: a desk's cells take c, the open writes
+-- begin at place e, and there are `total` in all
+pub record Planned (ps : ℕ) (t : Table) (order : List ℕ) (count c e total : ℕ) : Type 0 where
+  pub desks : t .core .n ≤ places
+  pub cells : t .core .m ≤ desk-cells
+  pub few : count ≤ entries
+  pub row : c ≡ perDesk ps (t .core .m)
+  pub row-some : 1 ≤ c
+  pub row-few : c ≤ row-most ps
+  pub opens-from : e ≡ 1 + t .core .n + c * t .core .n
+  pub opens-few : total ≤ e + opens-most ps
+  pub total-is : total ≡ blocks ps (modelOf t)
+  pub total-few : total ≤ blocks-most ps
+  pub counted-right : count ≡ openCount (modelOf t)
+  pub cells-fit : CellsFit ps (t .cells)
+  pub order-fits : OrderFits (t .opens) order count
+  pub piece : (p : ℕ) → openOr ps (t .opens) order count p ≡ getD (map (openNamed ps (modelOf t)) (names (modelOf t))) p (replicate (open-bytes ps) 0)
+
+module _ (ps : ℕ) (wd : Wide ps) {t : Table} (ok : SoundTable t) (fits : t .core .n ≤ ps) where
+  abbrev st : State
+  st = modelOf t
+
+  abbrev n : ℕ
+  n = t .core .n
+
+  abbrev os : List ℕ
+  os = t .opens
+
+  r : Rules st
+  r = ok .rules
+
+  few-desks : n ≤ places
+  few-desks = r .frame .ranges .desks .1
+
+  -- cells --
+
+  all-cells-fit : CellsFit ps (t .cells)
+  unfolding cellBytes cellRaw
+  all-cells-fit s h =
+      let i : ℕ = s / desk-cells in
+      let x : ℕ = s % desk-cells in
+      let cell = cellAt (t .cells) s in
+      let e : slot (suc i) (suc x) ≡ s = omega arith in
+      let g : cellsM (t .cells) (suc i) (suc x) ≡ cellM cell = rw e at (cell-in (t .cells) (suc i) (suc x) (omega arith, omega arith) (omega arith, omega arith)) in
+      cases (eqb (cell .writer) 0)
+      (λ b. let w = eqb-true (cell .writer) 0 b in
+      let z = ok .blanks s h w in
+      record { small = record { writer = omega arith; status = omega (arith, z .status) }; bytes = rw b (unset-bytes ps cell w z) })
+      (λ b. let k = r .frame .cell (suc i) (suc x) (cell .status) (cell .writer) (place (cell .vector)) (rw b at g) in
+      record { small = record { writer = omega (arith, k .writer-in .1, few-desks); status = omega (arith, k .status-in) }; bytes = rw b })
+
+  -- open writes --
+
+  counted-is : length (counted n (appliedM (t .core .desks))) ≡ openCount st
+  counted-is = ap length (sym (names-counted st r)) ∙ length-names st
+
+  pub known : Known n (t .core .desks) os
+  known =
+      record {
+        few = omega (arith, counted-is, r .frame .ranges .few);
+        found = λ u k h a b e.
+            (let t = open-low st r (suc u) k (omega arith, h) (omega arith, b) ∙ lt-ltb (low n (st .applied) (suc u)) k a in
+            clash (sym (ap (λ (o : Option machine.Open). not (isNone o)) e) ∙ t));
+      }
+
+  module _ {order : List ℕ} {count : ℕ} (ord : InOrder os (counted n (appliedM (t .core .desks))) order count) where
+    ord-names : InOrder os (names st) order count
+    ord-names = rw (names-counted st r) ord
+
+    abbrev at : ℕ → Name
+    at p = getD (names st) p no-name
+
+    abbrev entry : ℕ → Open
+    entry p = openAt os (getD order p 0)
+
+    held-as : (p : ℕ) → p < count → HoldsWrite os (at p) (getD order p 0)
+    held-as p h = ord-names .each p (omega (arith, ord-names .size))
+
+    is-there : (p : ℕ) → p < count → opensM os (at p .writer) (at p .number) ≡ some (openM (entry p))
+    is-there p h = let e = held-as p h in opens-at os (getD order p 0) (at p .writer) (at p .number) (ok .unique) (e .0) (e .1)
+
+    writer-is : (p : ℕ) → p < count → entry p .writer ≡ at p .writer
+    writer-is p h = named-is (entry p) (at p .writer) (at p .number) (held-as p h .1) .1
+
+    all-order-fits : OrderFits os order count
+    all-order-fits =
+        record {
+          few = omega (arith, ord .size, known .few);
+          each = λ p h.
+              (let w = each-in (OpenName st) (names st) no-name (names-open st) p (omega (arith, ord-names .size)) in
+              let o = r .frame .open-write (at p .writer) (at p .number) (openM (entry p)) (is-there p h) in (
+                held-as p h .0,
+                record {
+                  writer = omega (arith, writer-is p h, w .writer-in .1, few-desks);
+                  status = omega (arith, o .status-in);
+                  cell = omega (arith, o .cell .1, r .frame .ranges .cells .1);
+                  marks = λ t. omega (arith, o .marks-in (suc t));
+                },
+              ));
+        }
+
+    piece-at : (p : ℕ) → openOr ps os order count p ≡ getD (map (openNamed ps st) (names st)) p (replicate (open-bytes ps) 0)
+    unfolding openOr openBytes openRaw
+    piece-at p = go (decLt p count)
+      where
+        go : Dec (p < count) → openOr ps os order count p ≡ getD (map (openNamed ps st) (names st)) p (replicate (open-bytes ps) 0)
+        go (yes h) =
+            rw (lt-ltb p count h, getD-map-in (openNamed ps st) (names st) p no-name (replicate (open-bytes ps) 0) (omega (arith, ord-names .size)), is-there p h, writer-is p h)
+        go (no h) =
+            let l : length (map (openNamed ps st) (names st)) ≤ p = rw (length-map (names st) (openNamed ps st)) (omega (arith, ord-names .size)) in
+            let g : count ≤ p = omega arith in
+            rw (le-ltb p count g, List·getD-eq-default (map (openNamed ps st) (names st)) (replicate (open-bytes ps) 0) l)
+
+    pub planned : {c e d : ℕ} → c ≡ perDesk ps (t .core .m) → e ≡ 1 + n + c * n → d ≡ blocks-for (opens-in ps) count → Planned ps t order count c e (e + d)
+    planned {c} {e} {d} ec ee ed =
+        let m = t .core .m in
+        let few : d ≤ opens-most ps = rw ed (blocks-mono (opens-in ps) count entries (some-opens ps wd) (all-order-fits .few)) in
+        let all : e + d ≡ blocks ps st = rw (ee, ec, ed, ord .size ∙ counted-is) in
+        record {
+          desks = few-desks;
+          cells = r .frame .ranges .cells .1;
+          few = all-order-fits .few;
+          row = ec;
+          row-some = rw ec (let z = block-of (cells-in ps) m 0 (some-cells ps wd) (r .frame .ranges .cells .0) in omega arith);
+          row-few = rw ec (blocks-mono (cells-in ps) m desk-cells (some-cells ps wd) (r .frame .ranges .cells .1));
+          opens-from = ee;
+          opens-few = omega arith;
+          total-is = all;
+          total-few = rw all (most-blocks ps wd st r fits);
+          counted-right = ord .size ∙ counted-is;
+          cells-fit = all-cells-fit;
+          order-fits = all-order-fits;
+          piece = piece-at;
+        }
+
+  -- the length, by the counts alone
+  pub length-is : block-bytes * (1 + n + perDesk ps (t .core .m) * n + blocks-for (opens-in ps) (length (counted n (appliedM (t .core .desks))))) ≡ length (encodeAt ps st)
+  length-is = rw counted-is (sym (length-encode ps wd st))
+
+-- the block of the code at place k, by its kind
+module _ (ps : ℕ) {t : Table} {order : List ℕ} {count c e total : ℕ} (P : Planned ps t order count c e total) (k : ℕ) {b : List ℕ} where
+  pub sizes-at : k ≡ 0 → b ≡ block 1 0 (t .core .n ∷ t .core .m ∷ count ∷ []) → b ≡ blockAt ps (modelOf t) k
+  unfolding blockAt
+  sizes-at ek eb = rw (eb, P .counted-right, ek)
+
+  pub desk-at : (k ≡ 0 → ⊥) → k ≤ t .core .n → (let d = getD (t .core .desks) (k - 1) desk0 in b ≡ block 2 k (deskBytes ps k (place (d .applied)) (place (d .clock .at)))) → b ≡ blockAt ps (modelOf t) k
+  unfolding blockAt appliedM clockM
+  desk-at z h eb =
+      let e : suc (k - 1) ≡ k = omega arith in
+      rw (ne-eqb k 0 z, le-leb k (t .core .n) h) (eb ∙ ap (λ (j : ℕ). block 2 k (deskBytes ps k (appliedM (t .core .desks) j) (clockM (t .core .desks) j))) e)
+
+  pub cells-at : t .core .n < k → k < e
+      → b ≡ block 3 k (cat (cellPiece ps (t .cells) ((k - (1 + t .core .n)) / c) ((k - (1 + t .core .n)) % c)) (cells-in ps)) → b ≡ blockAt ps (modelOf t) k
+  unfolding blockAt cellPart
+  cells-at h g eb =
+      let l : k < 1 + t .core .n + perDesk ps (t .core .m) * t .core .n = rw (P .opens-from, P .row) at g in
+      rw (eb, ne-eqb k 0 (λ z. omega arith), lt-leb k (t .core .n) h, lt-ltb k _ l, P .row)
+
+  pub opens-at-place : t .core .n < k → e ≤ k → b ≡ block 4 k (cat (openPiece ps (t .opens) order count (k - e)) (opens-in ps)) → b ≡ blockAt ps (modelOf t) k
+  unfolding blockAt openPart
+  opens-at-place h g eb =
+      let q : e ≡ 1 + t .core .n + perDesk ps (t .core .m) * t .core .n = P .opens-from ∙ rw (P .row) in
+      let l : 1 + t .core .n + perDesk ps (t .core .m) * t .core .n ≤ k = rw q at g in
+      let f : openPiece ps (t .opens) order count (k - e) ≡ openPart ps (modelOf t) (k - e) = fun-ext (λ j. P .piece (opens-in ps * (k - e) + j)) in
+      rw (eb, f, ne-eqb k 0 (λ z. omega arith), lt-leb k (t .core .n) h, le-ltb k _ l, q)
+
+-- all of them
+pub all-blocks : (ps : ℕ) (s : State) (out : List ℕ) {out′ : List ℕ} {k : ℕ} → out′ ≡ sets out 0 (cat (blockAt ps s) k) → k ≡ blocks ps s → out′ ≡ sets out 0 (encodeAt ps s)
+all-blocks ps s out e q = e ∙ rw (q, ← encode-is ps s)

@@ -1,0 +1,97 @@
+-- A block as the code fills it: zeros, then its head and its payload, then its check.
+use Rattle.laws.specs.Kit.{ℕ, zero, suc, _+_, _-_, _*_, _<_, _≤_, _≡_, refl, sym, ap, _∙_, List, [], _∷_, _++_, append-assoc, append-nil}
+use Rattle.laws.specs.Kit.{arith, length, getD, set, drop, replicate, length-append, length-replicate, replicate-append-replicate, sets}
+use Rattle.laws.specs.{Kit.{sets-eq, take-at, drop-append-add, add-zero}, Cat.{cat, length-cat}}
+use Rattle.clock.specs.Vectors.{place}
+use Rattle.table.specs.{declared.Cell.{Cell}, declared.Open.{Open}}
+use Rattle.image.specs.{Check.{checkOf, check-first}, Encode.{word, long, vectorWords, markBytes, body, sealed, block}}
+use Rattle.image.specs.{Fields.{length-words, length-marks}, Link.FieldPlaces.{length-body}, Link.BlockFill.{then-put, zeros-put}}
+use Rattle.image.specs.Limits.{block-bytes, payload-at, check-at, payload-bytes, vector-at, after-vector, open-bytes}
+use Rattle.machine.specs.Table.{Vec}
+
+-- their numbers that take one byte
+pub record SmallCell (c : Cell) : Type 0 where
+  pub writer : c .writer < 256
+  pub status : c .status < 256
+
+pub record SmallOpen (o : Open) : Type 0 where
+  pub writer : o .writer < 256
+  pub status : o .status < 256
+  pub cell : o .cell < 256
+  pub marks : (t : ℕ) → getD (o .marks) t 0 < 256
+
+-- the head of a block
+abbrev pub head : ℕ → ℕ → List ℕ
+head kind at = kind ∷ 1 ∷ word at
+
+sealed-sets : (b : List ℕ) → length b ≡ check-at → sets (b ++ replicate 4 0) check-at (long (checkOf (b ++ replicate 4 0))) ≡ sealed b
+sealed-sets b e =
+    let z : List ℕ = replicate 4 0 in
+    let c : checkOf (b ++ z) ≡ checkOf b = check-first b z e in
+    let l : length (b ++ z) ≡ block-bytes = rw (length-append b z, e) in
+    let d : drop (check-at + 4) (b ++ z) ≡ [] = rw e at (drop-append-add b z 4) in
+    rw c (sets-eq (long (checkOf b)) (b ++ z) check-at (omega arith) ∙ rw (take-at b z check-at e, d, append-nil))
+
+body-put : (kind at : ℕ) (l : List ℕ) → length l ≤ payload-bytes → sets (replicate block-bytes 0) 0 (head kind at ++ l) ≡ body kind at l ++ replicate 4 0
+body-put kind at l h =
+    let e : block-bytes - suc (suc (suc (suc (length l)))) ≡ (payload-bytes - length l) + 4 = omega arith in
+    zeros-put block-bytes (head kind at ++ l) (omega arith) ∙ rw (e, append-assoc l, replicate-append-replicate (payload-bytes - length l))
+
+-- a block of the code: its head put into zeros, its payload behind that, and then its check
+pub made : (kind at : ℕ) (l : List ℕ) {b0 b1 b : List ℕ} → length l ≤ payload-bytes → b0 ≡ sets (replicate block-bytes 0) 0 (head kind at) → b1 ≡ sets b0 payload-at l
+    → b ≡ sets b1 check-at (long (checkOf b1)) → b ≡ block kind at l
+unfolding block
+made kind at l h e0 e1 e =
+    let z = e1 ∙ rw e0 (then-put (replicate block-bytes 0) (head kind at) l 0 payload-at refl) ∙ body-put kind at l h in
+    e ∙ rw z (sealed-sets (body kind at l) (length-body kind at l h))
+
+-- pieces of zeros at its end need not be put: the rest of a block is zeros
+cat-zeros : (f : ℕ → List ℕ) (w n d : ℕ) → ((j : ℕ) → n ≤ j → j < n + d → f j ≡ replicate w 0) → cat f (n + d) ≡ cat f n ++ replicate (w * d) 0
+unfolding cat
+cat-zeros f w n zero h = let e : w * 0 ≡ 0 = omega arith in rw (add-zero n, e) (sym (append-nil (cat f n)))
+cat-zeros f w n (suc d) h =
+    let a : n + suc d ≡ suc (n + d) = omega arith in
+    let e : w * suc d ≡ w * d + w = omega arith in
+    rw (a, cat-zeros f w n d (λ j g l. h j g (omega arith)), h (n + d) (omega arith) (omega arith), e)
+    (append-assoc (cat f n) (replicate (w * d) 0) (replicate w 0) ∙ rw (replicate-append-replicate {A = ℕ} (w * d) w 0))
+
+pub zeros-behind : (kind at w n all : ℕ) (f : ℕ → List ℕ) → n ≤ all → ((j : ℕ) → length (f j) ≡ w) → w * all ≤ payload-bytes
+    → ((j : ℕ) → n ≤ j → j < all → f j ≡ replicate w 0) → block kind at (cat f n) ≡ block kind at (cat f all)
+unfolding block
+zeros-behind kind at w n all f h l fits z =
+    let d : ℕ = all - n in
+    let e : all ≡ n + d = omega arith in
+    let m = ap (λ (x : ℕ). w * x) e in
+    let c : cat f all ≡ cat f n ++ replicate (w * d) 0 = ap (cat f) e ∙ cat-zeros f w n d (λ j g k. z j g (omega arith)) in
+    let k = length-cat f w l n in
+    let r : payload-bytes - length (cat f n) ≡ w * d + (payload-bytes - length (cat f n ++ replicate (w * d) 0)) = rw (length-append, length-replicate) (omega arith) in
+    let q : cat f n ++ replicate (payload-bytes - length (cat f n)) 0 ≡ cat f all ++ replicate (payload-bytes - length (cat f all)) 0 =
+    rw (c, append-assoc (cat f n), replicate-append-replicate {A = ℕ} (w * d), r) in
+    ap (λ (b : List ℕ). sealed (kind ∷ 1 ∷ (word at ++ b))) q
+
+-- where a vector takes ps places
+module _ (ps : ℕ) where
+  -- the bytes of the code's cell and open write
+  unfoldable pub cellRaw : Cell → List ℕ
+  cellRaw c = c .writer ∷ c .status ∷ 0 ∷ 0 ∷ vectorWords ps (place (c .vector))
+
+  unfoldable pub openRaw : Open → List ℕ
+  openRaw o = o .writer ∷ o .status ∷ o .cell ∷ 0 ∷ (vectorWords ps (place (o .vector)) ++ markBytes ps (place (o .marks)))
+
+  pub length-openRaw : (o : Open) → length (openRaw o) ≡ open-bytes ps
+  unfolding openRaw
+  length-openRaw o =
+      rw (length-append (vectorWords ps (place (o .vector))) (markBytes ps (place (o .marks))), length-words ps (place (o .vector)), length-marks ps (place (o .marks))) (omega arith)
+
+  -- what begins with 4 bytes and a vector, as it is put
+  pub begun : (b : List ℕ) (at x y z : ℕ) (r : List ℕ) → sets (set (set (set (set b at x) (at + 1) y) (at + 2) z) (at + 3) 0) (at + vector-at) r ≡ sets b at (x ∷ y ∷ z ∷ 0 ∷ r)
+  begun b at x y z r =
+      let p1 : at + 1 ≡ suc at = omega arith in
+      let p2 : at + 2 ≡ suc (suc at) = omega arith in
+      let p3 : at + 3 ≡ suc (suc (suc at)) = omega arith in
+      let p4 : at + 4 ≡ suc (suc (suc (suc at))) = omega arith in
+      rw (p1, p2, p3, p4)
+
+  -- and what stands behind the vector
+  pub behind : (b : List ℕ) (at x y z : ℕ) (v : Vec) (r : List ℕ) → sets (sets b at (x ∷ y ∷ z ∷ 0 ∷ vectorWords ps v)) (at + after-vector ps) r ≡ sets b at (x ∷ y ∷ z ∷ 0 ∷ (vectorWords ps v ++ r))
+  behind b at x y z v r = then-put b (x ∷ y ∷ z ∷ 0 ∷ vectorWords ps v) r at (after-vector ps) (rw (length-words ps v) (omega arith))

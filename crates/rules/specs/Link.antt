@@ -1,0 +1,6 @@
+pub mod PassesToRules
+pub mod RulesToPasses
+pub mod ArrayLimits
+pub mod FewEntries
+pub mod Gap
+pub mod CodeLaws

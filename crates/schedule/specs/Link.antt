@@ -1,0 +1,2 @@
+pub mod TripCells
+pub mod LineLaws

@@ -1,0 +1,2 @@
+pub mod SessionRules
+pub mod LineTurn

@@ -1,0 +1,3 @@
+pub mod Trip
+pub mod Look
+pub mod Write

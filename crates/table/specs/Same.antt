@@ -1,8 +1,0 @@
--- "Open writes count as a set: which entry holds one makes no difference to two tables being the same."
-use mathlib.Core.Path.{_≡_}
-use Rattle.table.specs.declared.Table.{Table}
-use Rattle.table.specs.Model.{modelOf}
-
--- two tables are the same exactly if their models are equal
-abbrev pub Same : Table → Table → Type 0
-Same a b = modelOf a ≡ modelOf b

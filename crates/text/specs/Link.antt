@@ -1,0 +1,2 @@
+pub mod NumberBounds
+pub mod Decimal
