@@ -5,7 +5,7 @@ ghost use lib.ListN.{length};
 ghost use Rattle.schedule.specs.Lines.{lineAt, endAt, placeIn};
 ghost use Rattle.schedule.specs.Grammar.{most-bytes, lineOf, two, three, oneOrMore};
 ghost use Rattle.schedule.specs.LineValue.{lineValue, SaidBy};
-ghost use Rattle.schedule.specs.Mirror.Forms.{sayAt, PairTells, pairs, triples, travels, ToldLine};
+ghost use Rattle.schedule.specs.Mirror.Forms.{sayAt, pairs, triples, travels, ToldLine};
 ghost use Rattle.schedule.specs.Link.TripCells.{CellsTell};
 use text::Field;
 
@@ -53,35 +53,19 @@ pub enum Line {
     NoStep,
 }
 
-// Two numbers, or none.
-enum Pair {
-    Nums(usize, usize),
-    Bad,
-}
-
-// Two fields from a place on, and the end.
-fn last_two(s: &[u8], at: usize) -> Pair
-    ensures { λ r. ⌜ PairTells (now (s .entry)) at r ⌝ }
-{
-    let Field::Num(a, p) = text::next_field(s, at) else {
-        return Pair::Bad;
-    };
-    let Field::Num(b, q) = text::next_field(s, p) else {
-        return Pair::Bad;
-    };
-    if q != s.len() {
-        return Pair::Bad;
-    }
-    Pair::Nums(a, b)
-}
-
 // N n m or R i x.
 fn two(s: &[u8], begins: bool) -> Line
     ensures { λ r. ⌜ r ≡ lineValue (sayAt (now (s .entry)) 1 (two (pairs begins))) ⌝ }
 {
-    let Pair::Nums(a, b) = last_two(s, 1) else {
+    let Field::Num(a, p) = text::next_field(s, 1) else {
         return Line::NoStep;
     };
+    let Field::Num(b, q) = text::next_field(s, p) else {
+        return Line::NoStep;
+    };
+    if q != s.len() {
+        return Line::NoStep;
+    }
     if begins {
         return Line::New(a, b);
     }
@@ -95,9 +79,15 @@ fn three(s: &[u8], writes: bool) -> Line
     let Field::Num(a, p) = text::next_field(s, 1) else {
         return Line::NoStep;
     };
-    let Pair::Nums(b, d) = last_two(s, p) else {
+    let Field::Num(b, q) = text::next_field(s, p) else {
         return Line::NoStep;
     };
+    let Field::Num(d, e) = text::next_field(s, q) else {
+        return Line::NoStep;
+    };
+    if e != s.len() {
+        return Line::NoStep;
+    }
     if writes {
         return Line::Write(a, b, d);
     }

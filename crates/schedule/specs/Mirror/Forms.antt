@@ -3,9 +3,8 @@ use Rattle.laws.specs.Kit.{ℕ, suc, _<_, _≤_, _≡_, refl, _∙_, List, [], 
 use Rattle.laws.specs.Kit.{arith, ne-eqb, le-leb, lt-leb, ltb-true, ltb-false, eqb-true, eqb-false, eqb, ltb, length, getD, drop}
 use Rattle.laws.specs.{Kit.{drop-of-length-le, drop-cons, drop-length, sets}, Loop.{cases}}
 use Rattle.machine.specs.{Steps.{Read, Write, Deliver, Trip}, Proofs.Ready.{option-all}}
-use Rattle.schedule.specs.{declared.Pair.{Pair}, declared.Pair.the-variants.{Nums, Bad}, declared.Line.{Line as Answer}}
-use Rattle.schedule.specs.{declared.Line.the-variants.{NoStep}, Grammar.{Line, begin-line, step-line, most-bytes, two, three}}
-use Rattle.schedule.specs.{Grammar.{oneOrMore, form, sentence, lineOf}, LineValue.{lineValue, tripCells}}
+use Rattle.schedule.specs.{declared.Line.{Line as Answer}, declared.Line.the-variants.{NoStep}, Grammar.{Line, begin-line, step-line}}
+use Rattle.schedule.specs.{Grammar.{most-bytes, two, three, oneOrMore, form, sentence, lineOf}, LineValue.{lineValue, tripCells}}
 use Rattle.text.specs.{Number.{number}, Words.{space, onto, words, readOnto, numbers}, Fields.{rest, fieldsAt, FieldIs}}
 
 abbrev pub pairs : Bool → ℕ → ℕ → Line
@@ -72,26 +71,6 @@ module _ (s : List ℕ) (at : ℕ) (f : List ℕ → Option Line) where
   pub sayAt-all : (P : Option Line → Type 0) → P none → ((l : List ℕ) → fieldsAt s at ≡ some l → P (f l)) → P (sayAt s at f)
   unfolding sayAt bind
   sayAt-all P z h = option-all (λ o. P (bind o f)) (fieldsAt s at) (λ _. z) h
-
--- what reading two fields and the end tells, of every form of two
-abbrev pub pairSays : (ℕ → ℕ → Line) → Pair → Option Line
-pairSays f (Nums a b) = some (f a b)
-pairSays f Bad = none
-
-abbrev pub PairTells : List ℕ → ℕ → Pair → Type 0
-PairTells s at r = (f : ℕ → ℕ → Line) → sayAt s at (two f) ≡ pairSays f r
-
--- behind its first field a form of three is one of two
-pub three-two : (s : List ℕ) (at : ℕ) (f : ℕ → ℕ → ℕ → Line) (a : ℕ) → sayAt s at (λ l. three f (a ∷ l)) ≡ sayAt s at (two (f a))
-unfolding sayAt bind
-three-two s at f a = go (fieldsAt s at)
-  where
-    go : (o : Option (List ℕ)) → bind o (λ l. three f (a ∷ l)) ≡ bind o (two (f a))
-    go none = refl
-    go (some []) = refl
-    go (some (x ∷ [])) = refl
-    go (some (x ∷ y ∷ [])) = refl
-    go (some (x ∷ y ∷ z ∷ l)) = refl
 
 -- what holds of no step, and of what a form makes, holds of what is said in it
 module _ (P : List ℕ → Option Line → Type 0) (z : (l : List ℕ) → P l none) where
