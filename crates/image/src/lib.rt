@@ -16,8 +16,8 @@ ghost use Rattle.image.specs.Mirror.TableBytes.{CellsFit, cellPiece, Ord
 ghost use Rattle.machine.specs.Table.{most-writes};
 ghost use Rattle.machine.specs.Rules.{In};
 ghost use Rattle.table.specs.Value.{desk-cells, entries};
-ghost use Rattle.table.specs.Model.{appliedM, opensM, model, modelOf, tableWith};
-ghost use Rattle.table.specs.Sound.{Sound};
+ghost use Rattle.table.specs.Model.{appliedM, opensM, modelOf, tableWith};
+ghost use Rattle.table.specs.Sound.{SoundTable};
 ghost use Rattle.image.specs.Link.OrderFromCounts.{low, counted};
 ghost use Rattle.image.specs.Mirror.EntryOrder.{Listed, InOrder, Known};
 ghost use Rattle.image.specs.Link.FieldPlaces.{blockAt};
@@ -519,9 +519,9 @@ pub fn image_length(core: Core) -> usize
 
 // The image of a table that keeps the rules, into a buffer that is long enough. The result is the image's length.
 pub fn save_parts(core: Core, cells: &Cells, opens: &Opens, out: &mut [u8]) -> usize
-    requires { ⌜ Sound (core .n) (core .m) (core .desks) (now cells) (now opens) ⌝ }
-    requires { ⌜ length (encode (model (core .n) (core .m) (core .desks) (now cells) (now opens))) ≤ length (now out) ⌝ }
-    ensures { λ r. ⌜ Saved (model (core .n) (core .m) (core .desks) (now (cells .entry)) (now (opens .entry))) (now (out .entry)) (now (out .exit)) r ⌝ }
+    requires { ⌜ SoundTable (tableWith core (now cells) (now opens)) ⌝ }
+    requires { ⌜ length (encode (modelOf (tableWith core (now cells) (now opens)))) ≤ length (now out) ⌝ }
+    ensures { λ r. ⌜ Saved (modelOf (tableWith core (now (cells .entry)) (now (opens .entry)))) (now (out .entry)) (now (out .exit)) r ⌝ }
 {
     let n = core.n;
     let m = core.m;

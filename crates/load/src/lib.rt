@@ -6,8 +6,8 @@ ghost use Rattle.laws.specs.Says.{Says};
 ghost use Rattle.laws.specs.Tab.{tab};
 ghost use Rattle.clock.specs.Vectors.{places};
 ghost use Rattle.table.specs.Value.{all-cells, entries, open-width};
-ghost use Rattle.table.specs.Model.{model};
-ghost use Rattle.table.specs.Sound.{Sound};
+ghost use Rattle.table.specs.Model.{modelOf, tableWith};
+ghost use Rattle.table.specs.Sound.{SoundTable};
 ghost use Rattle.table.specs.Beginning.{freshTable};
 ghost use Rattle.image.specs.Limits.{block-bytes, payload-at, payload-bytes, vector-bytes, cell-bytes, open-bytes, row-most, rows-most, opens-most};
 ghost use Rattle.image.specs.Encode.{perDesk, encode};
@@ -335,8 +335,8 @@ fn starts(l: &[u8], b: &[u8]) -> bool
 
 // Is b the image of a table that keeps the rules?
 fn saves_to(core: Core, cells: &Cells, opens: &Opens, b: &[u8]) -> bool
-    requires { ⌜ Sound (core .n) (core .m) (core .desks) (now cells) (now opens) ⌝ }
-    ensures { λ r. ⌜ Says r (encode (model (core .n) (core .m) (core .desks) (now (cells .entry)) (now (opens .entry))) ≡ now (b .entry)) ⌝ }
+    requires { ⌜ SoundTable (tableWith core (now cells) (now opens)) ⌝ }
+    ensures { λ r. ⌜ Says r (encode (modelOf (tableWith core (now (cells .entry)) (now (opens .entry)))) ≡ now (b .entry)) ⌝ }
 {
     let mut out = [0u8; IMAGE];
     let n = image::save_parts(core, cells, opens, &mut out);

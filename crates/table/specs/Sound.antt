@@ -1,9 +1,9 @@
 -- A table value that keeps the rules: its model does, and so does what the model does not see.
-use Rattle.laws.specs.Kit.{_≡_, List, ℕ, _<_}
+use Rattle.laws.specs.Kit.{_≡_, ℕ, _<_}
 use Rattle.clock.specs.Vectors.{place}
 use Rattle.machine.specs.Rules.{Rules}
-use Rattle.table.specs.{declared.Cell.{Cell}, declared.Desk.{Desk}, declared.Table.{Table}, Value.{all-cells, cellAt}}
-use Rattle.table.specs.{Model.{tableOf, modelOf}, Link.OpensModel.{Unique}}
+use Rattle.table.specs.{declared.Cell.{Cell}, declared.Table.{Table}, Value.{all-cells, cellAt}, Model.{modelOf}}
+use Rattle.table.specs.Link.OpensModel.{Unique}
 
 -- "writer (0 unset, then all zero)"
 pub record AllZero (c : Cell) : Type 0 where
@@ -16,6 +16,3 @@ pub record SoundTable (t : Table) : Type 0 where
   pub blanks : (s : ℕ) → s < all-cells → cellAt (t .cells) s .writer ≡ 0 → AllZero (cellAt (t .cells) s)
   -- "the same write twice" breaks the rules
   pub unique : Unique (t .opens)
-
-abbrev pub Sound : ℕ → ℕ → List Desk → List ℕ → List ℕ → Type 0
-Sound n m ds cs os = SoundTable (tableOf n m ds cs os)

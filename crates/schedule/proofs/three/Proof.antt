@@ -1,6 +1,7 @@
 use Rattle.laws.specs.Kit.{_≡_, refl, sym, ap, _∙_, some, arith, length, needs}
 use Rattle.text.specs.Fields.{FieldIs}
-use Rattle.schedule.specs.{Grammar.{three}, LineValue.{lineValue}, Mirror.Forms.{sayAt, triples, no-field, one-field, too-many, no-more}}
+use Rattle.schedule.specs.{Grammar.{three}, LineValue.{lineValue}, Mirror.Forms.{sayAt, triples, no-field, one-field, too-many}}
+use Rattle.schedule.specs.Mirror.Forms.{no-more}
 use Rattle.schedule.proofs.three.Statement.{statement}
 use Rattle.schedule.proofs.three.Tie as tie
 
