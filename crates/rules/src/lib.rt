@@ -229,13 +229,19 @@ fn counts_ok(n: usize, own: [u16; PLACES], gap: [u16; PLACES], i: usize, d: Desk
 fn set_ok(m: usize, a: [u16; PLACES], x: usize, c: Cell) -> bool
     ensures { λ r. ⌜ r ≡ setCell m a x c .passes ⌝ }
 {
+    let s = table::wide(c.status);
+    let w = table::wide(c.writer);
     let v = c.vector;
-    let first = table::wide(table::at_place(v, table::wide(c.writer)));
-    let vector = both(le(1, first), clock::covers(a, v));
-    both(
-        lt(x, m),
-        both(le(table::wide(c.status), MOST_STATUS), vector),
-    )
+    if m <= x {
+        return false;
+    }
+    if MOST_STATUS < s {
+        return false;
+    }
+    if table::at_place(v, w) == 0 {
+        return false;
+    }
+    clock::covers(a, v)
 }
 
 fn blank_ok(c: Cell) -> bool
