@@ -43,7 +43,7 @@ none-of a = record { passes = not (a .passes); holds = a .holds → ⊥; says = 
 abbrev pub both : Test → Test → Test
 both a b = record { passes = a .passes && b .passes; holds = a .holds × b .holds; says = says-both _ _ (a .says) (b .says) }
 
--- a, or else b
+-- where a holds b, and else c
 abbrev pub choice : Test → Test → Test → Test
 choice a b c =
     record {

@@ -1,11 +1,12 @@
 -- One line in, one line out; and how long an output line is.
 use Rattle.laws.specs.Kit.{ℕ, zero, suc, _+_, _*_, _/_, _%_, _^_, _<_, _≤_, max, _≡_, refl, _∙_, List, [], _∷_, _++_, none, arith, pow-suc}
-use Rattle.laws.specs.{Kit.{ne-eqb, ltb-true, ltb-false, eqb, ltb, length}, Count.{count}, Loop.{pick, cases}}
-use Rattle.machine.specs.{Table.{Name, most-writes}, Answer.{Answer, began, shows, wrote, holds, applies, judged, refused, unset, shown}}
-use Rattle.machine.specs.Answer.{Yes, No, Unknown}
+use Rattle.laws.specs.{Kit.{ne-eqb, ltb-true, ltb-false, eqb, ltb, length, length-append}, Count.{count}, Loop.{pick, cases}}
+use Rattle.laws.specs.Each.{Each, and}
+use Rattle.machine.specs.{Table.{Name, most-writes, name, most-open}, Answer.{Answer, began, shows, wrote, holds, applies, judged, refused}}
+use Rattle.machine.specs.Answer.{unset, shown, Yes, No, Unknown, numberOf}
 use Rattle.schedule.specs.Lines.{LF}
 use Rattle.text.specs.{Number.{digits, decimal}, Link.Decimal.{decimal-one, decimal-longer}}
-use Rattle.answer.specs.Bytes.{nameBytes, namesBytes, answerBytes, answerLine}
+use Rattle.answer.specs.{Bytes.{nameBytes, namesBytes, answerBytes, answerLine, most-answer}, Link.NameLengths.{name-length, shown-length}}
 use Rattle.session.specs.{Session.{Session, lineAnswer}, Transcript.{TextLine, ontoLine, linesOf, answersOf, printed, transcriptFrom}}
 use Rattle.session.specs.{Transcript.{most-text, transcript}, TranscriptLaws.{transcript-run}}
 
@@ -106,3 +107,41 @@ decimal-short (suc w) n h =
 
 pub number-short : (n : ℕ) → n ≤ most-writes → length (decimal n) ≤ 5
 number-short n h = decimal-short 4 n (omega arith)
+
+-- each number of the answer is at most most-writes, and it has at most most-open names
+abbrev pub SmallName : Name → Type 0
+SmallName w = (w .writer ≤ most-writes) × (w .number ≤ most-writes)
+
+abbrev pub SmallAnswer : Answer → Type 0
+SmallAnswer began = Unit {0}
+SmallAnswer (shows unset) = Unit {0}
+SmallAnswer (shows (shown v u k)) = (v ≤ most-writes) × SmallName (name u k)
+SmallAnswer (wrote w) = SmallName w
+SmallAnswer (holds t) = t ≤ most-writes
+SmallAnswer (applies l) = (length l ≤ most-open) × Each SmallName l
+SmallAnswer (judged v) = Unit {0}
+SmallAnswer (refused r) = numberOf r ≤ most-writes
+
+name-short : (w : Name) → SmallName w → length (nameBytes w) ≤ 11
+name-short w h = omega (arith, name-length (w .writer) (w .number), number-short (w .writer) (h .0), number-short (w .number) (h .1))
+
+names-short : (l : List Name) → Each SmallName l → length (namesBytes l) ≤ 12 * length l
+unfolding namesBytes
+names-short [] h = omega arith
+names-short (w ∷ l) (and h t) = simp length-append (omega (arith, name-short w h, names-short l t))
+
+-- with the LF
+pub answer-short : (a : Answer) → SmallAnswer a → length (answerLine a) ≤ most-answer
+answer-short a h = rw length-append (omega (arith, go a h))
+  where
+    go : (a : Answer) → SmallAnswer a → length (answerBytes a) < most-answer
+    go began h = omega arith
+    go (shows unset) h = omega arith
+    go (shows (shown v u k)) h = rw (shown-length v u k) (omega (arith, number-short v (h .0), name-short (name u k) (h .1)))
+    go (wrote w) h = simp length-append (omega (arith, name-short w h))
+    go (holds t) h = simp length-append (omega (arith, number-short t h))
+    go (applies l) h = simp length-append (omega (arith, h .0, names-short l (h .1)))
+    go (judged Yes) h = omega arith
+    go (judged No) h = omega arith
+    go (judged Unknown) h = omega arith
+    go (refused r) h = simp length-append (omega (arith, number-short (numberOf r) h))

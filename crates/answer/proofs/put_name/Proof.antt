@@ -23,8 +23,6 @@ returns c = let a = c .before .before .before .before .before .before .before .b
     let Q = c .before .before .put-number2 in
     left-last (Q .ensures) (left-put (stored-one refl) (left-put (P .ensures) (left-from (name-parts (a .u) (a .k)))))
 
-same-length : tie.Need-same-length
-same-length c = stored-long (returns c)
-
 pub put-name-spec : {M : Type 1} → statement M
-put-name-spec = tie.close (tie.spec put-number-requires slice-write-out add-put-number put-number-requires-2 same-length returns)
+put-name-spec = tie.close (tie.spec put-number-requires slice-write-out add-put-number put-number-requires-2 (λ c. stored-long (returns c))
+    returns)

@@ -20,9 +20,6 @@ returns : tie.Need-returns
 returns c = let a = c .before .before .before .before .before .before .before .before .before .before .args in left-last (c .before .before .put-name .ensures)
     (left-put (stored-one refl) (left-put (c .before .before .before .before .before .before .put-field .ensures) (left-from (shown-parts (a .v) (a .u) (a .k)))))
 
-same-length : tie.Need-same-length
-same-length c = stored-long (returns c)
-
 pub put-shown-spec : {M : Type 1} → statement M
-put-shown-spec = tie.close (tie.spec (λ c. search needs) put-field-requires slice-write-out add-put-name put-name-requires same-length
-    returns)
+put-shown-spec = tie.close (tie.spec (λ c. search needs) put-field-requires slice-write-out add-put-name put-name-requires
+    (λ c. stored-long (returns c)) returns)

@@ -2,9 +2,6 @@ use Rattle.laws.specs.Kit.{add-one, needs}
 use Rattle.image.proofs.put_word.Statement.{statement}
 use Rattle.image.proofs.put_word.Tie as tie
 
-returns : tie.Need-returns
-returns c = rw add-one
-
 pub put-word-spec : {M : Type 1} → statement M
 put-word-spec = tie.close (tie.spec (λ c. search needs) (λ c. search needs) (λ c. search needs) (λ c. search needs) (λ c. search needs)
-    returns)
+    (λ c. rw add-one))

@@ -23,5 +23,5 @@ returns-4 c = let e = past (c .before .before .before) in
     rw (e .0, e .1, ← w, ← c .before .before .at-place .ensures, le-leb _ _ z) (c .covers .ensures)
 
 pub set-ok-spec : {M : Type 1} → statement M
-set-ok-spec = tie.close (tie.spec (λ c κs. search needs) (λ c κs. search needs) (λ c. rw (le-ltb _ _ (c .if1 .taken)))
-    returns-2 (λ c κs. search needs) returns-3 (λ c κs. search needs) returns-4)
+set-ok-spec = tie.close (tie.spec (λ c κs. search needs) (λ c κs. search needs) (λ c. rw (le-ltb _ _ (c .if1 .taken))) returns-2
+    (λ c κs. search needs) returns-3 (λ c κs. search needs) returns-4)

@@ -16,9 +16,6 @@ one : (c : tie.After-x Inv-loop μ-loop) →
     FieldIs (c .before .before .before .before .before .before .args .s .now) (c .before .before .before .before .loop .at) (c .x .given .0 .0) (c .x .given .0 .1 .0)
 one c = rw (c .x .given .1) at (c .before .before .next-field .ensures)
 
-loop-holds : tie.Need-loop-holds Inv-loop μ-loop
-loop-holds c = (search needs, refl)
-
 returns : tie.Need-returns Inv-loop μ-loop
 returns c =
     let b = c .before .before in
@@ -36,7 +33,7 @@ returns-2 : tie.Need-returns-2 Inv-loop μ-loop
 returns-2 c = c .before .loop .inv .1 ∙ store-end _ _ _ _ (c .loop-test .left)
 
 pub trip-cells-spec : {M : Type 1} → statement M
-trip-cells-spec = tie.close (tie.spec Inv-loop μ-loop loop-holds (λ c κs. search needs) (λ c. search needs) (λ c. search needs) returns
-    (λ c. omega (arith, one (c .before) .small)) (λ c. omega (arith, c .before .before .before .before))
+trip-cells-spec = tie.close (tie.spec Inv-loop μ-loop (λ c. (search needs, refl)) (λ c κs. search needs) (λ c. search needs)
+    (λ c. search needs) returns (λ c. omega (arith, one (c .before) .small)) (λ c. omega (arith, c .before .before .before .before))
     (λ c. omega (arith, c .before .before .before .before)) (λ c. omega (arith, c .before .before .before .before)) loop-less loop-again
     returns-2)

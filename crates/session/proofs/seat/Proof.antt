@@ -7,9 +7,6 @@ use Rattle.session.proofs.seat.Tie as tie
 within-here : (c : tie.Then1) → In places (c .before .before .args .i)
 within-here c = says-within _ _ .to (sym (c .before .inside .ensures) ∙ c .if1 .taken)
 
-sub-result : tie.Need-sub-result
-sub-result c = within-here c .0
-
 returns : tie.Need-returns
 returns c = let h = within-here c in (rw (says-within _ _ .from h), omega (arith, h .0, h .1))
 
@@ -17,4 +14,4 @@ returns-2 : tie.Need-returns-2
 returns-2 c = (rw (← c .before .inside .ensures, c .if1 .left), search needs)
 
 pub seat-spec : {M : Type 1} → statement M
-seat-spec = tie.close (tie.spec (λ c κs. search needs) sub-result returns returns-2)
+seat-spec = tie.close (tie.spec (λ c κs. search needs) (λ c. within-here c .0) returns returns-2)

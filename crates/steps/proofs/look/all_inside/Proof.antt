@@ -10,9 +10,6 @@ Inv-loop m list j₀ j = (j ≤ length list) × (every (within m) (drop j list) 
 abbrev μ-loop : tie.MeasureT-loop
 μ-loop m list j₀ j = length list - j
 
-loop-holds : tie.Need-loop-holds Inv-loop μ-loop
-loop-holds c = (search needs, refl)
-
 returns : tie.Need-returns Inv-loop μ-loop
 returns c = let L = c .before .before .before .before .before .loop in
     let a = c .before .before .before .before .before .before .before .args in
@@ -27,5 +24,5 @@ returns-2 : tie.Need-returns-2 Inv-loop μ-loop
 returns-2 c = let a = c .before .before .before .args in every-end (within (a .m)) (a .list .now) (c .before .loop .j) (c .before .loop .inv .1) (search needs)
 
 pub all-inside-spec : {M : Type 1} → statement M
-all-inside-spec = tie.close (tie.spec Inv-loop μ-loop loop-holds (λ c. search needs) (λ c. search needs) (λ c κs. search needs)
-    (λ c κs. search needs) returns (λ c. search needs) (λ c. search needs) loop-again returns-2)
+all-inside-spec = tie.close (tie.spec Inv-loop μ-loop (λ c. (search needs, refl)) (λ c. search needs) (λ c. search needs)
+    (λ c κs. search needs) (λ c κs. search needs) returns (λ c. search needs) (λ c. search needs) loop-again returns-2)

@@ -11,9 +11,6 @@ Inv-loop cells i list s₀ j₀ s j = (j ≤ length list) × (seeAll cells i s (
 abbrev μ-loop : tie.MeasureT-loop
 μ-loop cells i list s₀ j₀ s j = length list - j
 
-loop-holds : tie.Need-loop-holds Inv-loop μ-loop
-loop-holds c = (search needs, refl)
-
 slot-of-requires : tie.Need-slot-of-requires Inv-loop μ-loop
 slot-of-requires c κs =
     let a = c .before .before .before .before .before .args in
@@ -32,5 +29,6 @@ returns c = let a = c .before .before .before .args in let L = c .before .loop i
     sym (see-end (a .cells .now) (a .i) (L .s) (a .list .now) (L .j) (search needs)) ∙ L .inv .1
 
 pub see-all-spec : {M : Type 1} → statement M
-see-all-spec = tie.close (tie.spec Inv-loop μ-loop loop-holds (λ c. search needs) (λ c. search needs) (λ c κs. search needs)
-    slot-of-requires (λ c κs. search needs) (λ c κs. search needs) (λ c. search needs) (λ c. search needs) loop-again returns)
+see-all-spec = tie.close (tie.spec Inv-loop μ-loop (λ c. (search needs, refl)) (λ c. search needs) (λ c. search needs)
+    (λ c κs. search needs) slot-of-requires (λ c κs. search needs) (λ c κs. search needs) (λ c. search needs) (λ c. search needs) loop-again
+    returns)
