@@ -136,6 +136,9 @@ begin-refusal-exactly n m r =
     (λ hn hm. (λ e. clash (cc), ⊎-elim (λ (f : _ × _). absurd (f .0 (hn, hm))) (λ (f : _ × ⊥). absurd (f .1))))
     (λ h. (λ e. inl (h, cc), ⊎-elim (λ (f : _ × (r ≡ no-size)). ap refused (sym (f .1))) (λ (f : _ × ⊥). absurd (f .1))))
 
+pub begun-table : (n m : ℕ) → AllPass (rowsOfBegin n m) → begin n m .table ≡ some (fresh n m)
+begun-table n m h = begin-cases (λ o. o .table ≡ some (fresh n m)) (λ hn hm. refl) (λ f. absurd (f (h .0)))
+
 pub refused-no-table : (n m : ℕ) (r : Refusal) → begin n m .answer ≡ refused r → begin n m .table ≡ none
 refused-no-table n m r =
     begin-cases (λ o. o .answer ≡ refused r → o .table ≡ none) (λ hn hm e. clash (cc)) (λ f e. refl)
