@@ -125,10 +125,10 @@ mod tests {
 
     #[test]
     fn more_than_the_answers_counts() {
-        assert_eq!(answers("/bin/true", b""), Ok(vec![]));
-        assert!(answers("/bin/false", b"").is_err(), "an exit status");
+        assert_eq!(answers("true", b""), Ok(vec![]));
+        assert!(answers("false", b"").is_err(), "an exit status");
         let long = vec![b'\n'; 1_000_000];
-        assert!(answers("/bin/true", &long).is_err(), "input left unread");
-        assert!(answers("/no/such/program", b"").is_err());
+        assert!(answers("true", &long).is_err(), "input left unread");
+        assert!(answers("no-such-program", b"").is_err());
     }
 }
