@@ -4,7 +4,13 @@ use std::collections::HashSet;
 use std::fs;
 use std::path::{Path, PathBuf};
 
-const DOCUMENTS: [&str; 5] = ["DEMANDS.md", "CONTRACTS.md", "EXCEPTIONS.md", "HOUSE.md", "DECISIONS.md"];
+const DOCUMENTS: [&str; 5] = [
+    "DEMANDS.md",
+    "CONTRACTS.md",
+    "EXCEPTIONS.md",
+    "HOUSE.md",
+    "DECISIONS.md",
+];
 
 fn root() -> PathBuf {
     Path::new(env!("CARGO_MANIFEST_DIR")).join("../..")
@@ -45,20 +51,36 @@ fn house() -> House {
     for folder in ["crates", "tests", "include", "examples"] {
         walk(&root.join(folder), &mut paths);
     }
-    let mut found = House { files: Vec::new(), words: HashSet::new() };
+    let mut found = House {
+        files: Vec::new(),
+        words: HashSet::new(),
+    };
     for path in paths {
-        let name = path.strip_prefix(&root).expect("below the root").to_string_lossy().into_owned();
+        let name = path
+            .strip_prefix(&root)
+            .expect("below the root")
+            .to_string_lossy()
+            .into_owned();
         let kind = path.extension().and_then(|e| e.to_str()).unwrap_or("");
         let cites = name.ends_with("tests/documents.rs");
         if ["antt", "rt", "rs", "h", "c"].contains(&kind) && !cites {
-            words(&fs::read_to_string(&path).expect("a text"), &mut found.words);
+            words(
+                &fs::read_to_string(&path).expect("a text"),
+                &mut found.words,
+            );
         }
         if name.contains("/must-fail/") {
-            let edit = path.file_stem().expect("a name").to_string_lossy().into_owned();
+            let edit = path
+                .file_stem()
+                .expect("a name")
+                .to_string_lossy()
+                .into_owned();
             found.words.insert(edit);
         }
         if let Some(below) = name.strip_prefix("crates/") {
-            found.words.insert(below.split('/').next().expect("a crate").to_string());
+            found
+                .words
+                .insert(below.split('/').next().expect("a crate").to_string());
         }
         found.files.push(name);
     }
@@ -70,7 +92,9 @@ fn is_name(quoted: &str) -> bool {
     let letter = |c: char| c.is_alphanumeric() || "-_′?".contains(c);
     quoted.starts_with(|c: char| c.is_ascii_alphabetic())
         && quoted.chars().count() > 1
-        && quoted.split('.').all(|part| !part.is_empty() && part.chars().all(letter))
+        && quoted
+            .split('.')
+            .all(|part| !part.is_empty() && part.chars().all(letter))
         && !quoted.ends_with('-')
 }
 
@@ -84,7 +108,9 @@ fn missing(house: &House, quoted: &str) -> bool {
         return !house.files.iter().any(|file| file.ends_with(&end));
     }
     if let Some((owner, name)) = quoted.split_once("::") {
-        return ![owner, name].iter().all(|word| word.split("::").all(|part| house.words.contains(part)));
+        return ![owner, name]
+            .iter()
+            .all(|word| word.split("::").all(|part| house.words.contains(part)));
     }
     is_name(quoted) && !quoted.split('.').all(|part| house.words.contains(part))
 }
@@ -121,8 +147,15 @@ fn what_the_documents_cite_is_there() {
             }
         }
     }
-    assert!(seen > 500, "the documents were read: {seen} words in quotes");
-    assert!(wrong.is_empty(), "cited and not found:\n{}", wrong.join("\n"));
+    assert!(
+        seen > 500,
+        "the documents were read: {seen} words in quotes"
+    );
+    assert!(
+        wrong.is_empty(),
+        "cited and not found:\n{}",
+        wrong.join("\n")
+    );
 }
 
 #[test]
