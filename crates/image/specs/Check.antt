@@ -1,5 +1,5 @@
--- The check of a block: one definition, and all that anything else knows of it.
-use Rattle.laws.specs.Kit.{ℕ, _+_, _*_, _<_, _≤_, pred, _≡_, refl, ap, List, _++_, arith, add-one, mul-le-mul-left, length, getD}
+-- The check of a block: the format's definition, the handbook's, that they are one number, and all that anything else knows of it.
+use Rattle.laws.specs.Kit.{ℕ, zero, suc, _+_, _*_, _<_, _≤_, pred, _≡_, refl, _∙_, ap, List, [], _∷_, _++_, arith, mul-le-mul-left, length, getD}
 use Rattle.laws.specs.{Kit.{List·getD-append}, Sum.{sum, sum-same, sum-le}, Each.{Each, each-at}}
 use Rattle.image.specs.Limits.{check-at}
 
@@ -16,10 +16,34 @@ weighed b j = j * getD b (pred j) 0
 unfoldable pub checkOf : List ℕ → ℕ
 checkOf b = 1 + sum check-at (weighed b)
 
--- one byte more
-pub check-more : (b : List ℕ) (j : ℕ) → 1 + sum j (weighed b) + (j + 1) * getD b j 0 ≡ 1 + sum (j + 1) (weighed b)
-unfolding sum
-check-more b j = rw (add-one j) (omega arith)
+-- The same as the handbook draws it: "two running sums, from byte 507 back to byte 0: the sum so far, and the sum of those sums, plus one
+-- at the end". With j bytes to go, byte j - 1 is next.
+unfoldable pub walkBack : List ℕ → ℕ → ℕ → ℕ → ℕ
+walkBack b zero so-far of-sums = of-sums
+walkBack b (suc j) so-far of-sums = let more = so-far + getD b j 0 in walkBack b j more (of-sums + more)
+
+unfoldable pub handbook : List ℕ → ℕ
+handbook b = walkBack b check-at 0 0 + 1
+
+-- the manual's worked block: kind 1, edition 1, place 0, one desk, one cell
+worked : handbook (1 ∷ 1 ∷ 0 ∷ 0 ∷ 1 ∷ 1 ∷ []) ≡ 15
+unfolding handbook walkBack
+worked = refl
+
+-- from any two sums: what is summed so far counts once more for each byte to go
+walked : (b : List ℕ) (j so-far of-sums : ℕ) → walkBack b j so-far of-sums ≡ of-sums + j * so-far + sum j (weighed b)
+unfolding walkBack sum
+walked b zero so-far of-sums = omega arith
+walked b (suc j) so-far of-sums = let more = so-far + getD b j 0 in walked b j more (of-sums + more) ∙ omega arith
+
+-- both ways over the first j bytes of a list, whatever j and whatever its length
+pub two-sums : (b : List ℕ) (j : ℕ) → walkBack b j 0 0 + 1 ≡ 1 + sum j (weighed b)
+two-sums b j = omega (arith, walked b j 0 0)
+
+-- so both definitions give the same number, for every list
+pub handbook-is-check : (b : List ℕ) → handbook b ≡ checkOf b
+unfolding handbook checkOf
+handbook-is-check b = two-sums b check-at
 
 -- it looks at the first 508 bytes alone
 pub check-first : (b z : List ℕ) → length b ≡ check-at → checkOf (b ++ z) ≡ checkOf b

@@ -87,25 +87,20 @@ fn wide(x: u8) -> u32
     x as u32
 }
 
-fn term(j: usize, x: u8) -> u32
-    requires { ⌜ j < check-at ⌝ }
-    ensures { λ r. ⌜ r ≡ (j + 1) * x ⌝ }
-    ensures { λ r. ⌜ r ≤ check-at * 255 ⌝ }
-{
-    (j as u32 + 1) * wide(x)
-}
-
+// As the handbook draws it: from byte 507 back to byte 0 the sum so far, and the sum of those sums; plus one at the end.
 fn check(b: &[u8]) -> u32
     requires { ⌜ check-at ≤ length (now b) ⌝ }
     ensures { λ r. ⌜ r ≡ checkOf (now (b .entry)) ⌝ }
 {
-    let mut c: u32 = 1;
-    let mut j = 0;
-    while j < CHECK {
-        c = c + term(j, b[j]);
-        j += 1;
+    let mut sum_so_far: u32 = 0;
+    let mut sum_of_sums: u32 = 0;
+    let mut to_go = CHECK;
+    while to_go > 0 {
+        sum_so_far = sum_so_far + wide(b[to_go - 1]);
+        sum_of_sums = sum_of_sums + sum_so_far;
+        to_go -= 1;
     }
-    c
+    sum_of_sums + 1
 }
 
 // The check stored, which ends a block.
