@@ -112,6 +112,18 @@ fn missing(house: &House, quoted: &str) -> bool {
             .iter()
             .all(|word| word.split("::").all(|part| house.words.contains(part)));
     }
+    if let Some((owner, name)) = quoted.split_once('/').filter(|(_, name)| is_name(name)) {
+        let owner = format!("crates/{owner}/");
+        let (edit, folder) = (
+            format!("{owner}must-fail/{name}.edit"),
+            format!("{owner}{name}/"),
+        );
+        return house.files.iter().any(|file| file.starts_with(&owner))
+            && !house
+                .files
+                .iter()
+                .any(|file| *file == edit || file.starts_with(&folder));
+    }
     is_name(quoted) && !quoted.split('.').all(|part| house.words.contains(part))
 }
 
@@ -159,11 +171,39 @@ fn what_the_documents_cite_is_there() {
 }
 
 #[test]
+fn every_edit_has_its_row() {
+    let contracts = fs::read_to_string(root().join("docs/CONTRACTS.md")).expect("a document");
+    let rows: HashSet<&str> = contracts
+        .lines()
+        .filter_map(|line| line.strip_prefix("| `")?.split('`').next())
+        .collect();
+    let house = house();
+    let edits = (house.files.iter()).filter_map(|file| {
+        file.strip_prefix("crates/")?
+            .strip_suffix(".edit")?
+            .split_once("/must-fail/")
+    });
+    let mut seen = 0;
+    for (owner, edit) in edits {
+        seen += 1;
+        let named = format!("{owner}/{edit}");
+        assert!(
+            rows.contains(named.as_str()) || (owner == "machine" && rows.contains(edit)),
+            "{named} has no row"
+        );
+    }
+    assert!(seen > 40, "{seen} edits were found");
+}
+
+#[test]
 fn a_name_that_is_nowhere_is_missed() {
     let house = house();
     let nowhere = ["no", "such", "theorem"].join("-");
     assert!(missing(&house, &nowhere));
     assert!(missing(&house, "machine/specs/Nowhere.antt"));
     assert!(!missing(&house, "machine/specs/Demand3.antt"));
+    assert!(missing(&house, "image/no_such_edit"));
+    assert!(!missing(&house, "image/entry_order"));
+    assert!(!missing(&house, "image/specs"));
     assert!(!missing(&house, "capi::access_run"));
 }
