@@ -25,7 +25,7 @@ walkBack b (suc j) so-far of-sums = let more = so-far + getD b j 0 in walkBack b
 unfoldable pub handbook : List ℕ → ℕ
 handbook b = walkBack b check-at 0 0 + 1
 
--- the manual's worked block: kind 1, edition 1, place 0, one desk, one cell
+-- the manual's worked block: kind 1, edition 1, place 0, one desk, one cell; a byte that is not there counts as 0
 worked : handbook (1 ∷ 1 ∷ 0 ∷ 0 ∷ 1 ∷ 1 ∷ []) ≡ 15
 unfolding handbook walkBack
 worked = refl

@@ -4,11 +4,11 @@ use Rattle.image.proofs.check.Statement.{statement}
 use Rattle.image.proofs.check.Tie as tie
 
 -- one byte further back
-on : (b : List ℕ) (j so-far of-sums : ℕ) → 1 ≤ j
+one-back : (b : List ℕ) (j so-far of-sums : ℕ) → 1 ≤ j
     → let more = so-far + getD b (j - 1) 0 in walkBack b (j - 1) more (of-sums + more) ≡ walkBack b j so-far of-sums
 unfolding walkBack
-on b zero so-far of-sums h = absurd (omega arith)
-on b (suc j) so-far of-sums h = let e : suc j - 1 ≡ j = omega arith in rw e refl
+one-back b zero so-far of-sums h = absurd (omega arith)
+one-back b (suc j) so-far of-sums h = let e : suc j - 1 ≡ j = omega arith in rw e refl
 
 -- none to go
 ended : (b : List ℕ) (so-far of-sums : ℕ) → walkBack b 0 so-far of-sums ≡ of-sums
@@ -27,7 +27,7 @@ abbrev μ-loop : tie.MeasureT-loop
 
 loop-again : tie.Need-loop-again Inv-loop μ-loop
 loop-again c = let L = c .before .before .before .loop in let b = c .before .before .before .before .before .args .b .now in
-    let walk = on b (L .to-go) (L .sum-so-far) (L .sum-of-sums) (omega arith) ∙ L .inv .1 .1 .1 in
+    let walk = one-back b (L .to-go) (L .sum-so-far) (L .sum-of-sums) (omega arith) ∙ L .inv .1 .1 .1 in
     (search needs, (search needs, (search needs, rw (c .wide .ensures .0) walk)))
 
 returns : tie.Need-returns Inv-loop μ-loop
