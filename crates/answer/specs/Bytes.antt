@@ -19,13 +19,13 @@ verdictBytes Yes = text "T yes"
 verdictBytes No = text "T no"
 verdictBytes Unknown = text "T unknown"
 
--- "`N`; `R status u.k` or `R -`; `W u.k`; `H t` with t the failing desk; `A` and the applied names; .. `E number`"
+-- "`N`; `R status u.k` or `R -`; `W u.k`; .. `A` and the applied names; .. `E number`"; "a held answer prints `H t.j`" (document 02, T-04)
 abbrev pub answerBytes : Answer → List ℕ
 answerBytes began = text "N"
 answerBytes (shows unset) = text "R -"
 answerBytes (shows (shown v u k)) = text "R " ++ decimal v ++ text " " ++ nameBytes (record { writer = u; number = k })
 answerBytes (wrote w) = text "W " ++ nameBytes w
-answerBytes (holds t) = text "H " ++ decimal t
+answerBytes (holds w) = text "H " ++ nameBytes w
 answerBytes (applies l) = text "A" ++ namesBytes l
 answerBytes (judged v) = verdictBytes v
 answerBytes (refused r) = text "E " ++ decimal (numberOf r)

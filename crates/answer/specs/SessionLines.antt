@@ -19,8 +19,8 @@ line-R = refl
 line-unset : answerLine (shows unset) ≡ text "R -\n"
 line-unset = refl
 
-line-H : answerLine (holds 1) ≡ text "H 1\n"
-unfolding digits decimal
+line-H : answerLine (holds (name 1 1)) ≡ text "H 1.1\n"
+unfolding digits decimal nameBytes
 line-H = refl
 
 line-A : answerLine (applies (name 1 1 ∷ name 2 1 ∷ [])) ≡ text "A 1.1 2.1\n"

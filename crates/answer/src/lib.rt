@@ -1,10 +1,11 @@
 // The output lines of answers, as bytes (document 01, "Schedule text").
 ghost use mathlib.Core.Path.{_≡_};
 ghost use Prim.Native.Nat.{_+_, _<_, _≤_, min};
+ghost use mathlib.Core.List.{_++_};
 ghost use lib.ListN.{length};
 ghost use Rattle.laws.specs.Stores.{Stored};
 ghost use Rattle.machine.specs.Table.{name, most-open};
-ghost use Rattle.machine.specs.Answer.{numberOf, shows, shown, wrote, applies};
+ghost use Rattle.machine.specs.Answer.{numberOf, shows, shown, applies};
 ghost use Rattle.reply.specs.Meaning.{refusalOf, answerOf, namesOf};
 ghost use Rattle.answer.specs.Bytes.{nameBytes, namesBytes, answerBytes, answerLine, most-name, most-names, most-answer};
 ghost use Rattle.answer.specs.Outcome.{writtenOf, putAnswer, buffer};
@@ -79,7 +80,7 @@ fn answer_length(a: Answer, names: &[u16; NAMES]) -> usize
         Answer::Unset => 3,
         Answer::Shown(v, u, k) => 3 + text::digit_count(v) + name_length(u, k),
         Answer::Wrote(u, k) => 2 + name_length(u, k),
-        Answer::Held(t) => 2 + text::digit_count(t),
+        Answer::Held(t, j) => 2 + name_length(t, j),
         Answer::Applied(count) => 1 + names_length(names, count),
         Answer::Yes => 5,
         Answer::No => 4,
@@ -124,12 +125,12 @@ fn put_shown(out: &mut [u8], at: usize, v: u16, u: u16, k: u16) -> usize
     put_name(out, p + 1, u, k)
 }
 
-// The name of a write.
-fn put_wrote(out: &mut [u8], at: usize, u: u16, k: u16) -> usize
-    requires { ⌜ at + length (answerBytes (wrote (name u k))) ≤ length (now out) ⌝ }
-    ensures { λ r. ⌜ Stored (now (out .entry)) at (answerBytes (wrote (name u k))) (now (out .exit)) r ⌝ }
+// A letter and a name.
+fn put_headed(out: &mut [u8], at: usize, head: &[u8], u: u16, k: u16) -> usize
+    requires { ⌜ at + length (now head ++ nameBytes (name u k)) ≤ length (now out) ⌝ }
+    ensures { λ r. ⌜ Stored (now (out .entry)) at (now (head .entry) ++ nameBytes (name u k)) (now (out .exit)) r ⌝ }
 {
-    let p = text::put_words(out, at, b"W ");
+    let p = text::put_words(out, at, head);
     put_name(out, p, u, k)
 }
 
@@ -151,8 +152,8 @@ fn put_answer(out: &mut [u8], at: usize, a: Answer, names: &[u16; NAMES]) -> usi
         Answer::Begun => text::put_words(out, at, b"N"),
         Answer::Unset => text::put_words(out, at, b"R -"),
         Answer::Shown(v, u, k) => put_shown(out, at, v, u, k),
-        Answer::Wrote(u, k) => put_wrote(out, at, u, k),
-        Answer::Held(t) => text::put_field(out, at, b"H ", t),
+        Answer::Wrote(u, k) => put_headed(out, at, b"W ", u, k),
+        Answer::Held(t, j) => put_headed(out, at, b"H ", t, j),
         Answer::Applied(count) => put_applied(out, at, names, count),
         Answer::Yes => text::put_words(out, at, b"T yes"),
         Answer::No => text::put_words(out, at, b"T no"),

@@ -1,12 +1,13 @@
--- Demand 3 of the lines of schedule text: the table that they leave, and the history of their own steps.
+-- Demand 3 of the lines of schedule text, and what a held answer to one more names: the table that they leave, and the history of their own
+-- steps.
 use Rattle.laws.specs.{Kit.{_≡_, refl, sym, ap, subst, _∙_, List, [], _∷_, _++_, Option, none, some, Bool, true, false, ℕ}, Says.{clash}}
 use Rattle.laws.specs.Loop.{pick, cases}
 use Rattle.machine.specs.{Table.{State, most-desks, most-cells, fresh}, Answer.{began}, Steps.{begins, begin, step}, Rules.{In}}
-use Rattle.machine.specs.{History.{Act, take-step, run, history}, Demand3.{Demand3}}
+use Rattle.machine.specs.{History.{Act, take-step, run, history}, Demand3.{Demand3}, HoldNames.{HoldNames}}
 use Rattle.rules.specs.Mirror.Test.{sizesTest}
 use Rattle.schedule.specs.Grammar.{Line, begin-line, step-line, lineOf}
 use Rattle.session.specs.{Session.{Session, Turn, begun, turn, lineAnswer}, Transcript.{TextLine, linesOf, sessionOf, sessionFrom}}
-use Rattle.image.specs.Reload.{reload, demand-3}
+use Rattle.image.specs.Reload.{reload, demand-3, hold-names}
 use Rattle.capi.specs.Link.CutText.{session-append}
 
 -- what a line does to a table: a step, or nothing (it is no step, or a further N)
@@ -40,6 +41,7 @@ pub record Told (ls : List TextLine) (s : State) : Type 0 where
   pub begun : BegunAt ls
   pub leaves : s ≡ run reload (fresh (begun .n) (begun .m)) (actsOf (begun .after))
   pub holds : Demand3 s (history reload (fresh (begun .n) (begun .m)) (actsOf (begun .after)))
+  pub names : HoldNames s (history reload (fresh (begun .n) (begun .m)) (actsOf (begun .after)))
 
 one-line : (s : State) (o : Option Line) (ls : List TextLine) → ((t : State) → sessionOf (some t) ls ≡ some (run reload t (actsOf ls)))
     → sessionOf (turn (some s) o .session) ls ≡ some (run reload s (actIn o ++ actsOf ls))
@@ -124,7 +126,13 @@ lines-demand-3 ls s e =
     ∙ ap (λ (z : Session). sessionOf z (b .line ∷ b .after)) (b .none-yet) ∙ ap (λ (x : Turn). sessionOf (x .session) (b .after)) (b .begins-it)
     ∙ acts-leave (fresh (b .n) (b .m)) (b .after) in
     let q : s ≡ t = ap (tableOr s) (sym e ∙ left) in
-    record { begun = b; leaves = q; holds = subst (λ (x : State). Demand3 x (history reload (fresh (b .n) (b .m)) acts)) (sym q) (demand-3 (b .n) (b .m) (b .desks) (b .cells) acts) }
+    let h = history reload (fresh (b .n) (b .m)) acts in
+    record {
+      begun = b;
+      leaves = q;
+      holds = subst (λ (x : State). Demand3 x h) (sym q) (demand-3 (b .n) (b .m) (b .desks) (b .cells) acts);
+      names = subst (λ (x : State). HoldNames x h) (sym q) (hold-names (b .n) (b .m) (b .desks) (b .cells) acts);
+    }
 
 -- of every text that leaves a table
 pub text-demand-3 : (text : List ℕ) (s : State) → sessionFrom none text 0 ≡ some s → Told (linesOf text) s

@@ -1,15 +1,16 @@
 -- Readiness over lists of counts and vectors is the machine's.
-use Rattle.laws.specs.Kit.{ℕ, suc, _+_, _-_, _≤_, _<_, _≡_, refl, sym, ap, _∙_, Bool, true, false, not, List, Option, none, some, arith}
+use Rattle.laws.specs.Kit.{ℕ, suc, _+_, _-_, _≤_, _<_, _≡_, refl, sym, ap, _∙_, Bool, false, not, List, Option, none, some, arith}
 use Rattle.laws.specs.Kit.{add-one, ltb-true, lt-ltb, le-ltb, eq-eqb, ne-eqb, length, getD, set, getD-set-same, getD-set-other, ltb, eqb}
-use Rattle.laws.specs.{Loop.{pick, cases, scan-map, scan-same, scan-short}, All.{all, all-next, all-fails, all-end, all-fails-at, all-same}}
+use Rattle.laws.specs.{Loop.{pick, cases, scan-short}, All.{all, all-next, all-fails, all-end, all-fails-at, all-same}}
 use Rattle.laws.specs.{All.{all-shift}, Update.{same-or}}
-use Rattle.machine.specs.{Rules.{In, Flat}, Table.{Vec}, Steps.{fails, failing, ready, isNone}}
+use Rattle.machine.specs.{Table.{Vec, Name, name}, Steps.{fails, nextWrite, failing, ready, isNone}, Rules.{In, Flat}}
+use Rattle.machine.specs.Proofs.Ready.{ready-all}
 use Rattle.clock.specs.{Vectors.{place, places, place-at}, declared.Wait.{Wait}, declared.Wait.the-variants.{Ready, Fails}}
 
--- the document's values for each case: none, or the smallest failing desk
-abbrev pub waitOf : Wait → Option ℕ
+-- the document's values for each case: none, or the name of the write that is missing
+abbrev pub waitOf : Wait → Option Name
 waitOf Ready = none
-waitOf (Fails t) = some t
+waitOf (Fails t j) = some (name t j)
 
 abbrev pub failsAt : List ℕ → List ℕ → ℕ → ℕ → Bool
 failsAt a v u t = fails (place a) u (place v) t
@@ -32,23 +33,12 @@ fails-own a u w = rw (eq-eqb u u refl, fails)
 pub fails-other : (a : Vec) (u : ℕ) (w : Vec) (t : ℕ) → (t ≡ u → ⊥) → fails a u w t ≡ ltb (a t) (w t)
 fails-other a u w t n = rw (ne-eqb t u n, fails)
 
-not-not : (b : Bool) → b ≡ not (not b)
-not-not true = refl
-not-not false = refl
-
--- ready exactly if no place fails
-pub ready-all : (n : ℕ) (a : Vec) (u : ℕ) (w : Vec) → ready n a u w ≡ all (λ t. not (fails a u w t)) n 1
-unfolding failing all
-ready-all n a u w =
-    scan-map isNone (fails a u w) some none n 1
-    ∙ scan-same (fails a u w) (λ t. not (not (fails a u w t))) (λ k. false) true n 1 (λ k l h. not-not (fails a u w k))
-
 -- a vector that is zero past n: the places past n never fail
 pub failing-narrow : (n p : ℕ) (a : Vec) (u : ℕ) (w : Vec) → Flat n w → u ≤ n → n ≤ p → failing p a u w ≡ failing n a u w
 unfolding failing
 failing-narrow n p a u w flat un np =
     let e : p ≡ n + (p - n) = omega arith in
-    rw e (scan-short (fails a u w) some none n (p - n) 1 past)
+    rw e (scan-short (fails a u w) _ none n (p - n) 1 past)
   where
     past : (k : ℕ) → 1 + n ≤ k → fails a u w k ≡ false
     past k l =
@@ -118,6 +108,10 @@ covers-end n a v over t h =
 
 -- at place t, from 1, by the lists' elements --
 
+-- the write that is missing
+pub next-at : (a : List ℕ) (t : ℕ) → 1 ≤ t → name t (getD a (t - 1) 0 + 1) ≡ nextWrite (place a) t
+next-at a t h = ap (name t) (rw (place-at a t h) (add-one (getD a (t - 1) 0)))
+
 module _ (a v : List ℕ) (u t : ℕ) (h : 1 ≤ t) where
   pub failsAt-own : t ≡ u → not (eqb (getD a (t - 1) 0 + 1) (getD v (t - 1) 0)) ≡ failsAt a v u t
   failsAt-own e =
@@ -127,13 +121,13 @@ module _ (a v : List ℕ) (u t : ℕ) (h : 1 ≤ t) where
   failsAt-other n = sym (fails-other (place a) u (place v) t n ∙ rw (place-at a t h, place-at v t h))
 
 -- the contract leaves one answer
-abbrev pub waitFor : Option ℕ → Wait
+abbrev pub waitFor : Option Name → Wait
 waitFor none = Ready
-waitFor (some t) = Fails t
+waitFor (some w) = Fails (w .writer) (w .number)
 
 wait-back : (w : Wait) → waitFor (waitOf w) ≡ w
 wait-back Ready = refl
-wait-back (Fails t) = refl
+wait-back (Fails t j) = refl
 
-pub wait-is : (w : Wait) {o : Option ℕ} → waitOf w ≡ o → w ≡ waitFor o
+pub wait-is : (w : Wait) {o : Option Name} → waitOf w ≡ o → w ≡ waitFor o
 wait-is w e = sym (wait-back w) ∙ ap waitFor e

@@ -1,8 +1,9 @@
 // The causal clock of a desk, and when a write is ready.
 ghost use mathlib.Core.Path.{_≡_};
-ghost use Prim.Native.Nat.{ℕ, _+_, _<_, _≤_, max};
-ghost use lib.ListN.{getD, length};
-ghost use Rattle.machine.specs.Steps.{failing};
+ghost use Prim.Native.Nat.{max};
+ghost use Rattle.machine.specs.Table.{name};
+ghost use Rattle.machine.specs.Rules.{In};
+ghost use Rattle.machine.specs.Steps.{nextWrite, failing};
 ghost use Rattle.clock.specs.Vectors.{places, place, joinClock, raiseClock};
 ghost use Rattle.clock.specs.Readiness.{failsAt, waitOf, readyAt, coversAll};
 
@@ -15,10 +16,11 @@ pub struct Clock {
     pub at: [u16; PLACES],
 }
 
-// A write is ready, or the smallest desk number whose place fails.
+// A write is ready; or of the smallest desk whose place fails, that desk and the number of its first write not applied here. That is a
+// count plus 1: where the counts are no table's it may pass MOST_WRITES.
 pub enum Wait {
     Ready,
-    Fails(usize),
+    Fails(usize, usize),
 }
 
 fn larger(a: u16, b: u16) -> u16
@@ -65,7 +67,7 @@ impl Clock {
 
 // Does desk t's place fail (t from 1)? a: the counts; v: the vector of a write of desk u.
 fn fails(a: [u16; PLACES], v: [u16; PLACES], u: usize, t: usize) -> bool
-    requires { ⌜ (1 ≤ t) × (t ≤ places) ⌝ }
+    requires { ⌜ In places t ⌝ }
     ensures { λ r. ⌜ r ≡ failsAt a v u t ⌝ }
 {
     let have = a[t - 1] as u32;
@@ -77,14 +79,22 @@ fn fails(a: [u16; PLACES], v: [u16; PLACES], u: usize, t: usize) -> bool
     }
 }
 
-// Ready, or the smallest desk number whose place fails.
+// The number of desk t's first write that is not applied where the counts are a.
+fn next_write(a: [u16; PLACES], t: usize) -> usize
+    requires { ⌜ In places t ⌝ }
+    ensures { λ r. ⌜ name t r ≡ nextWrite (place a) t ⌝ }
+{
+    a[t - 1] as usize + 1
+}
+
+// Ready, or what is missing.
 pub fn readiness(a: [u16; PLACES], v: [u16; PLACES], u: usize) -> Wait
     ensures { λ r. ⌜ waitOf r ≡ failing places (place a) u (place v) ⌝ }
 {
     let mut t = 1;
     while t <= PLACES {
         if fails(a, v, u, t) {
-            return Wait::Fails(t);
+            return Wait::Fails(t, next_write(a, t));
         }
         t += 1;
     }

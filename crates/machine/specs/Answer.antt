@@ -54,8 +54,8 @@ pub data Answer : Type 0 where
   began : Answer
   shows : Shown → Answer
   wrote : Name → Answer
-  -- held, with the smallest desk number whose place fails
-  holds : ℕ → Answer
+  -- held, with the first write that is missing of the smallest desk whose place fails
+  holds : Name → Answer
   -- the writes applied, in order
   applies : List Name → Answer
   judged : Verdict → Answer

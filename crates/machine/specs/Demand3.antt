@@ -44,14 +44,18 @@ pub record CausesFirst (h : List Event) : Type 0 where
   pub reads : (i : ℕ) (b : Entry) (earlier later : List Entry) → deskList i h ≡ earlier ++ b ∷ later
       → (q : ℕ) → OpAt h q b → (p x : ℕ) (v : Shown) → At h p (read-at i x v) → Precedes h p q → List·Memᴰ (own-read p x v) earlier
 
--- some write that causally precedes the one at q is unapplied at i
-pub record CauseMissing (h : List Event) (i q : ℕ) : Type 0 where
+-- the accepted write t.j causally precedes the one at q and is unapplied at i
+pub record Missing (h : List Event) (i q t j : ℕ) : Type 0 where
   pub place : ℕ
+  pub write : WriteAt h place t j
+  pub precedes : Precedes h place q
+  pub unapplied : Has (deskList i h) t j → ⊥
+
+-- some write is missing so
+pub record CauseMissing (h : List Event) (i q : ℕ) : Type 0 where
   pub writer : ℕ
   pub number : ℕ
-  pub write : WriteAt h place writer number
-  pub precedes : Precedes h place q
-  pub unapplied : Has (deskList i h) writer number → ⊥
+  pub cause : Missing h i q writer number
 
 -- u.k was received at i: its own write, or by an accepted delivery
 pub data Received (h : List Event) (i u k : ℕ) : Type 0 where

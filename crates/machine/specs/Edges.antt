@@ -1,6 +1,6 @@
 -- Document 01, "At each edge" and "Numbers of refusal", computed. Limits and numbers stand here as the document writes them, so that
 -- the definitions are held to them.
-use mathlib.Core.{Path.{_≡_, refl}, List.{List, [], _∷_, map}, Option.{none}}
+use mathlib.Core.{Path.{_≡_, refl}, List.{List, [], _∷_, map}, Option.{none, some}}
 use Prim.Native.Nat.{ℕ}
 use lib.ListN.{replicate}
 use Rattle.laws.specs.{Loop.{turns, scan}, All.{all}, Update.{upd, upd2}, Sum.{sum}, Lists.{any, every}}
@@ -18,7 +18,7 @@ abbrev pub replyOf : Answer → Reply
 replyOf began = given began
 replyOf (shows v) = given (shows v)
 replyOf (wrote w) = given (wrote w)
-replyOf (holds t) = given (holds t)
+replyOf (holds w) = given (holds w)
 replyOf (applies l) = given (applies l)
 replyOf (judged v) = given (judged v)
 replyOf (refused r) = E (numberOf r)
@@ -61,6 +61,22 @@ pub edge-of-open : replies (run (λ s. s) (fresh 2 1) (map take-step (replicate 
 unfolding turns scan all upd upd2 sum step answers run failing everywhere openCount firstDue settle
 edge-of-open = refl
 
+-- document 02, T-04, "for the smallest failing desk t, the first write of t not applied here". At desk 3: of 1.1, whose vector has 3 at
+-- place 2, it is 2.1; of 1.2 it is 1.1, which is held there; of 2.3, when 2.1 has come, it is 2.2.
+pub first-missing : answers (fresh 3 1) (
+    Write 2 1 0 ∷ Write 2 1 0 ∷ Write 2 1 0 ∷ Deliver 1 2 1 ∷ Deliver 1 2 2 ∷ Deliver 1 2 3 ∷ Read 1 1 ∷ Write 1 1 0 ∷ Write 1 1 0 ∷
+    Deliver 3 1 1 ∷ Deliver 3 2 1 ∷ Deliver 3 1 2 ∷ Deliver 3 2 3 ∷ Deliver 3 2 2 ∷ [])
+    ≡ wrote (name 2 1) ∷ wrote (name 2 2) ∷ wrote (name 2 3) ∷ applies (name 2 1 ∷ []) ∷ applies (name 2 2 ∷ []) ∷ applies (name 2 3 ∷ []) ∷
+    shows (shown 0 2 3) ∷ wrote (name 1 1) ∷ wrote (name 1 2) ∷
+    holds (name 2 1) ∷ applies (name 2 1 ∷ []) ∷ holds (name 1 1) ∷ holds (name 2 2) ∷ applies (name 2 2 ∷ name 2 3 ∷ name 1 1 ∷ name 1 2 ∷ []) ∷ []
+unfolding turns scan all upd upd2 sum step answers failing everywhere openCount firstDue settle
+first-missing = refl
+
+-- the number of a count that is no table's: it may pass 65,535
+pub edge-of-missing : failing 2 (λ t. 65535) 2 (λ t. 3) ≡ some (name 2 65536)
+unfolding turns scan failing
+edge-of-missing = refl
+
 -- "the smallest desk number whose place fails": 3.2 lacks both 1.1 and 3.1. "the one with the smallest writer is applied; the search .. begins
 -- again": 3.1 makes 2.1 and 3.2 ready.
 pub smallest-first : answers (fresh 4 1) (
@@ -69,7 +85,7 @@ pub smallest-first : answers (fresh 4 1) (
     Deliver 4 3 2 ∷ Deliver 4 2 1 ∷ Deliver 4 3 1 ∷ Deliver 4 1 1 ∷ [])
     ≡ wrote (name 1 1) ∷ applies (name 1 1 ∷ []) ∷ shows (shown 0 1 1) ∷ wrote (name 3 1) ∷ wrote (name 3 2) ∷
     applies (name 1 1 ∷ []) ∷ applies (name 3 1 ∷ []) ∷ shows (shown 0 3 1) ∷ wrote (name 2 1) ∷
-    holds 1 ∷ holds 1 ∷ holds 1 ∷ applies (name 1 1 ∷ name 3 1 ∷ name 2 1 ∷ name 3 2 ∷ []) ∷ []
+    holds (name 1 1) ∷ holds (name 1 1) ∷ holds (name 1 1) ∷ applies (name 1 1 ∷ name 3 1 ∷ name 2 1 ∷ name 3 2 ∷ []) ∷ []
 unfolding turns scan all upd upd2 sum step answers failing everywhere openCount firstDue settle
 smallest-first = refl
 

@@ -16,7 +16,7 @@ example-1 =
 -- "apply_3(w_2(x_2)b) suffers a write delay due to late arrival of the message associated with w_1(x_1)", which is a; and no other
 pub figure-1 : answers (fresh 3 2) example-1 ≡
     wrote (name 1 1) ∷ applies (name 1 1 ∷ []) ∷ shows (shown 1 1 1) ∷ wrote (name 1 2) ∷ wrote (name 2 1) ∷
-    holds 1 ∷ applies (name 1 1 ∷ name 2 1 ∷ []) ∷ applies (name 1 2 ∷ []) ∷ shows (shown 1 2 1) ∷ wrote (name 3 1) ∷ []
+    holds (name 1 1) ∷ applies (name 1 1 ∷ name 2 1 ∷ []) ∷ applies (name 1 2 ∷ []) ∷ shows (shown 1 2 1) ∷ wrote (name 3 1) ∷ []
 unfolding turns scan all upd upd2 sum step answers failing everywhere openCount firstDue settle reads any every verdict
 figure-1 = refl
 

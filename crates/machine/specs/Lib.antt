@@ -13,5 +13,6 @@ pub mod Example
 pub mod Paper
 pub mod PaperRuns
 pub mod Demand3
+pub mod HoldNames
 pub mod Proofs
 pub mod RulesTest

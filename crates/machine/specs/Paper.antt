@@ -169,7 +169,7 @@ abbrev pub deliverActions : State → ℕ → ℕ → Answer → List Action
 deliverActions s u k began = []
 deliverActions s u k (shows v) = []
 deliverActions s u k (wrote w) = []
-deliverActions s u k (holds t) = receiptOf u (s .opens u k) []
+deliverActions s u k (holds w) = receiptOf u (s .opens u k) []
 deliverActions s u k (applies l) = receiptOf u (s .opens u k) (map a-thread l)
 deliverActions s u k (judged v) = []
 deliverActions s u k (refused r) = []

@@ -68,7 +68,7 @@ abbrev pub deedsOf : State → Step → Answer → List Deed
 deedsOf s a began = []
 deedsOf s a (shows v) = map (deed (actor a)) (actionsOf s a (shows v))
 deedsOf s a (wrote w) = map (deed (actor a)) (actionsOf s a (wrote w))
-deedsOf s a (holds t) = map (deed (actor a)) (actionsOf s a (holds t))
+deedsOf s a (holds w) = map (deed (actor a)) (actionsOf s a (holds w))
 deedsOf s a (applies l) = map (deed (actor a)) (actionsOf s a (applies l))
 deedsOf s a (judged v) = map (deed (actor a)) (actionsOf s a (judged v))
 deedsOf s a (refused r) = []

@@ -13,6 +13,7 @@ pub mod Entries
 pub mod PaperRuns
 pub mod Past
 pub mod Demand3
+pub mod HoldNames
 pub mod SmallSteps
 pub mod CountsRise
 pub mod RulesKept

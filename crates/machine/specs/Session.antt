@@ -47,7 +47,7 @@ vector-of-2-1 = refl
 
 pub session-lines : sessionAnswers 3 2 (firstLines ++ nextLines)
     ≡ began ∷
-    wrote (name 1 1) ∷ applies (name 1 1 ∷ []) ∷ shows (shown 2 1 1) ∷ wrote (name 1 2) ∷ applies (name 1 2 ∷ []) ∷ wrote (name 2 1) ∷ holds 1 ∷
+    wrote (name 1 1) ∷ applies (name 1 1 ∷ []) ∷ shows (shown 2 1 1) ∷ wrote (name 1 2) ∷ applies (name 1 2 ∷ []) ∷ wrote (name 2 1) ∷ holds (name 1 1) ∷
     judged Unknown ∷ applies (name 1 1 ∷ name 2 1 ∷ []) ∷ shows (shown 2 1 1) ∷ judged No ∷ applies (name 1 2 ∷ []) ∷ judged Yes ∷ []
 unfolding turns scan all upd upd2 sum begin step answers failing everywhere openCount firstDue settle reads any every verdict
 session-lines = refl

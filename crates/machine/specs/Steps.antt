@@ -38,13 +38,17 @@ within n i = leb 1 i && leb i n
 abbrev pub fails : Vec → ℕ → Vec → ℕ → Bool
 fails a u w t = elim (eqb t u) [ true ↦ not (eqb (suc (a u)) (w u)) | false ↦ ltb (a t) (w t) ]
 
--- "the smallest desk number whose place fails"
-unfoldable pub failing : ℕ → Vec → ℕ → Vec → Option ℕ
-failing n a u w = scan (fails a u w) some none n 1
+-- "the first write of t not applied here" (document 02, T-04)
+abbrev pub nextWrite : Vec → ℕ → Name
+nextWrite a t = name t (suc (a t))
+
+-- "for the smallest failing desk t, the first write of t not applied here"
+unfoldable pub failing : ℕ → Vec → ℕ → Vec → Option Name
+failing n a u w = scan (fails a u w) (λ t. some (nextWrite a t)) none n 1
 
 abbrev pub isNone : {A : Type 0} → Option A → Bool
 isNone none = true
-isNone (some t) = false
+isNone (some a) = false
 
 abbrev pub ready : ℕ → Vec → ℕ → Vec → Bool
 ready n a u w = isNone (failing n a u w)
@@ -156,8 +160,8 @@ unfoldable pub settle : ℕ → State → ℕ → Settled
 settle zero s i = record { names = []; state = s }
 settle (suc f) s i = settleBy (λ s′. settle f s′ i) s i (firstDue s i)
 
-abbrev pub deliverBy : State → ℕ → ℕ → ℕ → Open → Option ℕ → Out
-deliverBy s i u k w (some t) = record { answer = holds t; state = hold s i u k w }
+abbrev pub deliverBy : State → ℕ → ℕ → ℕ → Open → Option Name → Out
+deliverBy s i u k w (some z) = record { answer = holds z; state = hold s i u k w }
 deliverBy s i u k w none =
     let r : Settled = settle most-open (apply s i u k w) i in
     record { answer = applies (name u k ∷ r .names); state = r .state }

@@ -39,7 +39,7 @@ abbrev pub answerFor : machine.Answer → Answer
 answerFor machine.began = Begun
 answerFor (machine.shows v) = shownFor v
 answerFor (machine.wrote w) = Wrote (w .writer) (w .number)
-answerFor (machine.holds desk) = Held desk
+answerFor (machine.holds w) = Held (w .writer) (w .number)
 answerFor (machine.applies l) = Applied (length l)
 answerFor (machine.judged v) = verdictFor v
 answerFor (machine.refused r) = Refused (refusalFor r)
@@ -65,7 +65,7 @@ answer-back Begun names h = refl
 answer-back Unset names h = refl
 answer-back (Shown status writer number) names h = refl
 answer-back (Wrote writer number) names h = refl
-answer-back (Held desk) names h = refl
+answer-back (Held writer number) names h = refl
 answer-back (Applied count) names h = ap Applied (length-names count names (h count refl))
 answer-back Yes names h = refl
 answer-back No names h = refl

@@ -30,7 +30,7 @@ pub enum Answer {
     Unset,
     Shown(u16, u16, u16),
     Wrote(u16, u16),
-    Held(u16),
+    Held(u16, u16),
     Applied(usize),
     Yes,
     No,

@@ -1,6 +1,6 @@
 -- How long the answers to a text are, all together: 5 bytes for each byte of text, and a name for each write that was held before.
--- An empty line is one byte and its answer, `E 10` and LF, is 5. The answer to a delivery that is held is short: that line pays for the name
--- that is printed when the write is applied.
+-- An empty line is one byte and its answer, `E 10` and LF, is 5. A delivery that is held pays for two names: that in its
+-- answer, and its own, which is printed when it is applied.
 use Rattle.laws.specs.Kit.{ℕ, suc, _+_, _-_, _*_, _<_, _≤_, _≡_, refl, Bool, true, false, List, [], _∷_, Option, none, some, arith, eqb}
 use Rattle.laws.specs.{Kit.{leb, length, drop, length-append, length-drop, leb-true}, Each.{Each, no, and}, Loop.{pick, cases}, Sum.{one}}
 use Rattle.machine.specs.{Table.{most-desks, most-open, Name, State}, Answer.{Answer, began, shows, wrote, holds, applies, judged, refused}}
@@ -98,7 +98,7 @@ step-bound {s} {s′} r r′ (shows unset) c = omega arith
 step-bound {s} {s′} r r′ (shows (shown v u k)) c =
     simp length-append (omega (arith, shown-length v u k, decimal-short 0 v (omega arith), name-bytes (r .frame) (record { writer = u; number = k }) (c .1 .0)))
 step-bound {s} {s′} r r′ (wrote w) c = simp length-append (omega (arith, name-bytes (r′ .frame) w (c .0)))
-step-bound {s} {s′} r r′ (holds t) c = simp length-append (omega (arith, decimal-short 1 t (omega (arith, c .0 .1, r .frame .ranges .desks .1))))
+step-bound {s} {s′} r r′ (holds w) c = simp length-append (omega (arith, name-bytes (r .frame) w (c .0)))
 step-bound {s} {s′} r r′ (applies l) c = simp length-append (omega (arith, names-bytes (r .frame) l (c .0)))
 step-bound {s} {s′} r r′ (judged Yes) c = omega arith
 step-bound {s} {s′} r r′ (judged No) c = omega arith

@@ -11,7 +11,7 @@ abbrev pub fourteen : List ℕ
 fourteen = text "N 3 2\nW 1 1 2\nD 2 1 1\nR 2 1\nW 1 1 1\nD 2 1 2\nW 2 2 1\nD 3 2 1\nT 3 1 2\nD 3 1 1\nR 3 1\nT 3 1 2\nD 3 1 2\nT 3 1 2\n"
 
 abbrev pub fourteen-out : List ℕ
-fourteen-out = text "N\nW 1.1\nA 1.1\nR 2 1.1\nW 1.2\nA 1.2\nW 2.1\nH 1\nT unknown\nA 1.1 2.1\nR 2 1.1\nT no\nA 1.2\nT yes\n"
+fourteen-out = text "N\nW 1.1\nA 1.1\nR 2 1.1\nW 1.2\nA 1.2\nW 2.1\nH 1.1\nT unknown\nA 1.1 2.1\nR 2 1.1\nT no\nA 1.2\nT yes\n"
 
 -- the first fourteen lines
 pub session-bytes : transcript fourteen ≡ fourteen-out

@@ -35,7 +35,7 @@ abbrev pub namesBeside : machine.Answer → List ℕ
 namesBeside machine.began = []
 namesBeside (machine.shows v) = []
 namesBeside (machine.wrote w) = []
-namesBeside (machine.holds t) = []
+namesBeside (machine.holds w) = []
 namesBeside (machine.applies l) = machine.nameValues l
 namesBeside (machine.judged v) = []
 namesBeside (machine.refused r) = []

@@ -1,17 +1,15 @@
 // Deliver: a write is held or applied, and then every held write that becomes ready.
 ghost use mathlib.Core.Path.{_≡_};
 ghost use mathlib.Core.Bool.{false};
-ghost use mathlib.Core.Option.{some};
 ghost use Prim.Native.Nat.{_+_, _<_, _≤_};
 ghost use lib.ListN.{set, length};
 ghost use Rattle.clock.specs.Vectors.{places, place};
 ghost use Rattle.clock.specs.Readiness.{readyAt};
 ghost use Rattle.machine.specs.Rules.{In};
-ghost use Rattle.machine.specs.Steps.{failing};
 ghost use Rattle.table.specs.Value.{desk-cells, entries, openAt};
 ghost use Rattle.table.specs.Link.OpensModel.{Unique};
 ghost use Rattle.steps.specs.Link.Cascade.{AppliedAt, DueSays, NamePut, CascadeStarts, CascadeDoes};
-ghost use Rattle.steps.specs.Link.DeliverReceive.{Arriving, ReceivedAs};
+ghost use Rattle.steps.specs.Link.DeliverReceive.{Arriving, ReceivedAs, Waits};
 ghost use Rattle.steps.specs.Link.Deliver.{Part, Delivers, Tested};
 use crate::Turn;
 use crate::common::refused;
@@ -162,15 +160,15 @@ fn cascade(
     }
 }
 
-// The smallest desk whose place fails, of a write that is not ready.
-fn waits_for(a: [u16; PLACES], v: [u16; PLACES], u: usize) -> u16
-    requires { ⌜ readyAt a v u ≡ false ⌝ }
-    ensures { λ r. ⌜ failing places (place a) u (place v) ≡ some r ⌝ }
+// The answer to a write that is not ready, and not applied: what it waits for.
+fn waits_for(a: [u16; PLACES], v: [u16; PLACES], u: usize) -> Answer
+    requires { ⌜ (readyAt a v u ≡ false) × (place a u < place v u) ⌝ }
+    ensures { λ r. ⌜ Waits a v u r ⌝ }
 {
-    let Wait::Fails(t) = clock::readiness(a, v, u) else {
-        return 0;
+    let Wait::Fails(t, j) = clock::readiness(a, v, u) else {
+        return Answer::Held(0, 0);
     };
-    small(t)
+    Answer::Held(small(t), small(j))
 }
 
 // Entry e, a write of desk u that desk i has not received: held or applied.
@@ -206,7 +204,7 @@ fn receive(
     table::put_mark(opens, e, i - 1, HELD);
     Turn {
         desk: d,
-        answer: Answer::Held(waits_for(a, v, u)),
+        answer: waits_for(a, v, u),
     }
 }
 

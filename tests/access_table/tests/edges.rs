@@ -78,6 +78,16 @@ fn held_writes_of_an_image_are_listed() {
     assert!(answers.len() > 5 * 8 && answers.len() <= answers_bound(8));
 }
 
+/// What is missing goes by the counts of the image: 1.2, though 1.3 is held.
+#[test]
+fn a_hold_behind_a_reload() {
+    let mut table = Table::new();
+    let text = format!("N 2 1\n{}D 2 1 1\nD 2 1 3\n", "W 1 1 1\n".repeat(4));
+    assert!(table.run(text.as_bytes()).unwrap().ends_with(b"H 1.2\n"));
+    let answers = table.run(b"D 2 1 4\nD 2 1 2\n").unwrap();
+    assert_eq!(answers, b"H 1.2\nA 1.2 1.3 1.4\n");
+}
+
 /// Tables that no schedule gives go on as the independent implementation does,
 /// and within the bound.
 #[test]

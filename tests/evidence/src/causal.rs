@@ -17,13 +17,23 @@
 //! A trip's answer is its verdict alone; what its reads show is taken from the
 //! list, each is a read of its own, and the verdict has to agree.
 //!
-//! Two more facts of document 01 can be said in the same words and are tested
-//! too: the desk that `H` names, and the order of the writes in `A`.
+//! Two more facts of the documents can be said in the same words and are tested
+//! too: the order of the writes in `A`, and the write t.j that `H` names where
+//! u.k was delivered. Of t.j it demands:
+//!
+//! 1. it is an accepted write;
+//! 2. it comes before u.k;
+//! 3. it is not in that desk's list;
+//! 4. every earlier write of t is;
+//! 5. every write of a smaller desk that comes before u.k is.
+//!
+//! And once t.j has been applied there, no `H` there names it again.
 //!
 //! Refusals are taken as they come: a refused line did nothing. Whether it had
 //! to be refused is for the comparison of answers, not for this checker.
 
 use std::fmt;
+use std::ops::AddAssign;
 
 /// An accepted operation, by its place in the run.
 type Op = usize;
@@ -54,6 +64,67 @@ pub struct Report {
     pub longest: usize,
     /// Writes left held at some desk at the end, counted for each desk.
     pub left_held: usize,
+    /// What the `H` answers name.
+    pub holds: Holds,
+}
+
+/// `H t.j` answers to deliveries of u.k, by what they name.
+#[derive(Clone, Copy, Debug, Default, PartialEq, Eq)]
+pub struct Holds {
+    /// j is above 1.
+    pub later: usize,
+    /// t is u.
+    pub writer: usize,
+    /// t is not u.
+    pub other: usize,
+    /// t is not u, and a later write of t comes before u.k too: the place of t
+    /// in the vector of u.k is above j.
+    pub further: usize,
+    /// A larger desk has a write that comes before u.k and is missing too.
+    pub several: usize,
+    /// t.j is itself held there.
+    pub held: usize,
+}
+
+impl Holds {
+    /// Each class in words, and its count.
+    pub fn classes(&self) -> [(&'static str, usize); 6] {
+        [
+            ("j above 1", self.later),
+            ("t the writer", self.writer),
+            ("t another desk", self.other),
+            ("t another desk and its vector place above j", self.further),
+            ("a larger desk failing too", self.several),
+            ("t.j itself held there", self.held),
+        ]
+    }
+
+    /// The classes with fewer than so many.
+    pub fn rare(&self, least: usize) -> Vec<&'static str> {
+        let few = self.classes().into_iter().filter(|c| c.1 < least);
+        few.map(|c| c.0).collect()
+    }
+}
+
+impl AddAssign for Holds {
+    fn add_assign(&mut self, more: Holds) {
+        self.later += more.later;
+        self.writer += more.writer;
+        self.other += more.other;
+        self.further += more.further;
+        self.several += more.several;
+        self.held += more.held;
+    }
+}
+
+impl fmt::Display for Holds {
+    fn fmt(&self, f: &mut fmt::Formatter<'_>) -> fmt::Result {
+        let classes = self
+            .classes()
+            .map(|(class, count)| format!("{class} in {count}"));
+        let all = self.writer + self.other;
+        write!(f, "{all} held answers H t.j: {}", classes.join("; "))
+    }
 }
 
 /// Why and where a run was rejected.
@@ -93,8 +164,19 @@ pub enum FaultKind {
     ReadNotEarlier,
     /// Demand 3: a write is held that waits for nothing.
     HeldForNothing,
-    /// `H` names another desk than the smallest that has a missing write.
+    /// `H` names a write that was not accepted.
+    HoldUnknown,
+    /// `H` names a write that does not come before the delivered one.
+    HoldNotBefore,
+    /// `H` names a write that is applied there.
+    HoldApplied,
+    /// `H` names a write, and an earlier one of its desk is not applied there.
+    HoldNotFirst,
+    /// `H` names a write, and one of a smaller desk is missing.
     HoldDesk,
+    /// `H` names a write that it had named there, and that has been applied
+    /// there since.
+    HoldAgain,
     /// `A` does not take the smallest writer next.
     CascadeOrder,
 }
@@ -205,6 +287,10 @@ struct DeskRun {
     received: Set,
     /// Those of them that are not applied.
     held: Vec<Op>,
+    /// The writes that an `H` here named.
+    named: Set,
+    /// Those of them that were applied here later.
+    settled: Set,
 }
 
 #[derive(Clone, Debug, Default)]
@@ -334,16 +420,8 @@ impl Run {
                 }
                 self.desks[i].received.add(write);
                 match answer[..] {
-                    [b"H", t] => {
-                        self.desks[i].held.push(write);
-                        let missing = self.before[write]
-                            .list(&self.writes, &self.desks[i].listed)
-                            .filter_map(|op| self.ops[op]);
-                        if let Some(least) = missing.map(|w| w.desk).min() {
-                            if number(t) != Some(least) {
-                                return Err(FaultKind::HoldDesk);
-                            }
-                        }
+                    [b"H", name] => {
+                        self.held(i, write, name, &mut report.holds)?;
                         report.held += 1;
                     }
                     [b"A", ref names @ ..] => {
@@ -365,6 +443,72 @@ impl Run {
         Ok(())
     }
 
+    /// A delivered write that is held, and the name behind its `H`.
+    fn held(
+        &mut self,
+        i: usize,
+        write: Op,
+        name: &[u8],
+        holds: &mut Holds,
+    ) -> Result<(), FaultKind> {
+        let named = self.named(name)?;
+        let desk = &self.desks[i];
+        let missing: Vec<Op> = (self.before[write].list(&self.writes, &desk.listed)).collect();
+        if missing.is_empty() {
+            return Err(FaultKind::HeldForNothing);
+        }
+        let named = named.ok_or(FaultKind::HoldUnknown)?;
+        self.hold(i, write, named, &missing)?;
+        *holds += self.class(i, write, named, &missing);
+        self.desks[i].held.push(write);
+        self.desks[i].named.add(named);
+        Ok(())
+    }
+
+    /// The demands on the write that an `H` names; `missing` are those that the
+    /// held one waits for.
+    fn hold(&self, i: usize, write: Op, named: Op, missing: &[Op]) -> Result<(), FaultKind> {
+        let desk = &self.desks[i];
+        if desk.settled.has(named) {
+            return Err(FaultKind::HoldAgain);
+        }
+        if !self.before[write].has(named) {
+            return Err(FaultKind::HoldNotBefore);
+        }
+        if desk.listed.has(named) {
+            return Err(FaultKind::HoldApplied);
+        }
+        let t = self.writer(named);
+        let mut earlier = self.desks[t].writes.iter().take_while(|&&w| w != named);
+        if !earlier.all(|&w| desk.listed.has(w)) {
+            return Err(FaultKind::HoldNotFirst);
+        }
+        if missing.iter().any(|&w| self.writer(w) < t) {
+            return Err(FaultKind::HoldDesk);
+        }
+        Ok(())
+    }
+
+    /// What a right `H` names.
+    fn class(&self, i: usize, write: Op, named: Op, missing: &[Op]) -> Holds {
+        let t = self.writer(named);
+        let own = self.writer(write) == t;
+        let of_t = missing.iter().filter(|&&w| self.writer(w) == t).count();
+        Holds {
+            later: usize::from(self.desks[t].writes[0] != named),
+            writer: usize::from(own),
+            other: usize::from(!own),
+            further: usize::from(!own && of_t > 1),
+            several: usize::from(missing.len() > of_t),
+            held: usize::from(self.desks[i].held.contains(&named)),
+        }
+    }
+
+    /// The desk of a write.
+    fn writer(&self, write: Op) -> usize {
+        self.ops[write].map_or(0, |w| w.desk)
+    }
+
     /// The writes that an `A` lists, from the delivered one on.
     fn applied(&mut self, i: usize, delivered: Op, names: &[&[u8]]) -> Result<(), FaultKind> {
         let (first, rest) = names.split_first().ok_or(FaultKind::Answer)?;
@@ -377,8 +521,8 @@ impl Run {
             let desk = &self.desks[i];
             let at = (desk.held.iter().position(|&w| w == write)).ok_or(FaultKind::NotReceived)?;
             let ready = |w: Op| !self.before[w].any(&self.writes, &desk.listed);
-            let writer = |w: Op| self.ops[w].map(|w| w.desk);
-            if ready(write) && (desk.held.iter()).any(|&w| ready(w) && writer(w) < writer(write)) {
+            let smaller = |w: Op| self.writer(w) < self.writer(write);
+            if ready(write) && (desk.held.iter()).any(|&w| ready(w) && smaller(w)) {
                 return Err(FaultKind::CascadeOrder);
             }
             self.desks[i].held.remove(at);
@@ -422,6 +566,9 @@ impl Run {
             return Err(FaultKind::ReadNotEarlier);
         }
         desk.listed.add(op);
+        if desk.named.has(op) {
+            desk.settled.add(op);
+        }
         if let Some(written) = self.ops[op] {
             desk.latest[written.cell] = Some(op);
         }

@@ -178,7 +178,7 @@ fn open_good(table: &Table, own: &Vector) -> bool {
                     if k <= d.applied[u].into() {
                         !held && at_most(&e.vector, &d.applied)
                     } else {
-                        !held || table.first_short(i, s).is_some()
+                        !held || table.first_missing(i, s).is_some()
                     }
                 });
             if !good {

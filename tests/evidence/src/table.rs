@@ -40,8 +40,9 @@ pub struct Reading {
 /// The answer to an accepted delivery.
 #[derive(Clone, Copy, Debug, PartialEq, Eq)]
 pub enum Delivery<'a> {
-    /// Not ready: held, with the smallest desk whose place fails.
-    Held(u8),
+    /// Not ready: held. Of the smallest desk whose place fails, the first write
+    /// that is not applied there.
+    Held(Name),
     /// Applied: the delivered write, then the held ones it set free.
     Applied(&'a [Name]),
 }
@@ -104,6 +105,9 @@ pub(crate) enum Variant {
     ReadForgets,
     /// The reads of a trip do not join the clock.
     TripForgets,
+    /// A held answer names another write.
+    #[cfg(test)]
+    Misnames(crate::wrong::Misnamed),
 }
 
 /// A cell at one desk. An unset cell is zero all over.
@@ -338,12 +342,17 @@ impl Table {
         if self.desks[i].held & bit(s) != 0 {
             return Err(Refusal::ReceivedBefore);
         }
-        if let Some(t) = self.first_short(i, s) {
+        if let Some(missing) = self.first_missing(i, s) {
+            #[cfg(test)]
+            let missing = match self.variant {
+                Some(Variant::Misnames(how)) => how.name(self, i, s, missing),
+                _ => missing,
+            };
             self.desks[i].held |= bit(s);
             if self.is(Variant::FreeWhenReceived) {
                 self.one_desk_less(s);
             }
-            return Ok(Delivery::Held(t as u8 + 1));
+            return Ok(Delivery::Held(missing));
         }
         self.apply(i, s);
         self.listed[0] = Name {
@@ -457,10 +466,11 @@ impl Table {
         (e.writer as usize == u + 1 && e.vector[u] == number).then_some(s)
     }
 
-    /// The first place that keeps entry s from being applied at i. Only for a
-    /// write above i's count of its writer.
+    /// What keeps entry s from being applied at i: of the first desk whose
+    /// place fails, the first write not applied there. Only for a write above
+    /// i's count of its writer.
     #[inline]
-    pub(crate) fn first_short(&self, i: usize, s: usize) -> Option<usize> {
+    pub(crate) fn first_missing(&self, i: usize, s: usize) -> Option<Name> {
         let e = &self.entries[s];
         let u = e.writer as usize - 1;
         // Of u itself, one less than the write's own number is needed.
@@ -472,7 +482,18 @@ impl Table {
         if (0..MAX_DESKS).fold(0, |all, t| all | lack(t)) == 0 {
             return None;
         }
-        (0..MAX_DESKS).find(|&t| lack(t) > 0)
+        let t = (0..MAX_DESKS).find(|&t| lack(t) > 0)?;
+        Some(self.next_of(t, i))
+    }
+
+    /// The first write of desk place t that is not applied at i; i has not
+    /// applied 65,535 of them.
+    #[inline]
+    pub(crate) fn next_of(&self, t: usize, i: usize) -> Name {
+        Name {
+            desk: t as u8 + 1,
+            number: self.desks[i].applied[t] + 1,
+        }
     }
 
     /// Puts a write into a free entry; there must be one.
@@ -520,7 +541,7 @@ impl Table {
             };
             for number in next..=last {
                 if let Some(s) = self.find(v, number) {
-                    if d.held & bit(s) != 0 && self.first_short(i, s).is_none() {
+                    if d.held & bit(s) != 0 && self.first_missing(i, s).is_none() {
                         return Some((v, s));
                     }
                 }

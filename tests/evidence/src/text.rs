@@ -268,9 +268,9 @@ impl Session {
                 writer,
                 number,
             } => match table.deliver(desk, writer, number)? {
-                Delivery::Held(short) => {
-                    out.extend_from_slice(b"H ");
-                    push_number(out, short.into());
+                Delivery::Held(missing) => {
+                    out.push(b'H');
+                    push_name(out, missing);
                 }
                 Delivery::Applied(names) => {
                     out.push(b'A');

@@ -5,6 +5,7 @@ mod common;
 use common::{answers, last};
 use evidence::image::{image_len, load, save, to_vec, BLOCK};
 use evidence::table::{Delivery, Name, Table, Verdict};
+use evidence::text::{replay_in, Session};
 use evidence::Refusal;
 
 #[test]
@@ -95,8 +96,12 @@ fn write_65535_and_the_next_with_two_desks() {
     assert_eq!(t.write(1, 1, 0), Err(Refusal::WritesSpent));
     assert_eq!(t.write(2, 1, 0), Err(Refusal::OpenFull));
     // All the rest from behind; the last one lets 64 go.
+    let missing = Name {
+        desk: 1,
+        number: 65_535 - 63,
+    };
     for number in (65_535 - 62..=65_535).rev() {
-        assert_eq!(t.deliver(2, 1, number), Ok(Delivery::Held(1)));
+        assert_eq!(t.deliver(2, 1, number), Ok(Delivery::Held(missing)));
     }
     let Ok(Delivery::Applied(names)) = t.deliver(2, 1, 65_535 - 63) else {
         panic!("not applied");
@@ -108,6 +113,23 @@ fn write_65535_and_the_next_with_two_desks() {
     assert_eq!(t.deliver(2, 1, 1), Err(Refusal::ReceivedBefore));
     assert_eq!(t.write(1, 1, 0), Err(Refusal::WritesSpent));
     assert_eq!(t.write(2, 1, 0).unwrap().number, 1);
+}
+
+/// The longest held answer: desk 1 lacks 3.65535, which desk 2 has read.
+#[test]
+fn a_hold_names_write_65535() {
+    let mut t = Table::new(3, 1).unwrap();
+    for number in 1..=65_535u16 {
+        t.write(3, 1, 0).unwrap();
+        t.deliver(2, 3, number).unwrap();
+        if number < 65_535 {
+            t.deliver(1, 3, number).unwrap();
+        }
+    }
+    t.read(2, 1).unwrap();
+    t.write(2, 1, 1).unwrap();
+    let answers = replay_in(Session::with_table(t), b"D 1 2 1\nD 1 3 65535\n");
+    assert_eq!(answers, b"H 3.65535\nA 3.65535 2.1\n");
 }
 
 #[test]
@@ -141,7 +163,7 @@ fn sixty_four_undelivered_writes_with_two_desks() {
     assert_eq!(last(&text), "E 5");
     // One delivered and held: received everywhere, and open still.
     text += "D 2 1 2\n";
-    assert_eq!(last(&text), "H 1");
+    assert_eq!(last(&text), "H 1.1");
     text += "W 1 1 1\n";
     assert_eq!(last(&text), "E 5");
     // One delivered and applied takes the held one along.
@@ -167,7 +189,7 @@ fn sixty_four_applied_by_one_delivery() {
     let mut text = "N 2 1\n".to_string() + &"W 1 1 1\n".repeat(64);
     for number in (2..=64).rev() {
         text += &format!("D 2 1 {number}\n");
-        assert_eq!(last(&text), "H 1");
+        assert_eq!(last(&text), "H 1.1");
     }
     text += "D 2 1 1\n";
     let names: String = (1..=64).map(|k| format!(" 1.{k}")).collect();

@@ -4,8 +4,10 @@
 mod common;
 
 use evidence::causal::{check, Report};
-use evidence::gen::{schedule, Kind};
-use evidence::text::replay;
+use evidence::gen::{odd_image, schedule, schedule_from, worn_image, Kind};
+use evidence::image::load;
+use evidence::table::{Mark, Table};
+use evidence::text::{replay, Reader, Session};
 use std::collections::BTreeMap;
 
 /// Every kind of schedule, byte for byte against the slow machine.
@@ -58,11 +60,51 @@ fn the_causal_checker_accepts() {
         sum.held += report.held;
         sum.released += report.released;
         sum.longest = sum.longest.max(report.longest);
+        sum.holds += report.holds;
     }
     assert!(runs >= 300, "{runs}");
     assert!(sum.writes > 10_000 && sum.shown > 10_000, "{sum:?}");
     assert!(sum.held > 5_000 && sum.released > 2_000, "{sum:?}");
     assert!(sum.trips > 1_000 && sum.longest >= 32, "{sum:?}");
+    assert_eq!(sum.holds.rare(200), [""; 0], "{}", sum.holds);
+    assert_eq!(Report::default().holds.rare(1).len(), 6);
+}
+
+/// The answers to a schedule take at most 5 bytes for each of its bytes, and 9
+/// for each write that was held before it: so it is line by line, where a write
+/// that is held anew is paid for by its own line.
+#[test]
+fn answers_keep_the_bound() {
+    let mut longest = BTreeMap::new();
+    for seed in 0..200 {
+        for image in [None, Some(worn_image(seed)), Some(odd_image(seed))] {
+            let table = image.map(|image| load(&image).unwrap());
+            let text = match &table {
+                Some(table) => schedule_from(table, seed, 150),
+                None => schedule(seed, Kind::Mixed, 300),
+            };
+            let mut session = table.map_or_else(Session::new, Session::with_table);
+            for line in Reader::new(&text) {
+                let before = held(session.table());
+                let mut answer = Vec::new();
+                session.answer(line, &mut answer);
+                let paid = 5 * (line.bytes.len() + usize::from(line.ended)) + 9 * before;
+                assert!(answer.len() + 9 * held(session.table()) <= paid);
+                let most = longest.entry(answer[0]).or_insert(0);
+                *most = answer.len().max(*most);
+            }
+        }
+    }
+    // Both are met: the longest held answer, and an `A` that its line alone
+    // does not pay for.
+    assert_eq!(longest[&b'H'], "H 1.65535\n".len());
+    assert!(longest[&b'A'] > 5 * "D 1 2 65535\n".len(), "{longest:?}");
+}
+
+/// How many writes are held, counted for each desk.
+fn held(table: Option<&Table>) -> usize {
+    let marks = table.iter().flat_map(|t| t.open_writes().map(|w| w.marks));
+    marks.flatten().filter(|&mark| mark == Mark::Held).count()
 }
 
 /// Inputs of the largest size, and past it.
@@ -115,6 +157,10 @@ fn the_generator_reaches() {
                     "R" => format!("R {}", parts.next().unwrap()),
                     "W" => "W".to_string(),
                     "N" => "N".to_string(),
+                    "H" => match parts.next().unwrap().split_once('.').unwrap() {
+                        (t, "1") => format!("H {t}.1"),
+                        (t, _) => format!("H {t}.more"),
+                    },
                     other => format!("{other} {}", parts.next().unwrap()),
                 };
                 *seen.entry(key).or_default() += 1;
@@ -126,7 +172,7 @@ fn the_generator_reaches() {
         .chain(["T yes", "T no", "T unknown"])
         .map(str::to_string)
         .collect();
-    expect.extend((1..=8).map(|t| format!("H {t}")));
+    expect.extend((1..=8).flat_map(|t| [format!("H {t}.1"), format!("H {t}.more")]));
     expect.extend([1, 2, 3, 5, 6, 7, 8, 9, 10, 11, 14].map(|e| format!("E {e}")));
     expect.sort();
     let keys: Vec<String> = seen.keys().cloned().collect();

@@ -201,9 +201,9 @@ fn a_trip_reads_and_a_refused_one_does_not() {
     let head = "N 3 2\nW 1 1 1\nD 2 1 1\n";
     let tail = "W 2 2 1\nD 3 2 1\n";
     assert_eq!(last(&format!("{head}{tail}")), "A 2.1");
-    assert_eq!(last(&format!("{head}R 2 1\n{tail}")), "H 1");
+    assert_eq!(last(&format!("{head}R 2 1\n{tail}")), "H 1.1");
     assert_eq!(last(&format!("{head}R 2 2\n{tail}")), "A 2.1");
-    assert_eq!(last(&format!("{head}T 2 2 1\n{tail}")), "H 1");
+    assert_eq!(last(&format!("{head}T 2 2 1\n{tail}")), "H 1.1");
     assert_eq!(last(&format!("{head}T 2 1 3\n{tail}")), "A 2.1");
     assert_eq!(
         last(&format!("{head}T 2{}\n{tail}", " 1".repeat(17))),
@@ -212,17 +212,60 @@ fn a_trip_reads_and_a_refused_one_does_not() {
     assert_eq!(last(&format!("{head}T 1 1\n{tail}")), "A 2.1");
 }
 
-/// `H` names the smallest failing place, the writer's own included.
+/// `H` goes by the smallest failing place, the writer's own included.
 #[test]
 fn the_desk_that_h_names() {
     // 3.2 needs 3.1, and 2.1, which desk 3 has read; desk 1 lacks both.
     let head = "N 4 2\nW 2 1 1\nD 3 2 1\nW 3 2 1\nR 3 1\nW 3 2 0\nD 1 3 2\n";
-    assert_eq!(last(head), "H 2");
+    assert_eq!(last(head), "H 2.1");
     // 2.2 needs 2.1, and 3.1, which desk 2 has read.
     let head = "N 4 2\nW 3 1 1\nD 2 3 1\nW 2 2 1\nR 2 1\nW 2 2 0\nD 1 2 2\n";
-    assert_eq!(last(head), "H 2");
+    assert_eq!(last(head), "H 2.1");
     let head = "N 4 2\nW 3 1 1\nD 2 3 1\nW 2 2 1\nR 2 1\nW 2 2 0\nD 1 2 1\nD 1 2 2\n";
-    assert_eq!(last(head), "H 3");
+    assert_eq!(last(head), "H 3.1");
+}
+
+/// The first write that is not applied there: neither the vector's place nor
+/// the writer's next one.
+#[test]
+fn the_write_that_h_names() {
+    // Desk 2 has applied 1.1 to 1.4 and read 1.3; the vector of 2.1 has 3.
+    let head = "N 3 1\nW 1 1 1\nW 1 1 1\nW 1 1 1\nD 2 1 1\nD 2 1 2\nD 2 1 3\nR 2 1\n\
+                W 1 1 1\nD 2 1 4\nW 2 1 1\n";
+    for (before, answer) in [
+        ("", "H 1.1"),
+        ("D 3 1 1\n", "H 1.2"),
+        ("D 3 1 1\nD 3 1 2\n", "H 1.3"),
+        ("D 3 1 1\nD 3 1 2\nD 3 1 3\n", "A 2.1"),
+        // Held writes are not applied ones.
+        ("D 3 1 2\n", "H 1.1"),
+        ("D 3 1 1\nD 3 1 3\n", "H 1.2"),
+        ("D 3 1 4\nD 3 1 1\n", "H 1.2"),
+    ] {
+        assert_eq!(last(&format!("{head}{before}D 3 2 1\n")), answer);
+    }
+    // The writer's own.
+    for (before, answer) in [
+        ("", "H 1.1"),
+        ("D 3 1 1\n", "H 1.2"),
+        ("D 3 1 2\nD 3 1 1\n", "H 1.3"),
+        ("D 3 1 2\nD 3 1 3\nD 3 1 1\n", "A 1.4"),
+    ] {
+        assert_eq!(last(&format!("{head}{before}D 3 1 4\n")), answer);
+    }
+}
+
+/// The write that is named may be held there itself, for a larger desk.
+#[test]
+fn the_write_that_h_names_may_be_held() {
+    // 2.1 needs 3.1; 4.1 and 2.2 need both.
+    let head =
+        "N 4 3\nW 3 1 1\nD 2 3 1\nR 2 1\nW 2 2 1\nD 4 3 1\nD 4 2 1\nR 4 2\nW 4 3 1\nW 2 2 2\n";
+    let answers = common::answers(&format!("{head}D 1 2 1\nD 1 4 1\nD 1 2 2\nD 1 3 1\n"));
+    assert_eq!(
+        answers[10..],
+        ["H 3.1", "H 2.1", "H 2.1", "A 3.1 2.1 2.2 4.1"]
+    );
 }
 
 /// Before each application the search begins at writer 1 again.
@@ -233,7 +276,10 @@ fn the_search_begins_again() {
     let text = "N 4 3\nW 1 1 1\nD 3 1 1\nR 3 1\nW 3 2 1\nD 2 1 1\nD 2 3 1\nR 2 2\nW 2 3 1\n\
                 W 1 1 2\nD 4 3 1\nD 4 2 1\nD 4 1 2\nD 4 1 1\n";
     let answers = common::answers(text);
-    assert_eq!(answers[10..], ["H 1", "H 1", "H 1", "A 1.1 1.2 3.1 2.1"]);
+    assert_eq!(
+        answers[10..],
+        ["H 1.1", "H 1.1", "H 1.1", "A 1.1 1.2 3.1 2.1"]
+    );
     // With 2.2 held behind 2.1 and 3.2 behind 3.1, writer 2 goes first when
     // 2.1 is let go.
     let text = "N 4 3\nW 1 1 1\nD 3 1 1\nR 3 1\nW 3 2 1\nW 3 2 0\nD 2 1 1\nD 2 3 1\nR 2 2\n\

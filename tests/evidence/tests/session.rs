@@ -3,9 +3,11 @@
 mod common;
 
 use common::{session, SESSION};
-use evidence::causal;
+use evidence::causal::{self, Holds};
 use evidence::table::{Delivery, Mark, Name, Table, Verdict};
 use evidence::text::replay;
+use std::fs;
+use std::path::Path;
 
 #[test]
 fn whole_session_byte_for_byte() {
@@ -37,6 +39,28 @@ fn the_session_is_causal() {
     assert_eq!((report.writes, report.reads, report.trips), (3, 3, 3));
     assert_eq!((report.applied, report.held, report.released), (4, 1, 1));
     assert_eq!((report.longest, report.left_held), (2, 0));
+    let holds = Holds {
+        other: 1,
+        ..Holds::default()
+    };
+    assert_eq!(report.holds, holds);
+}
+
+/// The examples that `replay` is held against are this package's answers.
+#[test]
+fn the_examples() {
+    let folder = Path::new(env!("CARGO_MANIFEST_DIR")).join("../../examples");
+    let mut seen = 0;
+    for entry in fs::read_dir(folder).expect("the examples") {
+        let input = entry.expect("an entry").path();
+        if input.extension().is_some_and(|kind| kind == "txt") {
+            let text = fs::read(&input).expect("an example");
+            let output = fs::read(input.with_extension("out")).expect("its answers");
+            assert!(replay(&text) == output, "{}", input.display());
+            seen += 1;
+        }
+    }
+    assert!(seen >= 4, "{seen}");
 }
 
 /// "The vector of 2.1 is (1,1,0): desk 2 had applied 1.2 but not read it."
@@ -55,7 +79,7 @@ fn the_session_through_the_library() {
     let (reading, vector) = t.peek(2, 2).unwrap().unwrap();
     assert_eq!((reading.status, reading.write), (1, name(2, 1)));
     assert_eq!(vector, [1, 1, 0, 0, 0, 0, 0, 0]);
-    assert_eq!(t.deliver(3, 2, 1), Ok(Delivery::Held(1)));
+    assert_eq!(t.deliver(3, 2, 1), Ok(Delivery::Held(name(1, 1))));
     let open: Vec<_> = t.open_writes().collect();
     assert_eq!(open.len(), 3);
     assert_eq!(open[2].name, name(2, 1));

@@ -1,6 +1,6 @@
 -- The cases of a delivery, of a write that may close, of the cascade, of a trip and of a step.
 use Rattle.laws.specs.{Kit.{_≡_, refl, _≢_, true, false, List, [], _∷_, Option, none, some, ℕ, zero, suc, arith}, Loop.{cases}}
-use Rattle.machine.specs.{Table.{most-open, Vec, name, markIn, away, Open, State, written}, Answer.{Refusal, holds, applies}}
+use Rattle.machine.specs.{Table.{most-open, Vec, Name, name, markIn, away, Open, State, written}, Answer.{Refusal, holds, applies}}
 use Rattle.machine.specs.Steps.{Out, refuse, failing, read, everywhere, stillOpen, apply, hold, firstDue, Settled, applyNext}
 use Rattle.machine.specs.{Steps.{settleBy, settle, deliverBy, reads, Step, Read, Write, Deliver, Trip, step}, Rules.{In}}
 use Rattle.machine.specs.{Proofs.Refusals.{deliverEffect, step-cases}, Proofs.Ready.{option-all}}
@@ -15,8 +15,8 @@ pub record Delivery (s : State) (i u k : ℕ) (w : Open) : Type 0 where
   pub is-away : w .marks i ≡ away
 
 pub deliver-cases : (s : State) (i u k : ℕ) (Q : Out → Type 0) → ((r : Refusal) → Q (refuse r s))
-    → ((w : Open) → Delivery s i u k w → (t : ℕ) → failing (s .setup .desks) (s .applied i) u (w .vector) ≡ some t
-    → Q (record { answer = holds t; state = hold s i u k w }))
+    → ((w : Open) → Delivery s i u k w → (z : Name) → failing (s .setup .desks) (s .applied i) u (w .vector) ≡ some z
+    → Q (record { answer = holds z; state = hold s i u k w }))
     → ((w : Open) → Delivery s i u k w → failing (s .setup .desks) (s .applied i) u (w .vector) ≡ none
     → Q (let r : Settled = settle most-open (apply s i u k w) i in record { answer = applies (name u k ∷ r .names); state = r .state }))
     → Q (step s (Deliver i u k))

@@ -1,32 +1,14 @@
 -- Demand 3, of every schedule with saves and reloads anywhere.
-use Rattle.laws.specs.Kit.{_≡_, sym, _∙_, _≢_, inl, inr, _↔_, Iff·trans, Bool, true, false, List, _∷_, Memᴰ·append-left, none, some, ℕ, suc}
-use Rattle.laws.specs.{Kit.{_≤_, _<_, arith, eqb-false, ltb-true, eq-eqb, ne-eqb, not-true, eqb}, Ends.{cut-at}, Loop.{scan, scan-holds}}
-use Rattle.laws.specs.{Update.{same-or}, Says.{clash}}
+use Rattle.laws.specs.Kit.{_≡_, sym, _∙_, ap, _≢_, inl, inr, _↔_, Iff·trans, true, List, _∷_, Memᴰ·append-left, some, ℕ, suc}
+use Rattle.laws.specs.{Kit.{_≤_, _<_, arith}, Ends.{cut-at}, Update.{same-or}, Says.{apart}}
 use Rattle.machine.specs.{Table.{most-desks, most-cells, Vec, name, away, held, done, Open, State, fresh, markOf}, Steps.{fails}}
 use Rattle.machine.specs.{Steps.{failing, isNone, ready}, Rules.{In, Rules}, History.{Event, write-at, applied, deskList, Act, run}}
-use Rattle.machine.specs.{History.{history}, Demand3.{WriteAt, of-write, Has, CauseMissing, Received, HeldIffCauseMissing, UpTo}}
-use Rattle.machine.specs.{Demand3.{Demand3}, Proofs.RulesKept.{fresh-rules, one-place, done-counted}}
+use Rattle.machine.specs.{History.{history}, Demand3.{WriteAt, of-write, Has, Missing, CauseMissing, Received}}
+use Rattle.machine.specs.{Demand3.{HeldIffCauseMissing, UpTo, Demand3}, Proofs.RulesKept.{fresh-rules, one-place, done-counted}}
 use Rattle.machine.specs.{Proofs.Order.{at-one, HistoryOrdered, forward}, Proofs.TableTraced.{Origin, origin-write}}
 use Rattle.machine.specs.{Proofs.StepsTraced.{Observed, observed-fresh}, Proofs.RunsTraced.{rules-kept, observed-run}}
-use Rattle.machine.specs.{Proofs.NamesObserved.{write-in, names-observed, open-observed}, Proofs.Ready.{option-cases}}
-
--- a write that is not ready: its own number is not next, or another desk's place fails
-data Unready (a : Vec) (u : ℕ) (w : Vec) : Type 0 where
-  early : suc (a u) ≢ w u → Unready a u w
-  lacks : (t : ℕ) → t ≢ u → a t < w t → Unready a u w
-
-failing-some : (p : ℕ → Bool) (n : ℕ) → isNone (scan p some none n 1) ≡ false → (t : ℕ) × (p t ≡ true)
-failing-some p n =
-    scan-holds p some none (λ o. isNone o ≡ false → (t : ℕ) × (p t ≡ true)) n 1 (λ t _ e _. (t, e))
-    (λ e. clash (cc))
-
-unready : (n : ℕ) (a : Vec) (u : ℕ) (w : Vec) → ready n a u w ≡ false → Unready a u w
-unfolding failing
-unready n a u w e =
-    let r = failing-some (fails a u w) n e in
-    same-or (r .0) u
-    (λ z. early (eqb-false (suc (a u)) (w u) (not-true (eqb (suc (a u)) (w u)) (rw (eq-eqb (r .0) u z, fails) at (r .1)))))
-    (λ z. lacks (r .0) z (ltb-true (a (r .0)) (w (r .0)) (rw (ne-eqb (r .0) u z, fails) at (r .1))))
+use Rattle.machine.specs.{Proofs.NamesObserved.{write-in, names-observed, open-observed}, Proofs.Ready.{option-cases, failing-at}}
+use Rattle.machine.specs.Proofs.Ready.{fails-lacks, not-applied}
 
 module _ {s : State} {h : List Event} (r : Rules s) (b : Observed s h) where
   ordered : HistoryOrdered h
@@ -47,29 +29,33 @@ module _ {s : State} {h : List Event} (r : Rules s) (b : Observed s h) where
       (λ z. m .not-yet (sym d ∙ z), λ n. d ∙ same-or (x .marks i) away (λ z. z) (λ z. absurd (n (m .came z)))))
 
   -- the vector of u.k, wherever u.k stands
-  tells-at : {u k x v q : ℕ} {w : Vec} → Origin h u k x v w → WriteAt h q u k → (t j : ℕ) → 1 ≤ j → (j ≤ w t) ↔ UpTo h q t j
+  pub tells-at : {u k x v q : ℕ} {w : Vec} → Origin h u k x v w → WriteAt h q u k → (t j : ℕ) → 1 ≤ j → (j ≤ w t) ↔ UpTo h q t j
   tells-at {u} {k} {q = q} g a t j one = rw (ordered .once q (g .place) u k a (origin-write g)) (g .tells t j one)
 
   -- what a write counts that its desk has yet to apply
-  missing : (i u k q t j : ℕ) → WriteAt h q u k → UpTo h q t j → (t ≡ u → j ≡ k → ⊥) → s .applied i t < j → CauseMissing h i q
-  missing i u k q t j w c ne lt = elim (c .order) [
+  lacked : (i u k q t j : ℕ) → WriteAt h q u k → UpTo h q t j → (t ≡ u → j ≡ k → ⊥) → s .applied i t < j → Missing h i q t j
+  lacked i u k q t j w c ne lt = elim (c .order) [
     | inl z ↦ (let e : write-at t (c .write .cell) (c .write .status) j ≡ write-at u (w .cell) (w .status) k =
         at-one h q (rw z at (c .write .at)) (w .at) in
         absurd (ne (cc) (cc)))
     | inr p ↦ (let un : Has (deskList i h) t j → ⊥ = (λ m. omega (arith, b .traced .counts i t j .0 m .1)) in
-        record { place = c .place; writer = t; number = j; write = c .write; precedes = p; unapplied = un })
+        record { place = c .place; write = c .write; precedes = p; unapplied = un })
   ]
+
+  -- of an open write that is not applied there: the next write of a desk whose place fails
+  pub fails-missing : (i u k q : ℕ) (x : Open) → In (s .setup .desks) i → WriteAt h q u k → s .opens u k ≡ some x → x .marks i ≢ done
+      → (t : ℕ) → fails (s .applied i) u (x .vector) t ≡ true → Missing h i q t (suc (s .applied i t))
+  fails-missing i u k q x hi w e ne t f =
+      let o = r .frame .open-write u k x e in
+      let l = fails-lacks (s .applied i) u (x .vector) (not-applied o i hi ne) t f in
+      lacked i u k q t (suc (s .applied i t)) w (tells-at (b .traced .opens u k x e) w t (suc (s .applied i t)) (omega arith) .0 (l .0)) (λ p z. l .1 p (z ∙ sym (o .number))) (omega arith)
 
   held-lacks : (i u k q : ℕ) (x : Open) → In (s .setup .desks) i → WriteAt h q u k → s .opens u k ≡ some x → x .marks i ≡ held → CauseMissing h i q
   held-lacks i u k q x hi w e m =
-      let o = r .frame .open-write u k x e in
-      let tells : (t j : ℕ) → 1 ≤ j → (j ≤ x .vector t) ↔ UpTo h q t j = tells-at (b .traced .opens u k x e) w in
-      let late : ¬ (k ≤ s .applied i u) = (λ z. omega (arith, o .marked i hi .1 z)) in
-      elim (unready (s .setup .desks) (s .applied i) u (x .vector) (r .quiet i u k x e m)) [
-        | lacks t ne lt ↦ missing i u k q t (x .vector t) w (tells t (x .vector t) (omega arith) .0 (omega arith)) (λ z _. ne z) lt
-        | early ne ↦ (let j = suc (s .applied i u) in
-            missing i u k q u j w (tells u j (omega arith) .0 (omega (arith, o .number))) (λ _ z. ne (z ∙ sym (o .number))) (omega arith))
-      ]
+      option-cases (failing (s .setup .desks) (s .applied i) u (x .vector))
+      (λ f. apart (ready (s .setup .desks) (s .applied i) u (x .vector)) (ap isNone f) (r .quiet i u k x e m))
+      (λ z f. let g = failing-at (s .setup .desks) (s .applied i) u (x .vector) z f in
+      record { writer = z .writer; number = suc (s .applied i (z .writer)); cause = fails-missing i u k q x hi w e (λ d. omega arith) (z .writer) (g .there) })
 
   held-iff : HeldIffCauseMissing s h
   held-iff i u k q hi w got = (to, from)
@@ -85,8 +71,8 @@ module _ {s : State} {h : List Event} (r : Rules s) (b : Observed s h) where
         | inr o ↦ elim o [
           | inl z ↦ z
           | inr z ↦ (let p = cut-at (applied-observed i u k q hi w .0 z) in
-              let m = b .traced .story .causes .writes i (applied (name u k)) (p .earlier) (p .later) (p .is) q (of-write w) (c .place) (c .writer) (c .number) (c .write) (c .precedes) in
-              absurd (c .unapplied (rw (p .is) (Memᴰ·append-left (applied (name u k) ∷ p .later) m))))
+              let m = b .traced .story .causes .writes i (applied (name u k)) (p .earlier) (p .later) (p .is) q (of-write w) (c .cause .place) (c .writer) (c .number) (c .cause .write) (c .cause .precedes) in
+              absurd (c .cause .unapplied (rw (p .is) (Memᴰ·append-left (applied (name u k) ∷ p .later) m))))
         ]
       ]
 

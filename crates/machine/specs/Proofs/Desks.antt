@@ -68,7 +68,7 @@ module _ (n p i u : ℕ) (w : Open) (before : p < done) where
 -- no waiting thread is enabled where no held write is ready
 enabled-ready : (n : ℕ) (a : Vec) (u : ℕ) (w : Vec) → ((t : ℕ) → In n t → t ≢ u → w t ≤ a t) → suc (a u) ≡ w u → ready n a u w ≡ true
 unfolding failing
-enabled-ready n a u w rest own = ap isNone (scan-empty (fails a u w) some none n 1 (λ t l h. passes t (l, omega arith)))
+enabled-ready n a u w rest own = ap isNone (scan-empty (fails a u w) _ none n 1 (λ t l h. passes t (l, omega arith)))
   where
     passes : (t : ℕ) → In n t → fails a u w t ≡ false
     passes t h =

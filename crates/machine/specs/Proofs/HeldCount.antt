@@ -4,12 +4,13 @@ use Rattle.laws.specs.{Each.{Each, no, and, each-then}, Sum.{sum, one, tally, s
 use Rattle.laws.specs.{Sum.{tally-none}, Update.{upd, upd-same, upd-other, upd2-same, upd2-other, same-or}}
 use Rattle.machine.specs.Table.{most-desks, most-open, most-status, Name, name, Cell, blank, set, held, done, Open, State, fresh}
 use Rattle.machine.specs.{Table.{written, markIn, markOf}, Answer.{Answer, unset, shown, shownOf, began, shows, wrote, holds}}
-use Rattle.machine.specs.{Answer.{applies, judged, refused}, Steps.{stillOpen, mark, apply, hold, read, reads, raise, nextNumber}}
-use Rattle.machine.specs.Steps.{newWrite, write, isOpen, openCount, Settled, settle, Step, Read, Write, Deliver, Trip, step}
-use Rattle.machine.specs.{Rules.{In, Frame, Rules}, Proofs.Ready.{failing-at, done-everywhere, option-cases}, Proofs.Apply.{Midway}}
-use Rattle.machine.specs.{Proofs.Apply.{ReadyAt, apply-written, to-be-open, issues, here, same}, Proofs.Cascade.{settle-all}}
-use Rattle.machine.specs.{Proofs.Cases.{Delivery, deliver-cases, still-cases, reads-keep}, Proofs.Refusals.{step-cases}}
-use Rattle.machine.specs.Proofs.RulesKept.{delivered-at, delivered-midway}
+use Rattle.machine.specs.{Answer.{applies, judged, refused}, Steps.{failing, stillOpen, mark, apply, hold, read, reads, raise}}
+use Rattle.machine.specs.Steps.{nextNumber, newWrite, write, isOpen, openCount, Settled, settle, Step, Read, Write, Deliver, Trip}
+use Rattle.machine.specs.{Steps.{step}, Rules.{In, Frame, Rules}, Proofs.Ready.{failing-at, fails-lacks, not-applied}}
+use Rattle.machine.specs.{Proofs.Ready.{done-everywhere, option-cases}, Proofs.Cascade.{settle-all}}
+use Rattle.machine.specs.{Proofs.Apply.{Midway, ReadyAt, apply-written, to-be-open, issues, here, same}, Proofs.Refusals.{step-cases}}
+use Rattle.machine.specs.{Proofs.Cases.{Delivery, deliver-cases, still-cases, reads-keep}, Proofs.RulesKept.{delivered-at}}
+use Rattle.machine.specs.Proofs.RulesKept.{delivered-midway}
 
 -- at how many desks u.k is held
 abbrev pub heldAt : State → ℕ → ℕ → ℕ
@@ -133,6 +134,14 @@ reads-held s i xs = reads-keep (λ t. heldCount t ≡ heldCount s) i (λ t x e. 
 abbrev pub Made : State → Name → Type 0
 Made s w = In (s .setup .desks) (w .writer) × In (written s (w .writer)) (w .number)
 
+-- a hold names a write that was made: some vector counts it
+hold-made : {s : State} {i u k : ℕ} {w : Open} → Frame s → Delivery s i u k w → (z : Name) → failing (s .setup .desks) (s .applied i) u (w .vector) ≡ some z → Made s z
+hold-made {s} {i} {u} {k} {w} f d z e =
+    let o = f .open-write u k w (d .is) in
+    let g = failing-at (s .setup .desks) (s .applied i) u (w .vector) z e in
+    let l = fails-lacks (s .applied i) u (w .vector) (not-applied o i (d .desk) (λ m. omega (arith, d .is-away))) (z .writer) (g .there) in
+    (g .desk, (omega (arith, g .number), omega (arith, g .number, l .0, o .issued (z .writer))))
+
 -- the cascade: each name is that of a write that was held
 record Freed (s : State) (r : Settled) : Type 0 where
   names : Each (Made s) (r .names)
@@ -159,7 +168,7 @@ HeldCounted s began s′ = heldCount s′ ≡ heldCount s
 HeldCounted s (shows unset) s′ = heldCount s′ ≡ heldCount s
 HeldCounted s (shows (shown v u k)) s′ = (v ≤ most-status) × (Made s (name u k) × (heldCount s′ ≡ heldCount s))
 HeldCounted s (wrote w) s′ = Made s′ w × (heldCount s′ ≡ heldCount s)
-HeldCounted s (holds t) s′ = In (s .setup .desks) t × (heldCount s′ ≡ suc (heldCount s))
+HeldCounted s (holds w) s′ = Made s w × (heldCount s′ ≡ suc (heldCount s))
 HeldCounted s (applies l) s′ = Each (Made s) l × (heldCount s′ + length l ≡ suc (heldCount s))
 HeldCounted s (judged v) s′ = heldCount s′ ≡ heldCount s
 HeldCounted s (refused r) s′ = heldCount s′ ≡ heldCount s
@@ -178,7 +187,7 @@ step-counted {s} r (Write i x v) =
     ((h .0, omega (arith, here (r .frame) (raise s i .clock) a)), write-held (r .frame) i x v (h .0) (h .1 .0) (h .1 .1 .0)))
 step-counted {s} r (Deliver i u k) =
     deliver-cases s i u k (λ o. HeldCounted s (o .answer) (o .state)) (λ _. refl)
-    (λ w d t e. (failing-at (s .setup .desks) (s .applied i) u (w .vector) t e .0, hold-held d))
+    (λ w d z e. (hold-made (r .frame) d z e, hold-held d))
     (λ w d e. let at = delivered-at r d e in
     let t = settle-held most-open (delivered-midway r d e) (d .desk) in
     let a : heldCount s ≡ 0 + heldCount (apply s i u k w) = rw (d .is-away) at (apply-held (r .frame) at) in (

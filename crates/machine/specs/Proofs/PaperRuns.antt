@@ -254,7 +254,7 @@ wrote-step {s} r u k (Write i x v) low high =
         ap (λ (n : ℕ). wrote (name u n)) next)
 
 module _ (reload : State → State) (same : (s : State) → Rules s → reload s ≡ s) where
-  run-append : (s : State) (k l : List Act) → run reload s (k ++ l) ≡ run reload (run reload s k) l
+  pub run-append : (s : State) (k l : List Act) → run reload s (k ++ l) ≡ run reload (run reload s k) l
   unfolding run
   run-append s [] l = refl
   run-append s (take-step a ∷ k) l = run-append (step s a .state) k l

@@ -64,7 +64,7 @@ abbrev isApplies : machine.Answer → Bool
 isApplies machine.began = false
 isApplies (machine.shows v) = false
 isApplies (machine.wrote w) = false
-isApplies (machine.holds t) = false
+isApplies (machine.holds w) = false
 isApplies (machine.applies l) = true
 isApplies (machine.judged v) = false
 isApplies (machine.refused r) = false
@@ -74,7 +74,7 @@ beside Begun names x e h = e
 beside Unset names x e h = e
 beside (Shown v u k) names x e h = e
 beside (Wrote u k) names x e h = e
-beside (Held t) names x e h = e
+beside (Held t j) names x e h = e
 beside (Applied c) names x e h = apart (isApplies x) (sym (ap isApplies e)) h
 beside Yes names x e h = e
 beside No names x e h = e

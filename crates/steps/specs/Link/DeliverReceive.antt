@@ -2,11 +2,11 @@
 use Rattle.laws.specs.{Kit.{ℕ, suc, _-_, _<_, _≡_, refl, sym, ap, subst, _∙_, List, true, Option, some, arith, sets}, Update.{upd-same}}
 use Rattle.clock.specs.{Vectors.{places, place}, Readiness.{readyAt, failing-narrow}}
 use Rattle.machine.specs.Table as machine
-use Rattle.machine.specs.{Table.{State, most-open, away, held}, Answer.{holds, applies}, Steps.{Out, Settled, failing, ready, hold}}
-use Rattle.machine.specs.{Steps.{deliverBy, withOpens}, Rules.{In}, Proofs.Ready.{is-none}, Proofs.RulesKept.{ReadyAt, ready-next}}
-use Rattle.machine.specs.Proofs.Apply.{to-be-open}
+use Rattle.machine.specs.{Table.{State, Name, most-open, away, held}, Answer.{holds, applies}, Steps.{Out, Settled, failing, ready, hold}}
+use Rattle.machine.specs.{Steps.{deliverBy, withOpens}, Rules.{In}, Proofs.Ready.{is-none, not-applied}}
+use Rattle.machine.specs.{Proofs.RulesKept.{ReadyAt, ready-next}, Proofs.Apply.{to-be-open}}
 use Rattle.machine.specs.Answer as machineAnswer
-use Rattle.reply.specs.{declared.Answer.the-variants.{Held, Applied}, Meaning.{answerOf, Counted}}
+use Rattle.reply.specs.{declared.Answer.{Answer}, declared.Answer.the-variants.{Held, Applied}, Meaning.{answerOf, Counted}}
 use Rattle.table.specs.{declared.Desk.{Desk}, Value.{all-cells, cellAt, entries, openAt, putMark}, EntryNames.{namedAt}}
 use Rattle.table.specs.{Model.{openM, opensM}, Link.OpensModel.{Unique, opens-at, opens-mark, unique-mark}, Sound.{AllZero}}
 use Rattle.steps.specs.{declared.Turn.{Turn}, Stepped.{namesBeside}, Link.Cascade.{midst, Running, NextReady, CascadeDoes, from}}
@@ -18,6 +18,12 @@ pub record Arrival (b : State) (n i u k e : ℕ) (a own cs os : List ℕ) : Type
   pub small : e < entries
   pub named : namedAt os u k e ≡ true
   pub is-away : place (openAt os e .marks) i ≡ away
+
+-- the answer to a write that is not ready: the name that `failing` gives
+pub record Waits (a v : List ℕ) (u : ℕ) (r : Answer) : Type 0 where
+  pub what : Name
+  pub named : failing places (place a) u (place v) ≡ some what
+  pub is : r ≡ Held (what .writer) (what .number)
 
 -- what the machine does with it
 abbrev pub effect : State → ℕ → ℕ → ℕ → machine.Open → Out
@@ -81,9 +87,13 @@ module _ {b : State} {n i u k e : ℕ} {a own cs os : List ℕ} (r : Arrival b n
 
   -- not ready --
 
-  failing-here : (t : ℕ) → failing places (place a) u (place (openAt os e .vector)) ≡ some t
-      → failing (b .setup .desks) (s .applied i) u (w .vector) ≡ some t
-  failing-here t f =
+  -- its own number is above the count
+  pub late-here : place a u < place (openAt os e .vector) u
+  late-here = rw (upd-same (b .applied) i (place a)) at (not-applied (r .running .mid .frame .open-write u k w is-open) i (rw (r .running .count) (r .running .desk)) (λ d. omega (arith, r .is-away)))
+
+  failing-here : (z : Name) → failing places (place a) u (place (openAt os e .vector)) ≡ some z
+      → failing (b .setup .desks) (s .applied i) u (w .vector) ≡ some z
+  failing-here z f =
       rw (r .running .count, upd-same (b .applied) i (place a))
       (sym (failing-narrow n places (place a) u (w .vector) (flat (r .running) u k w is-open) (writer-in .1) (small-n (r .running))) ∙ f)
 
@@ -106,25 +116,25 @@ received-ready {b} {n} {i} {u} {k} {e} {own} {cs} {os} {names} {len = len} d r h
     }
 
 -- it is held
-pub received-held : {b : State} {n i u k e : ℕ} {own cs os : List ℕ} {os′ : List ℕ} (names : List ℕ) {t : ℕ} (d : Desk) → Arrival b n i u k e (d .applied) own cs os
-    → failing places (place (d .applied)) u (place (openAt os e .vector)) ≡ some t → os′ ≡ putMark os e (i - 1) held
-    → ReceivesAs b n i u k e d cs os names (record { desk = d; answer = Held t }) cs os′ names
-received-held {b} {n} {i} {u} {k} {e} {own} {cs} {os} {os′} names {t} d r f p =
+pub received-held : {b : State} {n i u k e : ℕ} {own cs os : List ℕ} {os′ : List ℕ} (names : List ℕ) {x : Answer} (d : Desk) → Arrival b n i u k e (d .applied) own cs os
+    → Waits (d .applied) (openAt os e .vector) u x → os′ ≡ putMark os e (i - 1) held
+    → ReceivesAs b n i u k e d cs os names (record { desk = d; answer = x }) cs os′ names
+received-held {b} {n} {i} {u} {k} {e} {own} {cs} {os} {os′} names {x} d r f p =
     record {
-      answer-is = rw z;
+      answer-is = rw (z, f .is);
       state-is = rw z same;
       clock-is = refl;
       blanks = g .blanks;
       unique = rw p (unique-mark os e u k (r .small) (g .opens-size) (g .unique) (r .named) i held (in-places g i (g .desk)));
       names-are = rw z;
-      counted = λ c y. let w : _≡_ {A = ℕ} 0 1 = cc in absurd (omega arith);
+      counted = λ c y. let q : Held (f .what .writer) (f .what .number) ≡ Applied c = sym (f .is) ∙ y in let w : _≡_ {A = ℕ} 0 1 = cc in absurd (omega arith);
     }
   where
     g : Running b n i (d .applied) own cs os
     g = r .running
 
-    z : failing (b .setup .desks) (midst b i (d .applied) cs os .applied i) u (place (openAt os e .vector)) ≡ some t
-    z = failing-here r t f
+    z : failing (b .setup .desks) (midst b i (d .applied) cs os .applied i) u (place (openAt os e .vector)) ≡ some (f .what)
+    z = failing-here r (f .what) (f .named)
 
     same : midst b i (d .applied) cs os′ ≡ hold (midst b i (d .applied) cs os) i u k (openM (openAt os e))
     same =

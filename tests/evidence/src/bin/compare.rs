@@ -5,10 +5,16 @@
 //! causal order. A difference is printed with the shortest schedule that still
 //! shows it.
 
+use evidence::causal::Holds;
 use evidence::gen::{schedule, Kind};
 use evidence::{causal, text};
 use std::io::Write;
 use std::process::{Command, ExitCode, Stdio};
+
+/// A run of at least this length has to meet each class of held answers at
+/// least so often.
+const FULL: usize = 1_000;
+const LEAST: usize = 300;
 
 fn main() -> ExitCode {
     let args: Vec<String> = std::env::args().skip(1).collect();
@@ -16,7 +22,7 @@ fn main() -> ExitCode {
         eprintln!("usage: compare PROGRAM [--runs N] [--seed S]");
         return ExitCode::from(2);
     };
-    let (mut lines, mut checked) = (0, 0);
+    let (mut lines, mut checked, mut holds) = (0, 0, Holds::default());
     for run in 0..runs {
         let kind = Kind::ALL[run % Kind::ALL.len()];
         let input = schedule(seed + run as u64, kind, 20 + run % 400);
@@ -28,7 +34,10 @@ fn main() -> ExitCode {
             return ExitCode::FAILURE;
         }
         lines += input.iter().filter(|b| **b == b'\n').count();
-        checked += usize::from(causal::check(&input, &text::replay(&input)).is_ok());
+        if let Ok(report) = causal::check(&input, &text::replay(&input)) {
+            checked += 1;
+            holds += report.holds;
+        }
         if (run + 1) % 500 == 0 {
             eprintln!(
                 "{} runs, {lines} lines, {checked} checked for causal order, no difference",
@@ -38,6 +47,12 @@ fn main() -> ExitCode {
     }
     if checked == 0 {
         eprintln!("no schedule was checked for causal order");
+        return ExitCode::FAILURE;
+    }
+    println!("{holds}");
+    let rare = holds.rare(LEAST);
+    if runs >= FULL && !rare.is_empty() {
+        eprintln!("too few held answers: {}", rare.join(", "));
         return ExitCode::FAILURE;
     }
     println!("{runs} schedules, {lines} lines: no difference; {checked} of them by the definition of causal order");

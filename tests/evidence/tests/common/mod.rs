@@ -5,7 +5,7 @@
 pub mod rules;
 pub mod slow;
 
-/// Document 01's whole session.
+/// Document 01's whole session, with the held answer of T-04.
 pub const SESSION: [(&str, &str); 18] = [
     ("N 3 2", "N"),
     ("W 1 1 2", "W 1.1"),
@@ -14,7 +14,7 @@ pub const SESSION: [(&str, &str); 18] = [
     ("W 1 1 1", "W 1.2"),
     ("D 2 1 2", "A 1.2"),
     ("W 2 2 1", "W 2.1"),
-    ("D 3 2 1", "H 1"),
+    ("D 3 2 1", "H 1.1"),
     ("T 3 1 2", "T unknown"),
     ("D 3 1 1", "A 1.1 2.1"),
     ("R 3 1", "R 2 1.1"),

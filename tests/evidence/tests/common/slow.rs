@@ -59,6 +59,15 @@ impl Slow {
             .collect()
     }
 
+    /// The number of the first write of desk t that is not applied at desk i.
+    fn first_missing(&self, i: usize, t: usize) -> usize {
+        (0..self.writes.len())
+            .filter(|&w| self.writes[w].desk == t && self.place(i, w) != Place::Applied)
+            .map(|w| self.writes[w].number)
+            .min()
+            .expect("a place fails for a write that is not applied")
+    }
+
     fn apply(&mut self, i: usize, w: usize) -> String {
         let write = self.writes[w].clone();
         self.places.insert((i, w), Place::Applied);
@@ -138,9 +147,9 @@ impl Slow {
                 if self.place(i, w) != Place::Missing {
                     return Err(8);
                 }
-                if let Some(t) = self.failing(i, w).first() {
+                if let Some(&t) = self.failing(i, w).first() {
                     self.places.insert((i, w), Place::Held);
-                    return Ok(format!("H {t}"));
+                    return Ok(format!("H {t}.{}", self.first_missing(i, t)));
                 }
                 let mut answer = format!("A{}", self.apply(i, w));
                 loop {

@@ -1,8 +1,7 @@
-use Rattle.laws.specs.Kit.{ℕ, _≡_, sym, subst, _∙_, List, some, arith, needs}
-use Rattle.machine.specs.Steps.{failing}
-use Rattle.clock.specs.{Vectors.{places, place}, Readiness.{readyAt}}
+use Rattle.laws.specs.Kit.{ℕ, _<_, _≡_, sym, subst, _∙_, List, arith, needs}
+use Rattle.clock.specs.{Vectors.{place}, Readiness.{readyAt}}
 use Rattle.table.specs.Value.{openAt}
-use Rattle.steps.specs.{Link.Cascade.{in-places}, Link.DeliverReceive.{next-of-arrival, received-ready, received-held}}
+use Rattle.steps.specs.{Link.Cascade.{in-places}, Link.DeliverReceive.{next-of-arrival, late-here, received-ready, received-held}}
 use Rattle.steps.proofs.deliver.receive.Statement.{statement}
 use Rattle.steps.proofs.deliver.receive.Tie as tie
 
@@ -28,16 +27,20 @@ put-mark-requires c κs =
     (p .small, omega (arith, in-places (p .running) _ (p .running .desk)))
 
 waits-for-requires : tie.Need-waits-for-requires
-waits-for-requires c κs = let e = c .before .before in sym (e .before .ready .ensures) ∙ e .if1 .left
+waits-for-requires c κs =
+    let e = c .before .before in
+    let p = e .before .before .before .before .before .before .pre .2 in
+    let g = e .before .before .before .before .before .before .args in (
+      sym (e .before .ready .ensures) ∙ e .if1 .left,
+      subst (λ (v : List ℕ). place (g .d .applied) (g .u) < place v (g .u)) (sym (e .before .before .before .before .vector-at .ensures)) (late-here p),
+    )
 
 returns-2 : tie.Need-returns-2
 returns-2 c b k r =
     let m = c .before in
     let q = m .before .before .before in
     let g = q .before .before .before .before .before .args in
-    let f : failing places (place (g .d .applied)) (g .u) (place (openAt (g .opens .now) (g .e) .vector)) ≡ some (c .waits-for .result) =
-    subst (λ (v : List ℕ). failing places (place (g .d .applied)) (g .u) (place v) ≡ some (c .waits-for .result)) (q .before .before .before .vector-at .ensures) (c .waits-for .ensures) in
-    received-held (g .names .now) (g .d) r f (m .put-mark .ensures .is)
+    received-held (g .names .now) (g .d) r (rw (q .before .before .before .vector-at .ensures) at (c .waits-for .ensures)) (m .put-mark .ensures .is)
 
 pub receive-spec : {M : Type 1} → statement M
 receive-spec = tie.close (tie.spec (λ c κs. c .before .pre .2 .small) (λ c κs. search needs) cascade-requires returns

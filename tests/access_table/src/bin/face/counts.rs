@@ -2,16 +2,19 @@
 
 use crate::calls::Tally;
 use crate::images::Way;
+use evidence::causal::Holds;
 use evidence::gen::Kind;
 use std::collections::BTreeMap;
 
 /// The classes of answer lines.
-const ANSWERS: [&str; 21] = [
+const ANSWERS: [&str; 23] = [
     "N",
     "R set",
     "R -",
     "W",
-    "H",
+    "H first",
+    "H later",
+    "H five digits",
     "A one",
     "A more",
     "T yes",
@@ -42,6 +45,8 @@ pub struct Counts {
     pub answers: [usize; ANSWERS.len()],
     /// Runs whose answers were checked by the definition of causal order.
     pub causal: usize,
+    /// What their held answers name.
+    pub holds: Holds,
     /// Accepted pieces that began with no table, and from an image.
     pub from_nothing: usize,
     pub from_image: usize,
@@ -69,14 +74,15 @@ pub struct Counts {
 }
 
 impl Counts {
-    /// Counts answer lines.
-    pub fn answers(&mut self, text: &[u8]) {
+    /// Counts answer lines. A line that is none is a fault.
+    pub fn answers(&mut self, text: &[u8]) -> Result<(), String> {
         for line in text.split_inclusive(|&b| b == b'\n') {
+            let class = class(line)
+                .ok_or_else(|| format!("\"{}\" is no answer line", line.escape_ascii()))?;
             self.lines += 1;
-            if let Some(class) = class(line) {
-                self.answers[class] += 1;
-            }
+            self.answers[class] += 1;
         }
+        Ok(())
     }
 
     /// All schedules.
@@ -120,6 +126,8 @@ impl Counts {
             ("longer buffers", self.calls.longer),
         ];
         missing.extend((counted.iter().filter(|c| c.1 == 0)).map(|c| c.0.to_string()));
+        let holds = self.holds.rare(1).into_iter();
+        missing.extend(holds.map(|class| format!("a held answer with {class}")));
         missing
     }
 
@@ -138,12 +146,14 @@ impl Counts {
         format!(
             "schedules: {}\n\
              answers: {}\n\
+             causal order: {}\n\
              reloads: {} pieces from no table, {} from an image; {} images with a held write, {} such writes applied behind it, {} images with 64 open\n\
              sizes: {} pieces of 65,536 bytes, {} of 65,537, {} longer\n\
              calls: {}; {} with room to the byte, {} longer, one short: {} answers, {} image_out, {} lengths\n\
              images: {} damaged with checks right; {} ways, fewest {} ({})",
             list(kinds.collect()),
             list(answers.collect()),
+            self.holds,
             self.from_nothing,
             self.from_image,
             self.held_carried,
@@ -190,10 +200,42 @@ fn class(line: &[u8]) -> Option<usize> {
         b"R -" => "R -",
         [b'R', ..] => "R set",
         [b'W', ..] => "W",
-        [b'H', ..] => "H",
+        [b'H', b' ', name @ ..] => hold(name)?,
         [b'A', names @ ..] if names.iter().filter(|&&b| b == b' ').count() > 1 => "A more",
         [b'A', ..] => "A one",
         other => std::str::from_utf8(other).ok()?,
     };
     ANSWERS.iter().position(|class| *class == name)
+}
+
+/// The class of a held answer, by the number of the write that it names.
+fn hold(name: &[u8]) -> Option<&'static str> {
+    let (desk, number) = std::str::from_utf8(name).ok()?.split_once('.')?;
+    let (1.., number) = (desk.parse::<u8>().ok()?, number.parse::<u16>().ok()?) else {
+        return None;
+    };
+    match number {
+        0 => None,
+        1 => Some("H first"),
+        2..=9_999 => Some("H later"),
+        10_000.. => Some("H five digits"),
+    }
+}
+
+#[cfg(test)]
+mod tests {
+    use super::Counts;
+
+    #[test]
+    fn a_line_that_is_no_answer_is_a_fault() {
+        for good in ["H 1.1\n", "H 8.65535\n", "H 2.17\nE 8\n"] {
+            assert_eq!(Counts::default().answers(good.as_bytes()), Ok(()));
+        }
+        for bad in [
+            "H", "H 1", "H 1.", "H .1", "H 0.1", "H 1.0", "H 1.1.1", "E 12",
+        ] {
+            let line = format!("{bad}\n");
+            assert!(Counts::default().answers(line.as_bytes()).is_err(), "{bad}");
+        }
+    }
 }

@@ -193,7 +193,7 @@ pub fn hold(call: Call, case: &Case, depth: Depth, counts: &mut Counts) -> Resul
         count_piece(piece, at, before.as_ref(), session.table(), counts);
         // What the call gave was just found to be this.
         if let Expect::Done { answers, image } = expect {
-            counts.answers(&answers);
+            counts.answers(&answers)?;
             ran.extend_from_slice(piece);
             answered.extend(answers);
             carried = image;
@@ -237,8 +237,9 @@ fn whole(ran: &[u8], answered: &[u8], counts: &mut Counts) -> Result<(), String>
     if ran.len() <= MAX_INPUT && replay(ran) != answered {
         return Err("the answers together are not those to the whole schedule".into());
     }
-    causal::check(ran, answered).map_err(|fault| format!("causal order: {fault}"))?;
+    let report = causal::check(ran, answered).map_err(|fault| format!("causal order: {fault}"))?;
     counts.causal += 1;
+    counts.holds += report.holds;
     Ok(())
 }
 

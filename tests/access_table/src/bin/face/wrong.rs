@@ -35,6 +35,8 @@ enum Wrong {
     // Answers.
     UnsetIsYes,
     LastNameMissing,
+    HoldWithoutNumber,
+    HoldNextButOne,
     NoLfIsRun,
     // What goes with the image.
     HeldLost,
@@ -130,6 +132,9 @@ fn spoil(wrong: Wrong, answers: &mut Vec<u8>, image: &mut Vec<u8>) {
             line.truncate(last);
             line.push(b'\n');
         }
+        if line[0] == b'H' {
+            misname(wrong, line);
+        }
     }
     *answers = lines.concat();
     if image.is_empty() {
@@ -158,6 +163,18 @@ fn spoil(wrong: Wrong, answers: &mut Vec<u8>, image: &mut Vec<u8>) {
         _ => return,
     }
     put_checks_right(image);
+}
+
+/// A held answer that names another write, or none.
+fn misname(wrong: Wrong, line: &mut Vec<u8>) {
+    let text = String::from_utf8_lossy(line);
+    let (desk, number) = text.trim_end().split_once('.').unwrap_or_default();
+    let number: u32 = number.parse().unwrap_or_default();
+    match wrong {
+        Wrong::HoldWithoutNumber => *line = format!("{desk}\n").into_bytes(),
+        Wrong::HoldNextButOne => *line = format!("{desk}.{}\n", number + 1).into_bytes(),
+        _ => {}
+    }
 }
 
 /// Puts what a call gives into its buffers.
@@ -292,9 +309,9 @@ fn every_wrong_library_is_caught_and_shown_in_short() {
         ImageLength texts; AnswersLength texts; LengthsInOne texts; AnswersTail texts;
         ImageTail texts; LengthsTail texts; RoomToSpare texts; OneByteLess texts;
         OneByteMore texts; LongBeforeImage images; ShortBeforeImage images; UnsetIsYes texts;
-        LastNameMissing texts; NoLfIsRun texts; HeldLost texts; ClockLost texts;
-        NoTableKept texts; Always13 images; OpenOrder images; HeadByte images; HeldReady images;
-        OneBlockMore images; Refuses65535 images;
+        LastNameMissing texts; HoldWithoutNumber texts; HoldNextButOne texts; NoLfIsRun texts;
+        HeldLost texts; ClockLost texts; NoTableKept texts; Always13 images; OpenOrder images;
+        HeadByte images; HeldReady images; OneBlockMore images; Refuses65535 images;
     ];
     for (wrong, library, sizes) in libraries {
         let Err(report) = all(library, sizes, 1, &mut Counts::default()) else {
