@@ -1,4 +1,4 @@
--- Lines of document 01's session, computed.
+-- Lines as in document 01's session, computed; in a name the two numbers differ, so that neither stands for the other.
 use Rattle.laws.specs.{Kit.{_≡_, refl, [], _∷_}, Text.{text}}
 use Rattle.machine.specs.{Table.{name}, Answer.{began, shows, wrote, holds, applies, judged, refused, unset, shown, Yes, No, Unknown}}
 use Rattle.machine.specs.Answer.{own-write, short}
@@ -12,14 +12,14 @@ line-W : answerLine (wrote (name 1 2)) ≡ text "W 1.2\n"
 unfolding digits decimal nameBytes
 line-W = refl
 
-line-R : answerLine (shows (shown 2 1 1)) ≡ text "R 2 1.1\n"
+line-R : answerLine (shows (shown 2 1 3)) ≡ text "R 2 1.3\n"
 unfolding digits decimal nameBytes
 line-R = refl
 
 line-unset : answerLine (shows unset) ≡ text "R -\n"
 line-unset = refl
 
-line-H : answerLine (holds (name 1 1)) ≡ text "H 1.1\n"
+line-H : answerLine (holds (name 1 2)) ≡ text "H 1.2\n"
 unfolding digits decimal nameBytes
 line-H = refl
 

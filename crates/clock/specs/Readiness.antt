@@ -3,7 +3,7 @@ use Rattle.laws.specs.Kit.{ℕ, suc, _+_, _-_, _≤_, _<_, _≡_, refl, sym, ap
 use Rattle.laws.specs.Kit.{add-one, ltb-true, lt-ltb, le-ltb, eq-eqb, ne-eqb, length, getD, set, getD-set-same, getD-set-other, ltb, eqb}
 use Rattle.laws.specs.{Loop.{pick, cases, scan-short}, All.{all, all-next, all-fails, all-end, all-fails-at, all-same}}
 use Rattle.laws.specs.{All.{all-shift}, Update.{same-or}}
-use Rattle.machine.specs.{Table.{Vec, Name, name}, Steps.{fails, nextWrite, failing, ready, isNone}, Rules.{In, Flat}}
+use Rattle.machine.specs.{Table.{Vec, Name, name}, Steps.{fails, firstUnapplied, failing, ready, isNone}, Rules.{In, Flat}}
 use Rattle.machine.specs.Proofs.Ready.{ready-all}
 use Rattle.clock.specs.{Vectors.{place, places, place-at}, declared.Wait.{Wait}, declared.Wait.the-variants.{Ready, Fails}}
 
@@ -108,9 +108,8 @@ covers-end n a v over t h =
 
 -- at place t, from 1, by the lists' elements --
 
--- the write that is missing
-pub next-at : (a : List ℕ) (t : ℕ) → 1 ≤ t → name t (getD a (t - 1) 0 + 1) ≡ nextWrite (place a) t
-next-at a t h = ap (name t) (rw (place-at a t h) (add-one (getD a (t - 1) 0)))
+pub unapplied-at : (a : List ℕ) (t : ℕ) → 1 ≤ t → getD a (t - 1) 0 + 1 ≡ firstUnapplied (place a) t .number
+unapplied-at a t h = rw (place-at a t h) (add-one (getD a (t - 1) 0))
 
 module _ (a v : List ℕ) (u t : ℕ) (h : 1 ≤ t) where
   pub failsAt-own : t ≡ u → not (eqb (getD a (t - 1) 0 + 1) (getD v (t - 1) 0)) ≡ failsAt a v u t

@@ -1,9 +1,8 @@
 // The causal clock of a desk, and when a write is ready.
 ghost use mathlib.Core.Path.{_≡_};
 ghost use Prim.Native.Nat.{max};
-ghost use Rattle.machine.specs.Table.{name};
 ghost use Rattle.machine.specs.Rules.{In};
-ghost use Rattle.machine.specs.Steps.{nextWrite, failing};
+ghost use Rattle.machine.specs.Steps.{firstUnapplied, failing};
 ghost use Rattle.clock.specs.Vectors.{places, place, joinClock, raiseClock};
 ghost use Rattle.clock.specs.Readiness.{failsAt, waitOf, readyAt, coversAll};
 
@@ -80,9 +79,9 @@ fn fails(a: [u16; PLACES], v: [u16; PLACES], u: usize, t: usize) -> bool
 }
 
 // The number of desk t's first write that is not applied where the counts are a.
-fn next_write(a: [u16; PLACES], t: usize) -> usize
+fn first_unapplied(a: [u16; PLACES], t: usize) -> usize
     requires { ⌜ In places t ⌝ }
-    ensures { λ r. ⌜ name t r ≡ nextWrite (place a) t ⌝ }
+    ensures { λ r. ⌜ r ≡ firstUnapplied (place a) t .number ⌝ }
 {
     a[t - 1] as usize + 1
 }
@@ -94,7 +93,7 @@ pub fn readiness(a: [u16; PLACES], v: [u16; PLACES], u: usize) -> Wait
     let mut t = 1;
     while t <= PLACES {
         if fails(a, v, u, t) {
-            return Wait::Fails(t, next_write(a, t));
+            return Wait::Fails(t, first_unapplied(a, t));
         }
         t += 1;
     }

@@ -61,14 +61,14 @@ pub edge-of-open : replies (run (λ s. s) (fresh 2 1) (map take-step (replicate 
 unfolding turns scan all upd upd2 sum step answers run failing everywhere openCount firstDue settle
 edge-of-open = refl
 
--- document 02, T-04, "for the smallest failing desk t, the first write of t not applied here". At desk 3: of 1.1, whose vector has 3 at
--- place 2, it is 2.1; of 1.2 it is 1.1, which is held there; of 2.3, when 2.1 has come, it is 2.2.
+-- document 02, T-04, "for the smallest failing desk t, the first write of t not applied here". At desk 3: of 2.3 it is 2.1; when 2.1 has
+-- come, of 1.1, whose vector has 3 at place 2, it is 2.2; of 1.2 it is 1.1, which is held there.
 pub first-missing : answers (fresh 3 1) (
     Write 2 1 0 ∷ Write 2 1 0 ∷ Write 2 1 0 ∷ Deliver 1 2 1 ∷ Deliver 1 2 2 ∷ Deliver 1 2 3 ∷ Read 1 1 ∷ Write 1 1 0 ∷ Write 1 1 0 ∷
-    Deliver 3 1 1 ∷ Deliver 3 2 1 ∷ Deliver 3 1 2 ∷ Deliver 3 2 3 ∷ Deliver 3 2 2 ∷ [])
+    Deliver 3 2 3 ∷ Deliver 3 2 1 ∷ Deliver 3 1 1 ∷ Deliver 3 1 2 ∷ Deliver 3 2 2 ∷ [])
     ≡ wrote (name 2 1) ∷ wrote (name 2 2) ∷ wrote (name 2 3) ∷ applies (name 2 1 ∷ []) ∷ applies (name 2 2 ∷ []) ∷ applies (name 2 3 ∷ []) ∷
     shows (shown 0 2 3) ∷ wrote (name 1 1) ∷ wrote (name 1 2) ∷
-    holds (name 2 1) ∷ applies (name 2 1 ∷ []) ∷ holds (name 1 1) ∷ holds (name 2 2) ∷ applies (name 2 2 ∷ name 2 3 ∷ name 1 1 ∷ name 1 2 ∷ []) ∷ []
+    holds (name 2 1) ∷ applies (name 2 1 ∷ []) ∷ holds (name 2 2) ∷ holds (name 1 1) ∷ applies (name 2 2 ∷ name 2 3 ∷ name 1 1 ∷ name 1 2 ∷ []) ∷ []
 unfolding turns scan all upd upd2 sum step answers failing everywhere openCount firstDue settle
 first-missing = refl
 

@@ -39,12 +39,12 @@ abbrev pub fails : Vec → ℕ → Vec → ℕ → Bool
 fails a u w t = elim (eqb t u) [ true ↦ not (eqb (suc (a u)) (w u)) | false ↦ ltb (a t) (w t) ]
 
 -- "the first write of t not applied here" (document 02, T-04)
-abbrev pub nextWrite : Vec → ℕ → Name
-nextWrite a t = name t (suc (a t))
+abbrev pub firstUnapplied : Vec → ℕ → Name
+firstUnapplied a t = name t (suc (a t))
 
 -- "for the smallest failing desk t, the first write of t not applied here"
 unfoldable pub failing : ℕ → Vec → ℕ → Vec → Option Name
-failing n a u w = scan (fails a u w) (λ t. some (nextWrite a t)) none n 1
+failing n a u w = scan (fails a u w) (λ t. some (firstUnapplied a t)) none n 1
 
 abbrev pub isNone : {A : Type 0} → Option A → Bool
 isNone none = true

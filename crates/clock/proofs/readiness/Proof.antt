@@ -1,11 +1,11 @@
 use Rattle.clock.specs.{Vectors.{places, place}, Readiness.{failsAt}}
-use Rattle.laws.specs.{Kit.{_≤_, _-_, _+_, _≡_, refl, sym, ap, _∙_, none, some, needs}, Loop.{scan, scan-here, scan-next, scan-end}}
-use Rattle.machine.specs.Steps.{nextWrite, failing}
+use Rattle.laws.specs.{Kit.{ℕ, _≤_, _-_, _+_, _≡_, refl, sym, ap, _∙_, none, some, needs}, Loop.{scan, scan-here, scan-next, scan-end}}
+use Rattle.machine.specs.{Table.{name}, Steps.{firstUnapplied, failing}}
 use Rattle.clock.proofs.readiness.Statement.{statement}
 use Rattle.clock.proofs.readiness.Tie as tie
 
 abbrev Inv-loop : tie.InvT-loop
-Inv-loop a v u t₀ t = (1 ≤ t) × ((t ≤ places + 1) × (scan (failsAt a v u) (λ d. some (nextWrite (place a) d)) none (places + 1 - t) t ≡ failing places (place a) u (place v)))
+Inv-loop a v u t₀ t = (1 ≤ t) × ((t ≤ places + 1) × (scan (failsAt a v u) (λ d. some (firstUnapplied (place a) d)) none (places + 1 - t) t ≡ failing places (place a) u (place v)))
 
 abbrev μ-loop : tie.MeasureT-loop
 μ-loop a v u t₀ t = places + 1 - t
@@ -16,7 +16,7 @@ loop-holds c = (search needs, (search needs, refl))
 
 returns : tie.Need-returns Inv-loop μ-loop
 returns c = let L = c .before .before .before .before .loop in
-    ap some (c .next-write .ensures) ∙ sym (scan-here _ _ _ (places + 1) (L .t) (search needs) (cc)) ∙ L .inv .1 .1
+    ap (λ (j : ℕ). some (name (L .t) j)) (c .first-unapplied .ensures) ∙ sym (scan-here _ _ _ (places + 1) (L .t) (search needs) (cc)) ∙ L .inv .1 .1
 
 loop-again : tie.Need-loop-again Inv-loop μ-loop
 loop-again c = let L = c .before .before .before .loop in

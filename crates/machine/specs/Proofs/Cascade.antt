@@ -1,6 +1,6 @@
 -- The cascade keeps the rules, ends with nothing ready held, and applies no more than the desk had left to apply.
 use Rattle.laws.specs.Kit.{_≡_, refl, sym, true, Option, none, some, _∷_, [], ℕ, zero, suc, _-_, _≤_, arith, length}
-use Rattle.laws.specs.{Loop.{cases, scan-found, scan-none}, Says.{apart, says-both, says-eqb}, Sum.{sum, sum-le, sum-one, tally-above}}
+use Rattle.laws.specs.{Loop.{cases, scan-first, scan-none}, Says.{apart, says-both, says-eqb}, Sum.{sum, sum-le, sum-one, tally-above}}
 use Rattle.laws.specs.Update.{same-or}
 use Rattle.machine.specs.{Table.{name, held, Open, State, written}, Steps.{ready, apply, isOpen, openCount, dueOpen, due, firstDue}}
 use Rattle.machine.specs.{Steps.{Settled, settleBy, settle}, Rules.{In, Quiet, Frame, Rules}, Proofs.Ready.{option-all}}
@@ -42,8 +42,8 @@ due-found {s} {i} {u} hi (some w) e d =
 pub first-due : {s : State} {i u : ℕ} → In (s .setup .desks) i → firstDue s i ≡ some u → In (s .setup .desks) u × Found s i u
 unfolding firstDue
 first-due {s} {i} {u} hi e =
-    let r = scan-found (due s i) (s .setup .desks) 1 u e in
-    (omega arith, due-found hi (s .opens u (suc (s .applied i u))) refl (r .2))
+    let r = scan-first (due s i) (λ t. t) (s .setup .desks) 1 u e in
+    (omega (arith, r .low, r .high, r .is), due-found hi (s .opens u (suc (s .applied i u))) refl (rw (r .is) at (r .passes)))
 
 pub none-due : {s : State} {i : ℕ} → Frame s → In (s .setup .desks) i → firstDue s i ≡ none → Quiet s i
 unfolding firstDue
@@ -51,7 +51,7 @@ none-due {s} {i} f hi e u k w is m =
     cases (ready (s .setup .desks) (s .applied i) u (w .vector))
     (λ y. let n = ready-next f (record { desk = hi; is = is; ready = y }) in
     let d : due s i u ≡ true = rw (n .next, is, m, y) in
-    apart (due s i u) d (scan-none (due s i) (s .setup .desks) 1 e u (n .writer .0) (omega (arith, n .writer .1))))
+    apart (due s i u) d (scan-none (due s i) (λ t. t) (s .setup .desks) 1 e u (n .writer .0) (omega (arith, n .writer .1))))
     (λ y. y)
 
 -- the end of the cascade: all the rules hold again

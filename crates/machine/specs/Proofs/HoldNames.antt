@@ -1,13 +1,13 @@
 -- What a held answer names, of every schedule with saves and reloads anywhere.
-use Rattle.laws.specs.Kit.{_≡_, refl, sym, ap, subst, _∙_, _≢_, inr, false, List, [], _∷_, _++_, some, ℕ, suc, _≤_, _<_, arith}
+use Rattle.laws.specs.Kit.{_≡_, refl, sym, ap, subst, _∙_, _≢_, inl, inr, false, Option, List, [], _∷_, _++_, some, ℕ, suc, _≤_, _<_, arith}
 use Rattle.laws.specs.{Says.{clash}, Update.{same-or, upd2-other, upd2-all}}
-use Rattle.machine.specs.{Table.{most-desks, most-cells, Name, name, held, Open, State, fresh}, Answer.{holds}}
+use Rattle.machine.specs.{Table.{most-desks, most-cells, Name, name, held, Open, State, fresh, markIn, markOf}, Answer.{holds}}
 use Rattle.machine.specs.{Steps.{fails, failing, isNone, mark, hold, Deliver, Step, step}, Refusals.{Accepted}, Rules.{In, Rules}}
 use Rattle.machine.specs.{History.{Event, deskList, chained, Act, take-step, save-and-load, run, history}, Demand3.{WriteAt, Has}}
-use Rattle.machine.specs.{Demand3.{Missing}, HoldNames.{FirstMissing, HoldNames}, Proofs.Ready.{passes-own, passes-rest, ready-at}}
-use Rattle.machine.specs.{Proofs.Ready.{failing-at}, Proofs.RulesKept.{fresh-rules, step-keeps-rules}, Proofs.Cases.{Delivery}}
-use Rattle.machine.specs.{Proofs.Refusals.{accepted-effect}, Proofs.Cases.{deliver-cases, step-keeps}, Proofs.Order.{forward}}
-use Rattle.machine.specs.{Proofs.TableTraced.{origin-write}, Proofs.NamesObserved.{write-in}}
+use Rattle.machine.specs.{Demand3.{Missing}, HoldNames.{FirstMissing, Sendable, HoldNames}, Proofs.Order.{forward}}
+use Rattle.machine.specs.{Proofs.Ready.{passes-own, passes-rest, ready-at, failing-at}, Proofs.NamesObserved.{write-in}}
+use Rattle.machine.specs.{Proofs.RulesKept.{fresh-rules, step-keeps-rules, one-place, done-counted}, Proofs.TableTraced.{origin-write}}
+use Rattle.machine.specs.{Proofs.Refusals.{accepted-effect, accepted-exactly}, Proofs.Cases.{Delivery, deliver-cases, step-keeps}}
 use Rattle.machine.specs.{Proofs.StepsTraced.{Observed, observed-fresh}, Proofs.RunsTraced.{rules-kept, observed-run}}
 use Rattle.machine.specs.{Proofs.PaperRuns.{run-append}, Proofs.Demand3.{tells-at, fails-missing}}
 
@@ -94,9 +94,32 @@ module _ {s : State} {h : List Event} (r : Rules s) (b : Observed s h) where
       itself : z′ ≡ z → ⊥
       itself e = not-itself (f′ .missing) w (ap (λ (x : Name). x .writer) e) (ap (λ (x : Name). x .number) e)
 
+  sendable : {i u k : ℕ} {x : Open} {z : Name} → Delivery s i u k x → failing (s .setup .desks) (s .applied i) u (x .vector) ≡ some z → Sendable (hold s i u k x) i z
+  sendable {i} {u} {k} {x} {z} d f =
+      let g = b .traced .opens u k x (d .is) in
+      let m = named-first d f (g .place) (origin-write g) .missing in
+      let n = write-in r (b .traced) (m .write) in
+      let lacks : ¬ (z .number ≤ s .applied i (z .writer)) = (λ l. m .unapplied (b .traced .counts i (z .writer) (z .number) .1 (n .1 .0, l))) in
+      let other : i ≢ z .writer = (λ e. lacks (rw e (n .1 .1))) in
+      let same : markOf (hold s i u k x) i (z .writer) (z .number) ≡ markOf s i (z .writer) (z .number) =
+      ap (λ (o : Option Open). markIn o i) (upd2-other (s .opens) u k (some (mark x i held)) (z .writer) (z .number) (not-itself m (origin-write g))) in
+      elim (one-place r i (z .writer) (z .number) (d .desk) (n .0) (n .1)) [
+        | inl e ↦ inr (accepted-exactly (hold s i u k x) (Deliver i (z .writer) (z .number)) .1 ((d .desk, n .0), (other, (n .1, (same ∙ e, tt)))))
+        | inr o ↦ elim o [
+          | inl e ↦ inl (same ∙ e)
+          | inr e ↦ absurd (lacks (done-counted (r .frame) i (z .writer) (z .number) (d .desk) (n .0) (n .1) .0 e))
+        ]
+      ]
+
   pub hold-names-of : HoldNames s h
-  hold-names-of = record { named = named; exactly = exactly; upwards = upwards }
+  hold-names-of = record { named = named; exactly = exactly; sent-next = sent-next; upwards = upwards }
     where
+      sent-next : (i u k : ℕ) (z : Name) → step s (Deliver i u k) .answer ≡ holds z → Sendable (step s (Deliver i u k) .state) i z
+      sent-next i u k z =
+          deliver-cases s i u k (λ o. o .answer ≡ holds z → Sendable (o .state) i z) (λ r e. clash (cc))
+          (λ x d z′ f e. let same : z′ ≡ z = cc in sendable d (rw same at f))
+          (λ x d f e. clash (cc))
+
       named : (i u k : ℕ) (z : Name) → step s (Deliver i u k) .answer ≡ holds z → (q : ℕ) × WriteAt h q u k × FirstMissing h i q z
       named i u k z =
           deliver-cases s i u k (λ o. o .answer ≡ holds z → (q : ℕ) × WriteAt h q u k × FirstMissing h i q z) (λ r e. clash (cc))

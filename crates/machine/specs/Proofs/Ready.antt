@@ -1,7 +1,7 @@
 -- Readiness, and "applied at all n desks", said of the numbers.
 use Rattle.laws.specs.Kit.{_≡_, refl, sym, _∙_, ap, fun-ext, _≢_, Bool, true, false, not, Option, none, some, ℕ, suc, _≤_, _<_, arith}
 use Rattle.laws.specs.Kit.{ltb-true, ltb-false, eqb-true, eqb-false, eq-eqb, ne-eqb, le-ltb, not-true, not-false, eqb}
-use Rattle.laws.specs.{Loop.{cases, scan-first, scan-miss, scan-map, scan-same}, All.{all, all-at}, Says.{apart, all-not}}
+use Rattle.laws.specs.{Loop.{cases, scan-first, scan-none, scan-map, scan-same}, All.{all, all-at}, Says.{apart, all-not}}
 use Rattle.laws.specs.Update.{upd, upd-same, upd-other, same-or}
 use Rattle.machine.specs.{Table.{Vec, Name, done, Open, State}, Steps.{fails, failing, isNone, ready, everywhere}}
 use Rattle.machine.specs.{Steps.{stillOpen}, Rules.{In, OpenWrite}}
@@ -43,7 +43,7 @@ module _ (a : Vec) (u : ℕ) (w : Vec) where
 
 -- all places --
 
--- z is the next write of the smallest desk whose place fails
+-- z is the first write not applied of the smallest desk whose place fails
 pub record NamesFailing (n : ℕ) (a : Vec) (u : ℕ) (w : Vec) (z : Name) : Type 0 where
   pub desk : In n (z .writer)
   pub number : z .number ≡ suc (a (z .writer))
@@ -53,9 +53,8 @@ pub record NamesFailing (n : ℕ) (a : Vec) (u : ℕ) (w : Vec) (z : Name) : Typ
 module _ (n : ℕ) (a : Vec) (u : ℕ) (w : Vec) where
   pub ready-at : ready n a u w ≡ true → (t : ℕ) → In n t → fails a u w t ≡ false
   unfolding failing
-  ready-at e t h = scan-miss (fails a u w) _ none (λ k q. not-both refl (sym q)) n 1 (is-none _ e) t (h .0) (omega arith)
+  ready-at e t h = scan-none (fails a u w) _ n 1 (is-none _ e) t (h .0) (omega arith)
 
-  -- what is named: the next write of the smallest desk whose place fails
   pub failing-at : (z : Name) → failing n a u w ≡ some z → NamesFailing n a u w z
   unfolding failing
   failing-at z e =
