@@ -7,7 +7,7 @@ ghost use Rattle.clock.specs.Vectors.{places, place, joinClock, raiseClo
 ghost use Rattle.clock.specs.Readiness.{failsAt, waitOf, readyAt, coversAll};
 
 // The places of a vector: one for each desk.
-pub const PLACES: usize = 8;
+pub const PLACES: usize = 16;
 // The largest number of a write.
 pub const MOST_WRITES: u16 = 65535;
 

@@ -4,7 +4,7 @@ use Rattle.laws.specs.{Kit.{length, getD, getD-append-add}, Loop.{cases}, All.{
 use Rattle.laws.specs.{Says.{says-both}, Cat.{part}}
 use Rattle.machine.specs.Table.{State}
 use Rattle.image.specs.{Check.{checkOf, check-first}, Encode.{long, body, block, encodeAt}, Link.FieldPlaces.{length-encode}}
-use Rattle.image.specs.{Link.FieldPlaces.{length-body, block-at, every-block}, Limits.{Wide, block-bytes, check-at, payload-bytes}}
+use Rattle.image.specs.{Link.FieldPlaces.{length-body, block-at, every-block}, Limits.{Wide, editionOf, block-bytes, check-at, payload-bytes}}
 
 -- bytes 508-511 of a block
 unfoldable pub checkIn : List ℕ → ℕ
@@ -43,11 +43,11 @@ says-sound b =
     (λ h. record { nonzero = h .0; multiple = h .1 .0; checks = h .1 .1 })
     (λ h. (h .nonzero, (h .multiple, h .checks)))
 
-right-block : (kind place : ℕ) (l : List ℕ) → length l ≤ payload-bytes → Right (block kind place l)
+right-block : (edition kind place : ℕ) (l : List ℕ) → length l ≤ payload-bytes → Right (block edition kind place l)
 unfolding checkIn block
-right-block kind place l h =
-    let b = body kind place l in
-    let e = length-body kind place l h in
+right-block edition kind place l h =
+    let b = body edition kind place l in
+    let e = length-body edition kind place l h in
     let c = checkOf b in
     let tail = getD-append-add b (long c) in
     rw (check-first b (long c) e, rw e at (tail 0 0), rw e at (tail 1 0), rw e at (tail 2 0), rw e at (tail 3 0)) (omega arith)
@@ -59,7 +59,7 @@ sound-encode ps wd s =
     record {
       nonzero = omega arith;
       multiple = rw e (omega arith);
-      checks = λ k h. rw (block-at ps wd s k (omega arith)) (every-block ps wd s Right right-block k);
+      checks = λ k h. rw (block-at ps wd s k (omega arith)) (every-block ps wd s Right (right-block (editionOf ps)) k);
     }
 
 -- the test as the code makes it: no byte; no multiple; a block after the other

@@ -10,8 +10,8 @@ use Rattle.image.specs.Encode.{cellBytes, openBytes, block, openNamed, c
 use Rattle.image.specs.Fields.{vecOf, cellRead, openRead, writerIn, numberIn, vec-words, cell-set, cell-blank, open-back, writer-back}
 use Rattle.image.specs.{Fields.{number-back, length-words, vector-part, rest-part}, Link.FieldPlaces.{part-2, part-3, part-4}}
 use Rattle.image.specs.Limits.{Wide, wide, some-cells, some-opens, block-of, block-bytes, payload-at, vector-at, vector-bytes}
-use Rattle.image.specs.Limits.{after-vector, desk-bytes, cell-bytes, open-bytes, cells-in, opens-in}
-use Rattle.clock.specs.Vectors.{places}
+use Rattle.image.specs.Limits.{after-vector, desk-bytes, cell-bytes, open-bytes, cells-in, opens-in, placesFor, places-most}
+use Rattle.image.specs.Limits.{desks-placed}
 
 -- n, m and the open count of the block of kind 1
 abbrev pub nIn : List ℕ → ℕ
@@ -211,12 +211,15 @@ module _ (ps : ℕ) where
     unfolding decodeAt
     read-back = rw (n-back s, m-back s, applied-back, clock-back, cell-back, opens-back)
 
+-- the places of its vectors follow from n, wherever that was read; the edition is not looked at
 abbrev pub decode : List ℕ → State
-decode = decodeAt places
+decode b = decodeAt (placesFor (nIn b)) b
 
 -- decode undoes encode
 pub decode-encode : (s : State) → Rules s → decode (encode s) ≡ s
-decode-encode s ok = read-back places wide s ok (ok .frame .ranges .desks .1)
+decode-encode s ok =
+    let n = s .setup .desks in
+    rw (n-back (placesFor n) s) (read-back (placesFor n) (wide (placesFor n) (places-most n)) s ok (desks-placed n (ok .frame .ranges .desks .1)))
 
 -- two tables that keep the rules and have one image are the same
 pub one-table : (s t : State) → Rules s → Rules t → encode s ≡ encode t → s ≡ t

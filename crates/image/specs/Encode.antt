@@ -1,10 +1,9 @@
--- Document 01, "Saved image": the bytes of a table. Desks and cells count from 1, so where i counts from 0 the desk is suc i.
+-- Document 01, "Saved image", and document 02, T-06: the bytes of a table. Desks and cells count from 1, so where i counts from 0 the desk is suc i.
 use Rattle.laws.specs.Kit.{ℕ, suc, _+_, _-_, _*_, _/_, _%_, List, [], _∷_, _++_, map, Option, none, some, length, getD, replicate}
 use Rattle.laws.specs.{Tab.{tab}, Cat.{cat}}
 use Rattle.machine.specs.{Table.{Vec, Name, Cell, blank, set, Open, State}, Steps.{openCount}}
 use Rattle.image.specs.{OpenNames.{names}, Check.{checkOf}, Limits.{payload-bytes, cell-bytes, open-bytes, cells-in, opens-in}}
-use Rattle.image.specs.Limits.{blocks-for}
-use Rattle.clock.specs.Vectors.{places}
+use Rattle.image.specs.Limits.{blocks-for, placesFor, editionOf}
 
 -- "numbers little-endian": of 16 bits, of 32 bits
 abbrev pub word : ℕ → List ℕ
@@ -13,24 +12,27 @@ word x = x % 256 ∷ x / 256 ∷ []
 abbrev pub long : ℕ → List ℕ
 long x = x % 256 ∷ x / 256 % 256 ∷ x / 65536 % 256 ∷ x / 16777216 ∷ []
 
--- "Blocks of 512 bytes; bytes not named are zero. Byte 0 kind, 1 edition (1), 2-3 the block's place from 0, 4-507 payload,
--- 508-511 check."
-abbrev pub body : ℕ → ℕ → List ℕ → List ℕ
-body kind place payload = kind ∷ 1 ∷ (word place ++ (payload ++ replicate (payload-bytes - length payload) 0))
+-- "Blocks of 512 bytes; bytes not named are zero. Byte 0 kind, 1 edition, 2-3 the block's place from 0, 4-507 payload, 508-511 check."
+abbrev pub body : ℕ → ℕ → ℕ → List ℕ → List ℕ
+body edition kind place payload = kind ∷ edition ∷ (word place ++ (payload ++ replicate (payload-bytes - length payload) 0))
 
 abbrev pub sealed : List ℕ → List ℕ
 sealed b = b ++ long (checkOf b)
 
-unfoldable pub block : ℕ → ℕ → List ℕ → List ℕ
-block kind place payload = sealed (body kind place payload)
+unfoldable pub block : ℕ → ℕ → ℕ → List ℕ → List ℕ
+block edition kind place payload = sealed (body edition kind place payload)
 
--- "Kind 1, one: payload n, m, open count, a byte each."
-abbrev pub block1 : State → List ℕ
-block1 s = block 1 0 (s .setup .desks ∷ s .setup .cells ∷ openCount s ∷ [])
-
--- A vector has p places: in edition 1, which the document speaks of here, 8; and a cell takes 20 bytes, an open write 28, as many to a block
--- as fit (edition-1).
+-- A vector has p places: in edition 1, of which document 01 speaks here, 8, and in edition 2 16. A cell takes 20 or 36 bytes, an open write 28 or
+-- 52, as many to a block as fit (edition-1, edition-2).
 module _ (p : ℕ) where
+  -- "all blocks of one image alike" (READINGS 32)
+  abbrev pub blockOf : ℕ → ℕ → List ℕ → List ℕ
+  blockOf kind place payload = block (editionOf p) kind place payload
+
+  -- "Kind 1, one: payload n, m, open count, a byte each."
+  abbrev pub block1 : State → List ℕ
+  block1 s = blockOf 1 0 (s .setup .desks ∷ s .setup .cells ∷ openCount s ∷ [])
+
   -- "8 vector places of 16 bits"
   unfoldable pub vectorWords : Vec → List ℕ
   vectorWords v = cat (λ t. word (v (suc t))) p
@@ -44,7 +46,7 @@ module _ (p : ℕ) where
   deskBytes i applied clock = i ∷ 0 ∷ 0 ∷ 0 ∷ (vectorWords applied ++ vectorWords clock)
 
   abbrev pub block2 : State → ℕ → List ℕ
-  block2 s i = block 2 (1 + i) (deskBytes (suc i) (s .applied (suc i)) (s .clock (suc i)))
+  block2 s i = blockOf 2 (1 + i) (deskBytes (suc i) (s .applied (suc i)) (s .clock (suc i)))
 
   -- "20 bytes each: writer (0 unset, then all zero), status, 2 zeros, 8 vector places"
   unfoldable pub cellBytes : Cell → List ℕ
@@ -59,7 +61,7 @@ module _ (p : ℕ) where
   perDesk m = blocks-for (cells-in p) m
 
   abbrev pub block3 : State → ℕ → ℕ → List ℕ
-  block3 s i q = block 3 (1 + s .setup .desks + perDesk (s .setup .cells) * i + q) (cat (cellPart s i q) (cells-in p))
+  block3 s i q = blockOf 3 (1 + s .setup .desks + perDesk (s .setup .cells) * i + q) (cat (cellPart s i q) (cells-in p))
 
   -- "28 bytes each: writer, status, cell, zero, 8 vector places, then for each of 8 desks .."
   unfoldable pub openBytes : ℕ → Option Open → List ℕ
@@ -78,7 +80,7 @@ module _ (p : ℕ) where
   openBlocks s = blocks-for (opens-in p) (openCount s)
 
   abbrev pub block4 : State → ℕ → List ℕ
-  block4 s q = block 4 (1 + s .setup .desks + perDesk (s .setup .cells) * s .setup .desks + q) (cat (openPart s q) (opens-in p))
+  block4 s q = blockOf 4 (1 + s .setup .desks + perDesk (s .setup .cells) * s .setup .desks + q) (cat (openPart s q) (opens-in p))
 
   -- "Blocks stand by kind, 1 to 4, and nothing follows them."
   abbrev pub kind2 : State → List ℕ
@@ -96,6 +98,6 @@ module _ (p : ℕ) where
   abbrev pub blocks : State → ℕ
   blocks s = 1 + s .setup .desks + perDesk (s .setup .cells) * s .setup .desks + openBlocks s
 
--- document 01's image, of edition 1
+-- "Tables with n up to 8 save in edition 1, byte for byte as today. Larger ones save in edition 2": the edition and its places follow from n
 abbrev pub encode : State → List ℕ
-encode = encodeAt places
+encode s = encodeAt (placesFor (s .setup .desks)) s

@@ -5,15 +5,15 @@ use Rattle.machine.specs.{Table.{zeros, sized, State, fresh}, Answer.{damaged},
 use Rattle.machine.specs.RulesTest.{keeps}
 use Rattle.image.specs.{OpenNames.{names, namesOfDesk}, Check.{checkOf}, Encode.{vectorWords, markBytes, deskBytes, cellBytes}}
 use Rattle.image.specs.{Encode.{openBytes, block, cellPart, openPart, encodeAt, encode}, Damage.{checkIn, sound}}
-use Rattle.image.specs.{Load.{refused, load}, Limits.{block-bytes, check-at}}
+use Rattle.image.specs.{Load.{refused, load}, Limits.{placesFor, editionOf, block-bytes, check-at}}
 
 -- "A fresh table of n = 1, m = 1 is 3 blocks, and its first check is 15."
 pub fresh-blocks : length (encode (fresh 1 1)) ≡ 3 * block-bytes
-unfolding encodeAt block cat vectorWords deskBytes cellBytes cellPart openCount sum checkOf
+unfolding placesFor editionOf encodeAt block cat vectorWords deskBytes cellBytes cellPart openCount sum checkOf
 fresh-blocks = refl
 
 pub first-check : part check-at 4 (encode (fresh 1 1)) ≡ 15 ∷ 0 ∷ 0 ∷ 0 ∷ []
-unfolding encodeAt block cat vectorWords deskBytes cellBytes cellPart openCount sum checkOf part
+unfolding placesFor editionOf encodeAt block cat vectorWords deskBytes cellBytes cellPart openCount sum checkOf part
 first-check = refl
 
 -- "An all-zero block is damaged."
@@ -26,7 +26,7 @@ abbrev pub one-write-table : State
 one-write-table = write (fresh 2 1) 1 1 2
 
 pub open-entry : part (5 * block-bytes) 40 (encode one-write-table) ≡ 4 ∷ 1 ∷ 5 ∷ 0 ∷ 1 ∷ 2 ∷ 1 ∷ 0 ∷ 1 ∷ 0 ∷ 0 ∷ 0 ∷ 0 ∷ 0 ∷ 0 ∷ 0 ∷ 0 ∷ 0 ∷ 0 ∷ 0 ∷ 0 ∷ 0 ∷ 0 ∷ 0 ∷ 2 ∷ 0 ∷ 0 ∷ 0 ∷ 0 ∷ 0 ∷ 0 ∷ 0 ∷ 0 ∷ 0 ∷ 0 ∷ 0 ∷ 0 ∷ 0 ∷ 0 ∷ 0 ∷ []
-unfolding encodeAt block cat vectorWords markBytes deskBytes cellBytes cellPart openBytes openPart names namesOfDesk openCount sum checkOf part upd upd2 everywhere all scan turns tab tabFrom
+unfolding placesFor editionOf encodeAt block cat vectorWords markBytes deskBytes cellBytes cellPart openBytes openPart names namesOfDesk openCount sum checkOf part upd upd2 everywhere all scan turns tab tabFrom
 open-entry = refl
 
 -- the rules hold of it; of the same with the clocks or the open write lost they do not

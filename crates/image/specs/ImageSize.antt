@@ -8,7 +8,7 @@ use Rattle.image.specs.{OpenNames.{names, OpenName, names-open}, Check.{
 use Rattle.image.specs.Encode.{markBytes, deskBytes, cellBytes, openBytes, long, body, block, openNamed, blocks, cellPart, openPart}
 use Rattle.image.specs.{Encode.{perDesk, openBlocks, encodeAt}, Link.FieldPlaces.{pick-has, blockAt, encode-is}, Limits.{Wide}}
 use Rattle.image.specs.Limits.{some-cells, some-opens, blocks-mono, payload-bytes, cell-bytes, open-bytes, cells-in, opens-in}
-use Rattle.image.specs.Limits.{rows-most, opens-most, blocks-most}
+use Rattle.image.specs.Limits.{rows-most, opens-most, blocks-most, editionOf, edition-small}
 
 head : (a b c d : ℕ) (l : List ℕ) → a < 256 → b < 256 → c < 256 → d < 256 → Bytes l → Bytes (a ∷ b ∷ c ∷ d ∷ l)
 head a b c d l ha hb hc hd h = and ha (and hb (and hc (and hd h)))
@@ -17,14 +17,14 @@ bytes-words : (ps : ℕ) (v : Vec) → ((t : ℕ) → v t ≤ most-writes) → B
 unfolding vectorWords
 bytes-words ps v h = each-cat Byte (λ t. word (v (suc t))) ps (λ t _. and (omega arith) (and (omega (arith, h (suc t))) no))
 
-bytes-block : (kind place : ℕ) (l : List ℕ) → kind < 256 → place ≤ most-writes → Bytes l → Bytes (block kind place l)
+bytes-block : (edition kind place : ℕ) (l : List ℕ) → edition < 256 → kind < 256 → place ≤ most-writes → Bytes l → Bytes (block edition kind place l)
 unfolding block
-bytes-block kind place l h g k =
+bytes-block edition kind place l he h g k =
     let z : List ℕ = replicate (payload-bytes - length l) 0 in
-    let b : Bytes (body kind place l) =
-    head kind 1 (place % 256) (place / 256) (l ++ z) h (omega arith) (omega arith) (omega arith) (each-append Byte l z k (each-replicate Byte (payload-bytes - length l) 0 (omega arith))) in
-    let c = check-most (body kind place l) b in
-    each-append Byte (body kind place l) (long (checkOf (body kind place l))) b
+    let b : Bytes (body edition kind place l) =
+    head kind edition (place % 256) (place / 256) (l ++ z) h he (omega arith) (omega arith) (each-append Byte l z k (each-replicate Byte (payload-bytes - length l) 0 (omega arith))) in
+    let c = check-most (body edition kind place l) b in
+    each-append Byte (body edition kind place l) (long (checkOf (body edition kind place l))) b
     (and (omega arith) (and (omega arith) (and (omega arith) (and (omega arith) no))))
 
 module _ (ps : ℕ) (wd : Wide ps) (s : State) (ok : Rules s) (n-most : s .setup .desks ≤ ps) where
@@ -40,7 +40,7 @@ module _ (ps : ℕ) (wd : Wide ps) (s : State) (ok : Rules s) (n-most : s .setup
   few-opens : openBlocks ps s ≤ opens-most ps
   few-opens = blocks-mono (opens-in ps) (openCount s) most-open (some-opens ps wd) (ok .frame .ranges .few)
 
-  -- "The largest image is 37 blocks."
+  -- "The largest image is 37 blocks", in edition 2 105
   pub most-blocks : blocks ps s ≤ blocks-most ps
   most-blocks = add-le-add (add-le-add (add-le-add (le-refl 1) n-most) few-cells) few-opens
 
@@ -85,12 +85,12 @@ module _ (ps : ℕ) (wd : Wide ps) (s : State) (ok : Rules s) (n-most : s .setup
   unfolding blockAt cellPart
   bytes-at k h =
       let few : k ≤ most-writes = omega (arith, most-blocks, wd .few) in
-      pick-has Bytes (eqb k 0) (bytes-block 1 k _ (omega arith) few bytes-sizes)
+      pick-has Bytes (eqb k 0) (bytes-block (editionOf ps) 1 k _ (edition-small ps) (omega arith) few bytes-sizes)
       (cases (leb k (s .setup .desks))
-      (λ e. rw e (bytes-block 2 k _ (omega arith) few (bytes-desk k (leb-true k (s .setup .desks) e))))
+      (λ e. rw e (bytes-block (editionOf ps) 2 k _ (edition-small ps) (omega arith) few (bytes-desk k (leb-true k (s .setup .desks) e))))
       (λ e. rw e (pick-has Bytes (ltb k _)
-      (bytes-block 3 k _ (omega arith) few (each-cat Byte _ (cells-in ps) (λ j _. bytes-cell _ _ _ refl)))
-      (bytes-block 4 k _ (omega arith) few (each-cat Byte _ (opens-in ps) (λ j _. bytes-opens _ j))))))
+      (bytes-block (editionOf ps) 3 k _ (edition-small ps) (omega arith) few (each-cat Byte _ (cells-in ps) (λ j _. bytes-cell _ _ _ refl)))
+      (bytes-block (editionOf ps) 4 k _ (edition-small ps) (omega arith) few (each-cat Byte _ (opens-in ps) (λ j _. bytes-opens _ j))))))
 
   -- every byte is below 256
   pub bytes-encode : Bytes (encodeAt ps s)

@@ -1,9 +1,23 @@
--- Document 01, "Saved image": the numbers of the layout, each named once. A vector has p places: 8 in edition 1, and from that the document's
--- 20, 25, 28, 18 and 37 follow (edition-1).
-use Rattle.laws.specs.Kit.{ℕ, _+_, _-_, _*_, _/_, _<_, _≤_, _≡_, refl, arith, mul-div-le, div-mul-le-self, le-div-iff-mul-le}
-use Rattle.laws.specs.Kit.{div-lt-iff-lt-mul, lt-div-mul-add}
-use Rattle.machine.specs.Table.{most-writes, most-cells, most-open}
-use Rattle.clock.specs.Vectors.{places}
+-- Document 01, "Saved image", and document 02, T-06: the numbers of the layout, each named once. A vector has p places, 8 in edition 1 and 16 in
+-- edition 2, and from that the documents' other numbers follow (edition-1, edition-2).
+use Rattle.laws.specs.Kit.{ℕ, _+_, _-_, _*_, _/_, _<_, _≤_, _≡_, refl, arith, mul-div-le, div-mul-le-self, le-div-iff-mul-le, leb, leb-true}
+use Rattle.laws.specs.{Kit.{div-lt-iff-lt-mul, lt-div-mul-add, mul-le-mul, mul-le-mul-left}, Loop.{pick, cases}}
+use Rattle.machine.specs.Table.{most-desks, most-writes, most-cells, most-open}
+
+-- "Tables with n up to 8 save in edition 1 .. Larger ones save in edition 2", with vectors of 8 and of 16 places
+abbrev pub narrow : ℕ
+narrow = 8
+
+abbrev pub broad : ℕ
+broad = 16
+
+-- the places of a vector, for a table of n desks
+unfoldable pub placesFor : ℕ → ℕ
+placesFor n = pick (leb n narrow) narrow broad
+
+-- the edition, where a vector has p places
+unfoldable pub editionOf : ℕ → ℕ
+editionOf p = pick (leb p narrow) 1 2
 
 -- "Blocks of 512 bytes .. 4-507 payload, 508-511 check."
 abbrev pub block-bytes : ℕ
@@ -65,25 +79,46 @@ blocks-most p = 1 + p + rows-most p + opens-most p
 abbrev pub image-bytes : ℕ → ℕ
 image-bytes p = block-bytes * blocks-most p
 
--- the document's numbers
-pub record Edition (p cell cells open-write opens blocks : ℕ) : Type 0 where
+-- the documents' numbers
+pub record Edition (edition p cell cells open-write opens blocks : ℕ) : Type 0 where
+  pub numbered : editionOf p ≡ edition
   pub cell-takes : cell-bytes p ≡ cell
   pub cells-fit : cells-in p ≡ cells
   pub open-takes : open-bytes p ≡ open-write
   pub opens-fit : opens-in p ≡ opens
   pub largest : blocks-most p ≡ blocks
 
--- "25 cells to a block: 20 bytes each", "18 open writes to a block .. 28 bytes each", "The largest image is 37 blocks."
-pub edition-1 : Edition places 20 25 28 18 37
-edition-1 = record { cell-takes = refl; cells-fit = refl; open-takes = refl; opens-fit = refl; largest = refl }
+-- document 01: "25 cells to a block: 20 bytes each", "18 open writes to a block .. 28 bytes each", "The largest image is 37 blocks."
+pub edition-1 : Edition 1 narrow 20 25 28 18 37
+unfolding editionOf
+edition-1 = record { numbered = refl; cell-takes = refl; cells-fit = refl; open-takes = refl; opens-fit = refl; largest = refl }
 
--- what an edition needs: a desk fits in a block, and the place of every block in 16 bits
+-- document 02: "a cell takes 36 bytes (14 to a block), an open write 52 (9 to a block) .. The largest image is 105 blocks."
+pub edition-2 : Edition 2 broad 36 14 52 9 105
+unfolding editionOf
+edition-2 = record { numbered = refl; cell-takes = refl; cells-fit = refl; open-takes = refl; opens-fit = refl; largest = refl }
+
+-- every table's desks have their places, and the number of places and that of desks tell one edition
+pub desks-placed : (n : ℕ) → n ≤ most-desks → n ≤ placesFor n
+unfolding placesFor
+desks-placed n h = cases (leb n narrow) (λ e. rw e (leb-true n narrow e)) (λ e. rw e h)
+
+pub places-most : (n : ℕ) → placesFor n ≤ broad
+unfolding placesFor
+places-most n = cases (leb n narrow) (λ e. rw e (omega arith)) (λ e. rw e (omega arith))
+
+pub one-edition : (n : ℕ) → editionOf (placesFor n) ≡ editionOf n
+unfolding editionOf placesFor
+one-edition n = cases (leb n narrow) (λ e. rw e) (λ e. rw e)
+
+pub edition-small : (p : ℕ) → editionOf p < 256
+unfolding editionOf
+edition-small p = cases (leb p narrow) (λ e. rw e (omega arith)) (λ e. rw e (omega arith))
+
+-- what the layout needs of p: a desk fits in a block, and the place of every block in 16 bits
 pub record Wide (p : ℕ) : Type 0 where
   pub desk : desk-bytes p ≤ payload-bytes
   pub few : blocks-most p ≤ most-writes
-
-pub wide : Wide places
-wide = record { desk = omega arith; few = omega arith }
 
 -- as many as fit do fit, and one does
 pub fit : (w : ℕ) → w * (payload-bytes / w) ≤ payload-bytes
@@ -99,6 +134,15 @@ module _ (p : ℕ) (h : Wide p) where
   pub some-opens : 1 ≤ opens-in p
   some-opens = one-fits (open-bytes p) (omega arith) (omega (arith, h .desk))
 
+-- the j-th of those that fit ends within the payload
+pub piece-inside : (w j : ℕ) → j < payload-bytes / w → w * j + w ≤ payload-bytes
+piece-inside w j h = omega (arith, mul-le-mul-left w h, fit w)
+
+-- the first of a block is one of x
+pub first-inside : (c x q : ℕ) → 1 ≤ c → q < blocks-for c x → c * q < x
+first-inside c x q h g =
+    let z : (q + 1) * c ≤ x + (c - 1) = le-div-iff-mul-le {k = c} {x = q + 1} {y = x + (c - 1)} h .0 (omega arith) in omega arith
+
 -- one of x stands in one of their blocks; fewer take no more blocks
 pub block-of : (c x y : ℕ) → 1 ≤ c → y < x → y / c < blocks-for c x
 block-of c x y h g =
@@ -109,3 +153,17 @@ pub blocks-mono : (c x y : ℕ) → 1 ≤ c → x ≤ y → blocks-for c x ≤ b
 blocks-mono c x y h g =
     le-div-iff-mul-le {k = c} {x = blocks-for c x} {y = y + (c - 1)} h .1
     (let z : blocks-for c x * c ≤ x + (c - 1) = div-mul-le-self (x + (c - 1)) c in omega arith)
+
+-- one to a block at least: no more blocks than there are of them
+pub few-for : (c x : ℕ) → 1 ≤ c → blocks-for c x ≤ x
+few-for c x h =
+    let z : x + (c - 1) < (x + 1) * c = let y : x * 1 ≤ x * c = mul-le-mul-left x h in omega arith in
+    let w : blocks-for c x < x + 1 = div-lt-iff-lt-mul {k = c} {x = x + (c - 1)} {y = x + 1} h .1 z in
+    omega arith
+
+-- both editions have it, and so has any with fewer places
+pub wide : (p : ℕ) → p ≤ broad → Wide p
+wide p h =
+    let rows : rows-most p ≤ most-cells * broad = mul-le-mul (few-for (cells-in p) most-cells (one-fits (cell-bytes p) (omega arith) (omega arith))) h in
+    let opens = few-for (opens-in p) most-open (one-fits (open-bytes p) (omega arith) (omega arith)) in
+    record { desk = omega arith; few = omega (arith, rows, opens) }

@@ -4,8 +4,7 @@ use Rattle.laws.specs.Tests.{same, says-same}
 use Rattle.machine.specs.{Table.{State}, Answer.{Refusal, damaged, broken}, Rules.{Rules}, RulesTest.{keeps}}
 use Rattle.machine.specs.Proofs.RulesTestTells.{says-rules}
 use Rattle.image.specs.{Encode.{encode}, Decode.{decode, decode-encode}, Damage.{Undamaged, Damaged, sound, says-sound, sound-encode}}
-use Rattle.image.specs.{Link.ReadShape.{shaped}, Limits.{wide}}
-use Rattle.clock.specs.Vectors.{places}
+use Rattle.image.specs.{Decode.{nIn}, Link.ReadShape.{shaped}, Limits.{placesFor, places-most, wide}}
 
 pub data Loaded : Type 0 where
   refused : Refusal → Loaded
@@ -26,7 +25,9 @@ pub data Loads (b : List ℕ) : Loaded → Type 0 where
 
 -- an image is not damaged
 image-sound : (b : List ℕ) (s : State) → encode s ≡ b → Undamaged b
-image-sound b s e = rw e at (sound-encode places wide s)
+image-sound b s e =
+    let p = placesFor (s .setup .desks) in
+    rw e at (sound-encode p (wide p (places-most (s .setup .desks))) s)
 
 -- Any reader loads right that reads images right: what it reads has its rules tested, is saved again and compared.
 module _ (b : List ℕ) (c : State) (reads : (s : State) → Rules s → encode s ≡ b → c ≡ s) where
@@ -49,6 +50,10 @@ module _ (b : List ℕ) (c : State) (reads : (s : State) → Rules s → encode 
 pub read-back : (b : List ℕ) (s : State) → Rules s → encode s ≡ b → decode b ≡ s
 read-back b s r e = ap decode (sym e) ∙ decode-encode s r
 
+-- of what was read, the test tells of the rules
+says-read : (b : List ℕ) → Says (keeps (decode b)) (Rules (decode b))
+says-read b = says-rules (decode b) (shaped (placesFor (nIn b)) (places-most (nIn b)) b)
+
 -- it comes to what load gives, and so to one thing only
 pub loads-is : (b : List ℕ) (x : Loaded) → Loads b x → x ≡ load b
 unfolding load
@@ -57,12 +62,12 @@ loads-is b x (by-rule h f) =
     rw (says-sound b .from h)
     (cases (keeps (decode b))
     (λ k. rw k (cases (same (encode (decode b)) b)
-    (λ q. absurd (f (decode b) (says-rules (decode b) (shaped places (omega arith) b) .to k) (says-same (encode (decode b)) b .to q)))
+    (λ q. absurd (f (decode b) (says-read b .to k) (says-same (encode (decode b)) b .to q)))
     (λ q. rw q)))
     (λ k. rw k))
 loads-is b x (as-saved s r e) =
     let d = read-back b s r e in
-    let k : keeps (decode b) ≡ true = says-rules (decode b) (shaped places (omega arith) b) .from (rw d r) in
+    let k : keeps (decode b) ≡ true = says-read b .from (rw d r) in
     let q : same (encode (decode b)) b ≡ true = says-same (encode (decode b)) b .from (rw d e) in
     rw (says-sound b .from (image-sound b s e), k, q) (ap loaded (sym d))
 
@@ -72,7 +77,7 @@ one-load b x y p q = loads-is b x p ∙ sym (loads-is b y q)
 pub load-loads : (b : List ℕ) → Loads b (load b)
 unfolding load
 load-loads b =
-    load-by b (decode b) (read-back b) (keeps (decode b)) (same (encode (decode b)) b) (says-rules (decode b) (shaped places (omega arith) b)) (says-same (encode (decode b)) b)
+    load-by b (decode b) (read-back b) (keeps (decode b)) (same (encode (decode b)) b) (says-read b) (says-same (encode (decode b)) b)
 
 -- the three answers, each exactly in its condition --
 

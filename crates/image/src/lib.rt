@@ -7,9 +7,9 @@ ghost use lib.ListN.{getD, length, take};
 ghost use lib.Seq.{sets};
 ghost use Rattle.laws.specs.Cat.{cat};
 ghost use Rattle.clock.specs.Vectors.{places, place};
-ghost use Rattle.image.specs.Limits.{block-bytes, check-at, vector-bytes, after-vector, open-bytes, cells-in, opens-in, blocks-for, row-most, rows-most, opens-most};
+ghost use Rattle.image.specs.Limits.{placesFor, editionOf, block-bytes, check-at, payload-bytes, vector-bytes, after-vector, cell-bytes, open-bytes, cells-in, opens-in, blocks-for, row-most, opens-most};
 ghost use Rattle.image.specs.Check.{checkOf};
-ghost use Rattle.image.specs.Encode.{word, long, vectorWords, markBytes, deskBytes, block, perDesk, encode};
+ghost use Rattle.image.specs.Encode.{word, long, vectorWords, markBytes, deskBytes, blockOf, perDesk, encodeAt, encode};
 ghost use Rattle.image.specs.Damage.{rightCheck, sound};
 ghost use Rattle.image.specs.Mirror.Block.{head, openRaw, SmallOpen};
 ghost use Rattle.image.specs.Mirror.TableBytes.{CellsFit, cellPiece, OrderFits, openPiece};
@@ -45,9 +45,7 @@ pub const DESKS_AT: usize = PAYLOAD_AT;
 pub const CELLS_AT: usize = PAYLOAD_AT + 1;
 
 pub const COUNT_AT: usize = PAYLOAD_AT + 2;
-// The edition, and the kinds of a block.
-const EDITION: u8 = 1;
-
+// The kinds of a block.
 const SIZE_KIND: u8 = 1;
 
 const DESK_KIND: u8 = 2;
@@ -59,25 +57,85 @@ const OPEN_KIND: u8 = 4;
 pub const CHECK: usize = 508;
 // Where the vector of a desk, a cell and an open write stands: behind 4 bytes.
 pub const VECTOR_AT: usize = 4;
-// Bytes to a vector.
-pub const VECTOR_BYTES: usize = 2 * PLACES;
-// Where a desk's clock and an open write's marks stand.
-pub const AFTER_VECTOR: usize = VECTOR_AT + VECTOR_BYTES;
-// The same of a desk's vectors in its block.
+// The same of a desk's counts in its block.
 pub const APPLIED_AT: usize = PAYLOAD_AT + VECTOR_AT;
-// The clock is the second.
-const CLOCK_AT: usize = PAYLOAD_AT + AFTER_VECTOR;
-// Bytes to a cell.
-pub const CELL_BYTES: usize = AFTER_VECTOR;
-// Bytes to an open write.
-pub const OPEN_BYTES: usize = AFTER_VECTOR + PLACES;
-// Cells to a block.
-pub const CELLS_IN: usize = (CHECK - PAYLOAD_AT) / CELL_BYTES;
-// Open writes to a block.
-pub const OPENS_IN: usize = (CHECK - PAYLOAD_AT) / OPEN_BYTES;
-// Bytes to the largest image: the sizes, the desks, their cells, the open writes.
+// The places of a vector in edition 1, and in edition 2.
+const NARROW: usize = 8;
+
+const BROAD: usize = 16;
+// The largest image: a cell and an open write of edition 2, how many stand in a block, and all of it in bytes.
+const BROAD_CELL: usize = VECTOR_AT + 2 * BROAD;
+
+const BROAD_CELLS: usize = (CHECK - PAYLOAD_AT) / BROAD_CELL;
+
+const BROAD_OPENS: usize = (CHECK - PAYLOAD_AT) / (BROAD_CELL + BROAD);
+
 pub const IMAGE: usize = BLOCK
-    * (1 + PLACES + (CELLS + CELLS_IN - 1) / CELLS_IN * PLACES + (OPENS + OPENS_IN - 1) / OPENS_IN);
+    * (1 + BROAD + (CELLS + BROAD_CELLS - 1) / BROAD_CELLS * BROAD + (OPENS + BROAD_OPENS - 1) / BROAD_OPENS);
+
+// The layout --
+
+// The places of a vector in the image of a table of n desks.
+pub fn places_for(n: usize) -> usize
+    ensures { λ r. ⌜ (r ≡ placesFor n) × (r ≤ places) ⌝ }
+{
+    if n <= NARROW { NARROW } else { BROAD }
+}
+
+// The edition where a vector has p places.
+fn edition_of(p: usize) -> u8
+    ensures { λ r. ⌜ r ≡ editionOf p ⌝ }
+{
+    if p <= NARROW { 1 } else { 2 }
+}
+
+// Bytes to a cell; and where a desk's clock and an open write's marks stand, behind a vector.
+pub fn cell_bytes(p: usize) -> usize
+    requires { ⌜ p ≤ places ⌝ }
+    ensures { λ r. ⌜ r ≡ cell-bytes p ⌝ }
+{
+    VECTOR_AT + 2 * p
+}
+
+// Bytes to an open write.
+pub fn open_bytes(p: usize) -> usize
+    requires { ⌜ p ≤ places ⌝ }
+    ensures { λ r. ⌜ r ≡ open-bytes p ⌝ }
+{
+    cell_bytes(p) + p
+}
+
+// How many of w bytes stand in a block.
+fn fit_in(w: usize) -> usize
+    requires { ⌜ (1 ≤ w) × (w ≤ payload-bytes) ⌝ }
+    ensures { λ r. ⌜ (r ≡ payload-bytes / w) × ((1 ≤ r) × (r ≤ payload-bytes)) ⌝ }
+{
+    (CHECK - PAYLOAD_AT) / w
+}
+
+// Cells to a block.
+pub fn cells_in(p: usize) -> usize
+    requires { ⌜ p ≤ places ⌝ }
+    ensures { λ r. ⌜ (r ≡ cells-in p) × ((1 ≤ r) × (r ≤ payload-bytes)) ⌝ }
+{
+    fit_in(cell_bytes(p))
+}
+
+// Open writes to a block.
+pub fn opens_in(p: usize) -> usize
+    requires { ⌜ p ≤ places ⌝ }
+    ensures { λ r. ⌜ (r ≡ opens-in p) × ((1 ≤ r) × (r ≤ payload-bytes)) ⌝ }
+{
+    fit_in(open_bytes(p))
+}
+
+// The blocks that x of them take, c to a block.
+fn blocks_for(c: usize, x: usize) -> usize
+    requires { ⌜ (1 ≤ c) × ((c ≤ payload-bytes) × (x ≤ places * (most-writes + 1))) ⌝ }
+    ensures { λ r. ⌜ (r ≡ blocks-for c x) × (r ≤ x) ⌝ }
+{
+    (x + (c - 1)) / c
+}
 
 // The check of a block --
 
@@ -168,83 +226,84 @@ fn put_word(b: &mut [u8; BLOCK], at: usize, x: u16)
     b[at + 1] = (x / 256) as u8;
 }
 
-fn put_words(b: &mut [u8; BLOCK], at: usize, v: [u16; PLACES])
-    requires { ⌜ at + vector-bytes places ≤ block-bytes ⌝ }
-    ensures { λ _. ⌜ now (b .exit) ≡ sets (now (b .entry)) at (vectorWords places (place v)) ⌝ }
+// The first p places of a vector, and of marks.
+fn put_words(b: &mut [u8; BLOCK], at: usize, v: [u16; PLACES], p: usize)
+    requires { ⌜ (p ≤ places) × (at + vector-bytes p ≤ block-bytes) ⌝ }
+    ensures { λ _. ⌜ now (b .exit) ≡ sets (now (b .entry)) at (vectorWords p (place v)) ⌝ }
 {
     let mut t = 0;
-    while t < PLACES {
+    while t < p {
         put_word(b, at + 2 * t, v[t]);
         t += 1;
     }
 }
 
-fn put_marks(b: &mut [u8; BLOCK], at: usize, v: [u16; PLACES])
-    requires { ⌜ at + places ≤ block-bytes ⌝ }
+fn put_marks(b: &mut [u8; BLOCK], at: usize, v: [u16; PLACES], p: usize)
+    requires { ⌜ (p ≤ places) × (at + p ≤ block-bytes) ⌝ }
     requires { ⌜ ((t : ℕ) → getD v t 0 < 256) ⌝ }
-    ensures { λ _. ⌜ now (b .exit) ≡ sets (now (b .entry)) at (markBytes places (place v)) ⌝ }
+    ensures { λ _. ⌜ now (b .exit) ≡ sets (now (b .entry)) at (markBytes p (place v)) ⌝ }
 {
     let mut t = 0;
-    while t < PLACES {
+    while t < p {
         b[at + t] = byte(v[t]);
         t += 1;
     }
 }
 
 // What begins with 4 bytes and a vector: a desk, a cell, an open write.
-fn put_record(b: &mut [u8; BLOCK], at: usize, x: u16, y: u16, z: u16, v: [u16; PLACES])
-    requires { ⌜ (at + after-vector places ≤ block-bytes) × ((x < 256) × ((y < 256) × (z < 256))) ⌝ }
-    ensures { λ _. ⌜ now (b .exit) ≡ sets (now (b .entry)) at (x ∷ y ∷ z ∷ 0 ∷ vectorWords places (place v)) ⌝ }
+fn put_record(b: &mut [u8; BLOCK], at: usize, x: u16, y: u16, z: u16, v: [u16; PLACES], p: usize)
+    requires { ⌜ (p ≤ places) × ((at + after-vector p ≤ block-bytes) × ((x < 256) × ((y < 256) × (z < 256)))) ⌝ }
+    ensures { λ _. ⌜ now (b .exit) ≡ sets (now (b .entry)) at (x ∷ y ∷ z ∷ 0 ∷ vectorWords p (place v)) ⌝ }
 {
     b[at] = byte(x);
     b[at + 1] = byte(y);
     b[at + 2] = byte(z);
     b[at + 3] = 0;
-    put_words(b, at + VECTOR_AT, v);
+    put_words(b, at + VECTOR_AT, v, p);
 }
 
-fn put_open(b: &mut [u8; BLOCK], at: usize, o: Open)
-    requires { ⌜ (at + open-bytes places ≤ block-bytes) × SmallOpen o ⌝ }
-    ensures { λ _. ⌜ now (b .exit) ≡ sets (now (b .entry)) at (openRaw places o) ⌝ }
+fn put_open(b: &mut [u8; BLOCK], at: usize, o: Open, p: usize)
+    requires { ⌜ (p ≤ places) × ((at + open-bytes p ≤ block-bytes) × SmallOpen o) ⌝ }
+    ensures { λ _. ⌜ now (b .exit) ≡ sets (now (b .entry)) at (openRaw p o) ⌝ }
 {
     let v = o.vector;
-    put_record(b, at, o.writer, o.status, o.cell, v);
+    put_record(b, at, o.writer, o.status, o.cell, v, p);
     let k = o.marks;
-    put_marks(b, at + AFTER_VECTOR, k);
+    put_marks(b, at + cell_bytes(p), k, p);
 }
 
-// Kind, edition and place.
-fn put_head(b: &mut [u8; BLOCK], kind: u8, at: u16)
-    ensures { λ _. ⌜ now (b .exit) ≡ sets (now (b .entry)) 0 (head kind at) ⌝ }
+// Kind, edition and place, where a vector has p places.
+fn put_head(b: &mut [u8; BLOCK], p: usize, kind: u8, at: u16)
+    ensures { λ _. ⌜ now (b .exit) ≡ sets (now (b .entry)) 0 (head (editionOf p) kind at) ⌝ }
 {
     b[0] = kind;
-    b[1] = EDITION;
+    b[1] = edition_of(p);
     put_word(b, 2, at);
 }
 
 // The block of desk k, from 1: it stands at place k.
-fn desk_block(k: u16, d: Desk) -> [u8; BLOCK]
-    requires { ⌜ k < 256 ⌝ }
-    ensures { λ r. ⌜ r ≡ block 2 k (deskBytes places k (place (d .applied)) (place (d .clock .at))) ⌝ }
+fn desk_block(p: usize, k: u16, d: Desk) -> [u8; BLOCK]
+    requires { ⌜ (p ≤ places) × (k < 256) ⌝ }
+    ensures { λ r. ⌜ r ≡ blockOf p 2 k (deskBytes p k (place (d .applied)) (place (d .clock .at))) ⌝ }
 {
     let mut b = [0u8; BLOCK];
-    put_head(&mut b, DESK_KIND, k);
+    put_head(&mut b, p, DESK_KIND, k);
     let applied = d.applied;
-    put_record(&mut b, PAYLOAD_AT, k, 0, 0, applied);
+    put_record(&mut b, PAYLOAD_AT, k, 0, 0, applied, p);
     let clock = d.clock;
     let v = clock.at;
-    put_words(&mut b, CLOCK_AT, v);
+    put_words(&mut b, PAYLOAD_AT + cell_bytes(p), v, p);
     seal(&mut b);
     b
 }
 
 // The block of the sizes.
-fn size_block(n: u16, m: u16, count: u16) -> [u8; BLOCK]
+fn size_block(p: usize, n: u16, m: u16, count: u16) -> [u8; BLOCK]
     requires { ⌜ (n < 256) × ((m < 256) × (count < 256)) ⌝ }
-    ensures { λ r. ⌜ r ≡ block 1 0 (n ∷ m ∷ count ∷ []) ⌝ }
+    ensures { λ r. ⌜ r ≡ blockOf p 1 0 (n ∷ m ∷ count ∷ []) ⌝ }
 {
     let mut b = [0u8; BLOCK];
-    put_head(&mut b, SIZE_KIND, 0);
+    put_head(&mut b, p, SIZE_KIND, 0);
     b[DESKS_AT] = byte(n);
     b[CELLS_AT] = byte(m);
     b[COUNT_AT] = byte(count);
@@ -259,26 +318,21 @@ fn least(a: usize, b: usize) -> usize
 }
 
 // Block q of the cells of desk i, from 0.
-fn cell_block(at: u16, cells: &Cells, i: usize, q: usize) -> [u8; BLOCK]
-    requires { ⌜ (i < places) × ((q < row-most places) × CellsFit places (now cells)) ⌝ }
-    ensures { λ r. ⌜ r ≡ block 3 at (cat (cellPiece places (now (cells .entry)) i q) (cells-in places)) ⌝ }
+fn cell_block(p: usize, at: u16, cells: &Cells, i: usize, q: usize) -> [u8; BLOCK]
+    requires { ⌜ (p ≤ places) × ((i < places) × ((q < row-most p) × CellsFit p (now cells))) ⌝ }
+    ensures { λ r. ⌜ r ≡ blockOf p 3 at (cat (cellPiece p (now (cells .entry)) i q) (cells-in p)) ⌝ }
 {
     let mut b = [0u8; BLOCK];
-    put_head(&mut b, CELL_KIND, at);
-    let first = CELLS_IN * q;
-    let end = least(CELLS, first + CELLS_IN);
+    put_head(&mut b, p, CELL_KIND, at);
+    let w = cell_bytes(p);
+    let room = cells_in(p);
+    let first = room * q;
+    let end = least(CELLS, first + room);
     let mut j = 0;
     while first + j < end {
         let c = table::cell_at(cells, i * CELLS + (first + j));
         let v = c.vector;
-        put_record(
-            &mut b,
-            PAYLOAD_AT + CELL_BYTES * j,
-            c.writer,
-            c.status,
-            0,
-            v,
-        );
+        put_record(&mut b, PAYLOAD_AT + w * j, c.writer, c.status, 0, v, p);
         j += 1;
     }
     seal(&mut b);
@@ -286,19 +340,21 @@ fn cell_block(at: u16, cells: &Cells, i: usize, q: usize) -> [u8; BLOCK]
 }
 
 // Block q of the open writes.
-fn open_block(at: u16, opens: &Opens, order: &[usize; OPENS], count: usize, q: usize) -> [u8; BLOCK]
-    requires { ⌜ (q < opens-most places) × OrderFits (now opens) (now order) count ⌝ }
-    ensures { λ r. ⌜ r ≡ block 4 at (cat (openPiece places (now (opens .entry)) (now (order .entry)) count q) (opens-in places)) ⌝ }
+fn open_block(p: usize, at: u16, opens: &Opens, order: &[usize; OPENS], count: usize, q: usize) -> [u8; BLOCK]
+    requires { ⌜ (p ≤ places) × ((q < opens-most p) × OrderFits (now opens) (now order) count) ⌝ }
+    ensures { λ r. ⌜ r ≡ blockOf p 4 at (cat (openPiece p (now (opens .entry)) (now (order .entry)) count q) (opens-in p)) ⌝ }
 {
     let mut b = [0u8; BLOCK];
-    put_head(&mut b, OPEN_KIND, at);
-    let first = OPENS_IN * q;
-    let end = least(count, first + OPENS_IN);
+    put_head(&mut b, p, OPEN_KIND, at);
+    let w = open_bytes(p);
+    let room = opens_in(p);
+    let first = room * q;
+    let end = least(count, first + room);
     let mut j = 0;
     while first + j < end {
         let e = order[first + j];
         let o = table::open_at(opens, e);
-        put_open(&mut b, PAYLOAD_AT + OPEN_BYTES * j, o);
+        put_open(&mut b, PAYLOAD_AT + w * j, o, p);
         j += 1;
     }
     seal(&mut b);
@@ -321,6 +377,7 @@ pub fn copy(part: &[u8], len: usize, out: &mut [u8], at: usize)
 
 // The block at place k: the sizes, the desks, then their cells, c blocks to a desk, and from place e on the open writes.
 fn block_at(
+    p: usize,
     core: Core,
     cells: &Cells,
     opens: &Opens,
@@ -331,27 +388,28 @@ fn block_at(
     total: usize,
     k: usize,
 ) -> [u8; BLOCK]
-    requires { ⌜ Planned places (tableWith core (now cells) (now opens)) (now order) count c e total × (k < total) ⌝ }
-    ensures { λ r. ⌜ r ≡ blockAt places (modelOf (tableWith core (now (cells .entry)) (now (opens .entry)))) k ⌝ }
+    requires { ⌜ Planned p (tableWith core (now cells) (now opens)) (now order) count c e total × (k < total) ⌝ }
+    ensures { λ r. ⌜ r ≡ blockAt p (modelOf (tableWith core (now (cells .entry)) (now (opens .entry)))) k ⌝ }
 {
     let n = core.n;
     let m = core.m;
     if k == 0 {
-        return size_block(n as u16, m as u16, count as u16);
+        return size_block(p, n as u16, m as u16, count as u16);
     }
     if k <= n {
         let desks = core.desks;
         let d = desks[k - 1];
-        return desk_block(k as u16, d);
+        return desk_block(p, k as u16, d);
     }
     if k < e {
         let q = k - (1 + n);
-        return cell_block(k as u16, cells, q / c, q % c);
+        return cell_block(p, k as u16, cells, q / c, q % c);
     }
-    open_block(k as u16, opens, order, count, k - e)
+    open_block(p, k as u16, opens, order, count, k - e)
 }
 
 fn save_blocks(
+    p: usize,
     core: Core,
     cells: &Cells,
     opens: &Opens,
@@ -362,12 +420,12 @@ fn save_blocks(
     total: usize,
     out: &mut [u8],
 )
-    requires { ⌜ Planned places (tableWith core (now cells) (now opens)) (now order) count c e total × (block-bytes * total ≤ length (now out)) ⌝ }
-    ensures { λ _. ⌜ now (out .exit) ≡ sets (now (out .entry)) 0 (encode (modelOf (tableWith core (now (cells .entry)) (now (opens .entry))))) ⌝ }
+    requires { ⌜ Planned p (tableWith core (now cells) (now opens)) (now order) count c e total × (block-bytes * total ≤ length (now out)) ⌝ }
+    ensures { λ _. ⌜ now (out .exit) ≡ sets (now (out .entry)) 0 (encodeAt p (modelOf (tableWith core (now (cells .entry)) (now (opens .entry))))) ⌝ }
 {
     let mut k = 0;
     while k < total {
-        let b = block_at(core, cells, opens, order, count, c, e, total, k);
+        let b = block_at(p, core, cells, opens, order, count, c, e, total, k);
         copy(&b, BLOCK, out, BLOCK * k);
         k += 1;
     }
@@ -468,42 +526,35 @@ fn order_all(opens: &Opens, desks: [Desk; PLACES], n: usize, order: &mut [usize]
 // Saving --
 
 // Blocks to a desk's cells.
-pub fn per_desk(m: usize) -> usize
-    requires { ⌜ m ≤ desk-cells ⌝ }
-    ensures { λ r. ⌜ (r ≡ perDesk places m) × (r ≤ row-most places) ⌝ }
+pub fn per_desk(p: usize, m: usize) -> usize
+    requires { ⌜ (p ≤ places) × (m ≤ desk-cells) ⌝ }
+    ensures { λ r. ⌜ (r ≡ perDesk p m) × (r ≤ desk-cells) ⌝ }
 {
-    (m + (CELLS_IN - 1)) / CELLS_IN
-}
-
-// Blocks to the open writes.
-fn open_blocks(count: usize) -> usize
-    requires { ⌜ count ≤ places * (most-writes + 1) ⌝ }
-    ensures { λ r. ⌜ r ≡ blocks-for (opens-in places) count ⌝ }
-{
-    (count + (OPENS_IN - 1)) / OPENS_IN
+    blocks_for(cells_in(p), m)
 }
 
 // Blocks before the open writes, where a desk's cells take c.
 fn cells_end(n: usize, c: usize) -> usize
-    requires { ⌜ (n ≤ places) × (c ≤ row-most places) ⌝ }
-    ensures { λ r. ⌜ (r ≡ 1 + n + c * n) × (r ≤ 1 + places + rows-most places) ⌝ }
+    requires { ⌜ (n ≤ places) × (c ≤ desk-cells) ⌝ }
+    ensures { λ r. ⌜ (r ≡ 1 + n + c * n) × (r ≤ 1 + places + desk-cells * places) ⌝ }
 {
     1 + n + c * n
 }
 
 pub fn length_of(n: usize, m: usize, count: usize) -> usize
     requires { ⌜ (n ≤ places) × ((m ≤ desk-cells) × (count ≤ places * (most-writes + 1))) ⌝ }
-    ensures { λ r. ⌜ r ≡ block-bytes * (1 + n + perDesk places m * n + blocks-for (opens-in places) count) ⌝ }
+    ensures { λ r. ⌜ r ≡ block-bytes * (1 + n + perDesk (placesFor n) m * n + blocks-for (opens-in (placesFor n)) count) ⌝ }
 {
-    let c = per_desk(m);
+    let p = places_for(n);
+    let c = per_desk(p, m);
     let k = cells_end(n, c);
-    BLOCK * (k + open_blocks(count))
+    BLOCK * (k + blocks_for(opens_in(p), count))
 }
 
 // How long the image of a table is that keeps the rules: the counts tell.
 pub fn image_length(core: Core) -> usize
     requires { ⌜ (core .n ≤ places) × (core .m ≤ desk-cells) ⌝ }
-    ensures { λ r. ⌜ r ≡ block-bytes * (1 + core .n + perDesk places (core .m) * core .n + blocks-for (opens-in places) (length (counted (core .n) (appliedM (core .desks))))) ⌝ }
+    ensures { λ r. ⌜ r ≡ block-bytes * (1 + core .n + perDesk (placesFor (core .n)) (core .m) * core .n + blocks-for (opens-in (placesFor (core .n))) (length (counted (core .n) (appliedM (core .desks))))) ⌝ }
 {
     let n = core.n;
     let m = core.m;
@@ -523,10 +574,11 @@ pub fn save_parts(core: Core, cells: &Cells, opens: &Opens, out: &mut [u8]) -> u
     let desks = core.desks;
     let mut order = [0usize; OPENS];
     let count = order_all(opens, desks, n, &mut order);
-    let c = per_desk(m);
+    let p = places_for(n);
+    let c = per_desk(p, m);
     let e = cells_end(n, c);
-    let total = e + open_blocks(count);
-    save_blocks(core, cells, opens, &order, count, c, e, total, out);
+    let total = e + blocks_for(opens_in(p), count);
+    save_blocks(p, core, cells, opens, &order, count, c, e, total, out);
     BLOCK * total
 }
 

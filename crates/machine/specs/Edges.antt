@@ -26,8 +26,8 @@ replyOf (refused r) = E (numberOf r)
 abbrev pub replies : State → List Step → List Reply
 replies s l = map replyOf (answers s l)
 
--- "n 8 and 9, m 64 and 65"
-pub edge-of-n-and-m : map (λ (b : ℕ × ℕ). replyOf (begin (b .0) (b .1) .answer)) ((1, 1) ∷ (8, 64) ∷ (0, 1) ∷ (9, 1) ∷ (1, 0) ∷ (1, 65) ∷ [])
+-- "Refusals: 11 from n = 17" (document 02, T-06), "m 64 and 65"
+pub edge-of-n-and-m : map (λ (b : ℕ × ℕ). replyOf (begin (b .0) (b .1) .answer)) ((1, 1) ∷ (16, 64) ∷ (0, 1) ∷ (17, 1) ∷ (1, 0) ∷ (1, 65) ∷ [])
     ≡ given began ∷ given began ∷ E 11 ∷ E 11 ∷ E 11 ∷ E 11 ∷ []
 unfolding begin
 edge-of-n-and-m = refl

@@ -1,4 +1,4 @@
--- The rules as one test of a table that was read: desks 1 to n, places 1 to 8, cells 1 to m, the writes that each desk has made.
+-- The rules as one test of a table that was read: desks 1 to n, the place of every desk, cells 1 to m, the writes that each desk has made.
 use Prim.Native.Nat.{ℕ, _≤_}
 use mathlib.Core.{Path.{_≡_}, Bool.{Bool, not}, Option.{Option, none, some}}
 use native.Mathlib.Omega.{arith}
@@ -24,7 +24,7 @@ countAt s i t =
 abbrev pub deskAt : State → ℕ → Test
 deskAt s i = both (le (written s i) most-writes) (both (eq (s .clock i i) (s .applied i i)) (each most-desks (countAt s i)))
 
--- a vector is at most another at the places 1 to 8
+-- a vector is at most another at the place of every desk
 abbrev pub belowAt : Vec → Vec → Test
 belowAt v w = each most-desks (λ t. le (v t) (w t))
 
@@ -85,7 +85,7 @@ kept s =
 unfoldable pub keeps : State → Bool
 keeps s = kept s .passes
 
--- of every table that was read: nothing stands past the desks, the 8 places, the cells, the writes made
+-- of every table that was read: nothing stands past the desks, their places, the cells, the writes made
 pub record ZeroPast (s : State) : Type 0 where
   pub counts : (i t : ℕ) → 1 ≤ s .applied i t → In (s .setup .desks) i × In most-desks t
   pub clocks : (i t : ℕ) → 1 ≤ s .clock i t → In (s .setup .desks) i × In most-desks t

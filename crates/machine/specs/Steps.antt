@@ -230,7 +230,7 @@ step s (Trip i xs) =
     let o9 : Out = need (within most-trip (length xs)) trip-size s o2 in
     need (within (s .setup .desks) i) no-desk s o9
 
--- The beginning: "n desks (1 to 8) and m records (1 to 64)", else 11 and still no table --
+-- The beginning: "n goes to 16" (document 02, T-06), "m records, called cells (1 to 64)", else 11 and still no table --
 
 abbrev pub begins : ℕ → ℕ → Bool
 begins n m = within most-desks n && within most-cells m

@@ -5,7 +5,7 @@ use Prim.Native.Nat.{ℕ}
 -- the limits, named once --
 
 abbrev pub most-desks : ℕ
-most-desks = 8
+most-desks = 16
 
 abbrev pub most-cells : ℕ
 most-cells = 64

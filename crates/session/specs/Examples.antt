@@ -21,7 +21,7 @@ session-bytes = refl
 -- all eighteen; an empty line; a last line without LF; before a table, a refused N, a further N
 pub edges : map transcript (
     (fourteen ++ text "R 1 2\nD 1 1 1\nD 3 1 2\nD 1 2 2\n") ∷ text "\n" ∷ text "N 2 1" ∷
-    text "R 1 1\nN 9 1\nT 1\nN 2 1\nN 2 1\nT 1\n\nW 1 1 0\nR 1 1\nR 1 1" ∷ [])
+    text "R 1 1\nN 17 1\nT 1\nN 2 1\nN 2 1\nT 1\n\nW 1 1 0\nR 1 1\nR 1 1" ∷ [])
     ≡ (fourteen-out ++ text "R -\nE 6\nE 8\nE 7\n") ∷ text "E 10\n" ∷ text "E 10\n" ∷
     text "E 10\nE 11\nE 10\nN\nE 10\nE 9\nE 10\nW 1.1\nR 0 1.1\nE 10\n" ∷ []
 unfolding transcript transcriptFrom linesOf answersOf printed lineOf words number numbers readOn form bind isDigit turns scan all upd upd2 sum begin step failing everywhere openCount firstDue settle reads any every verdict digits decimal nameBytes namesBytes

@@ -1,5 +1,5 @@
-use Rattle.clock.specs.Vectors.{places, place}
-use Rattle.image.specs.{Limits.{wide, payload-at}, Encode.{deskBytes}, Fields.{length-desk}, Mirror.Block.{behind, made}}
+use Rattle.clock.specs.Vectors.{place}
+use Rattle.image.specs.{Limits.{wide, payload-at, editionOf}, Encode.{deskBytes}, Fields.{length-desk}, Mirror.Block.{behind, made}}
 use Rattle.laws.specs.Kit.{_∙_, arith, needs}
 use Rattle.image.proofs.desk_block.Statement.{statement}
 use Rattle.image.proofs.desk_block.Tie as tie
@@ -7,10 +7,12 @@ use Rattle.image.proofs.desk_block.Tie as tie
 returns : tie.Need-returns
 unfolding deskBytes
 returns c =
-    let A = c .before .before .before .before .before .before .before .before .before .before .before .args in
-    let h = c .before .before .before .before .before .before .before .before .before .put-head in
-    made 2 (A .k) _ (omega (arith, length-desk places (A .k) (place (A .d .applied)) (place (A .d .clock .at)), wide .desk)) (h .ensures)
-    (c .before .before .put-words .ensures ∙ rw (c .before .before .before .before .before .before .put-record .ensures) (behind places (h .last .0) payload-at (A .k) 0 0 (place (A .d .applied)) _)) (c .seal .ensures)
+    let A = c .before .before .before .before .before .before .before .before .before .before .before .before .args in
+    let p = c .before .before .before .before .before .before .before .before .before .before .before .before .pre .0 in
+    let h = c .before .before .before .before .before .before .before .before .before .before .put-head in
+    made (editionOf (A .p)) 2 (A .k) _ (omega (arith, length-desk (A .p) (A .k) (place (A .d .applied)) (place (A .d .clock .at)), wide (A .p) p .desk)) (h .ensures)
+    (c .before .before .put-words .ensures ∙ rw (c .before .before .before .cell-bytes .ensures, c .before .before .before .before .before .before .before .put-record .ensures) (behind (A .p) (h .last .0) payload-at (A .k) 0 0 (place (A .d .applied)) _)) (c .seal .ensures)
 
 pub desk-block-spec : {M : Type 1} → statement M
-desk-block-spec = tie.close (tie.spec (λ c κs. search needs) (λ c κs. search needs) (λ c κs. search needs) (λ c κs. search needs) returns)
+desk-block-spec = tie.close (tie.spec (λ c κs. search needs) (λ c κs. search needs) (λ c κs. search needs) (λ c. search needs)
+    (λ c κs. search needs) (λ c κs. search needs) returns)

@@ -1,14 +1,13 @@
-use Rattle.clock.specs.Vectors.{places}
 use Rattle.image.specs.{Link.BlockFill.{tab-put}, Encode.{markBytes}}
 use Rattle.laws.specs.{Tab.{tab, tabFrom}, Kit.{sets, getD, _≡_, _∙_, arith, _≤_, _-_, needs}}
 use Rattle.image.proofs.put_marks.Statement.{statement}
 use Rattle.image.proofs.put_marks.Tie as tie
 
 abbrev Inv-loop : tie.InvT-loop
-Inv-loop b₀ at v t₀ b t = (t ≤ places) × (b ≡ sets b₀ at (tab t (λ k. getD v k 0)))
+Inv-loop b₀ at p v t₀ b t = (t ≤ p) × (b ≡ sets b₀ at (tab t (λ k. getD v k 0)))
 
 abbrev μ-loop : tie.MeasureT-loop
-μ-loop b₀ at v t₀ b t = places - t
+μ-loop b₀ at p v t₀ b t = p - t
 
 loop-holds : tie.Need-loop-holds Inv-loop μ-loop
 unfolding tab tabFrom
@@ -23,7 +22,7 @@ loop-again c = let L = c .before .before .loop in let A = c .before .before .bef
 
 returns : tie.Need-returns Inv-loop μ-loop
 unfolding markBytes
-returns c = let L = c .before .loop in let e : L .t ≡ places = omega arith in L .inv .1 ∙ rw e
+returns c = let L = c .before .loop in let e : L .t ≡ c .before .before .args .p = omega arith in L .inv .1 ∙ rw e
 
 pub put-marks-spec : {M : Type 1} → statement M
 put-marks-spec = tie.close (tie.spec Inv-loop μ-loop loop-holds (λ c. search needs) (λ c. search needs) byte-requires (λ c. search needs)

@@ -1,14 +1,13 @@
-use Rattle.clock.specs.Vectors.{places}
 use Rattle.image.specs.{Link.BlockFill.{sets-more}, Encode.{word, vectorWords}}
 use Rattle.laws.specs.{Cat.{cat, length-cat}, Kit.{sets, getD, _≡_, refl, _∙_, arith, _≤_, _-_, _*_, needs}}
 use Rattle.image.proofs.put_words.Statement.{statement}
 use Rattle.image.proofs.put_words.Tie as tie
 
 abbrev Inv-loop : tie.InvT-loop
-Inv-loop b₀ at v t₀ b t = (t ≤ places) × (b ≡ sets b₀ at (cat (λ k. word (getD v k 0)) t))
+Inv-loop b₀ at p v t₀ b t = (t ≤ p) × (b ≡ sets b₀ at (cat (λ k. word (getD v k 0)) t))
 
 abbrev μ-loop : tie.MeasureT-loop
-μ-loop b₀ at v t₀ b t = places - t
+μ-loop b₀ at p v t₀ b t = p - t
 
 loop-holds : tie.Need-loop-holds Inv-loop μ-loop
 unfolding cat
@@ -20,7 +19,7 @@ loop-again c = let L = c .before .before .before .loop in let A = c .before .bef
 
 returns : tie.Need-returns Inv-loop μ-loop
 unfolding vectorWords
-returns c = let L = c .before .loop in let e : L .t ≡ places = omega arith in L .inv .1 ∙ rw e
+returns c = let L = c .before .loop in let e : L .t ≡ c .before .before .args .p = omega arith in L .inv .1 ∙ rw e
 
 pub put-words-spec : {M : Type 1} → statement M
 put-words-spec = tie.close (tie.spec Inv-loop μ-loop loop-holds (λ c. search needs) (λ c. search needs) (λ c. search needs)

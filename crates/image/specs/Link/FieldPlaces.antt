@@ -5,11 +5,11 @@ use Rattle.laws.specs.Kit.{length-append, length-replicate, mul-le-mul-left, mu
 use Rattle.laws.specs.{Kit.{add-zero}, Loop.{pick}, Cat.{cat, cat-same, part, part-right, part-left, part-cat, piece-cat, length-cat}}
 use Rattle.laws.specs.Each.{each-at, each-map}
 use Rattle.machine.specs.{Table.{State}, Steps.{openCount}}
-use Rattle.image.specs.{OpenNames.{names, OpenName, names-open}, Check.{checkOf}, Encode.{word, long, body, block, openNamed, blocks}}
-use Rattle.image.specs.Encode.{deskBytes, cellPart, openPart, perDesk, openBlocks, block2, block3, block4, encodeAt}
-use Rattle.image.specs.{Fields.{length-desk, length-cell, length-open}, Link.BlockFill.{cat-plus, cat-rows}, Limits.{Wide, fit}}
+use Rattle.image.specs.{OpenNames.{names, OpenName, names-open}, Check.{checkOf}, Encode.{word, long, body, block, blockOf, openNamed}}
+use Rattle.image.specs.Encode.{blocks, deskBytes, cellPart, openPart, perDesk, openBlocks, block2, block3, block4, encodeAt}
+use Rattle.image.specs.{Fields.{length-desk, length-cell, length-open}, Link.BlockFill.{cat-plus, cat-rows}, Limits.{Wide, fit, piece-inside}}
 use Rattle.image.specs.Limits.{block-bytes, payload-at, check-at, payload-bytes, desk-bytes, cell-bytes, open-bytes, cells-in}
-use Rattle.image.specs.Limits.{opens-in}
+use Rattle.image.specs.Limits.{opens-in, editionOf}
 
 pub pick-has : {A : Type 0} (P : A → Type 0) (b : Bool) {x y : A} → P x → P y → P (pick b x y)
 pick-has P true h g = h
@@ -17,20 +17,20 @@ pick-has P false h g = g
 
 -- blocks --
 
-pub length-body : (kind place : ℕ) (l : List ℕ) → length l ≤ payload-bytes → length (body kind place l) ≡ check-at
-length-body kind place l h = simp (length-append, length-replicate) (omega arith)
+pub length-body : (edition kind place : ℕ) (l : List ℕ) → length l ≤ payload-bytes → length (body edition kind place l) ≡ check-at
+length-body edition kind place l h = simp (length-append, length-replicate) (omega arith)
 
-pub length-block : (kind place : ℕ) (l : List ℕ) → length l ≤ payload-bytes → length (block kind place l) ≡ block-bytes
+pub length-block : (edition kind place : ℕ) (l : List ℕ) → length l ≤ payload-bytes → length (block edition kind place l) ≡ block-bytes
 unfolding block
-length-block kind place l h = rw (length-append (body kind place l), length-body kind place l h)
+length-block edition kind place l h = rw (length-append (body edition kind place l), length-body edition kind place l h)
 
 -- the payload stands at 4
-part-block : (kind place : ℕ) (l : List ℕ) (p w : ℕ) → p + w ≤ length l → part (payload-at + p) w (block kind place l) ≡ part p w l
+part-block : (edition kind place : ℕ) (l : List ℕ) (p w : ℕ) → p + w ≤ length l → part (payload-at + p) w (block edition kind place l) ≡ part p w l
 unfolding block
-part-block kind place l p w h =
+part-block edition kind place l p w h =
     let z : List ℕ = replicate (payload-bytes - length l) 0 in
-    part-right (kind ∷ 1 ∷ word place) ((l ++ z) ++ long (checkOf (body kind place l))) 4 p w refl
-    ∙ part-left (l ++ z) (long (checkOf (body kind place l))) p w (rw length-append (omega arith))
+    part-right (kind ∷ edition ∷ word place) ((l ++ z) ++ long (checkOf (body edition kind place l))) 4 p w refl
+    ∙ part-left (l ++ z) (long (checkOf (body edition kind place l))) p w (rw length-append (omega arith))
     ∙ part-left l z p w h
 
 -- a block of pieces of w bytes, as many as fit --
@@ -39,14 +39,14 @@ module _ (w : ℕ) (f : ℕ → List ℕ) (l : (j : ℕ) → length (f j) ≡ w)
   pub few-bytes : length (cat f (payload-bytes / w)) ≤ payload-bytes
   few-bytes = omega (arith, length-cat f w l (payload-bytes / w), fit w)
 
-  piece-block : (kind place j : ℕ) → j < payload-bytes / w → part (payload-at + w * j) w (block kind place (cat f (payload-bytes / w))) ≡ f j
-  piece-block kind place j h =
-      part-block kind place (cat f (payload-bytes / w)) (w * j) w (omega (arith, length-cat f w l (payload-bytes / w), mul-le-mul-left w h))
+  piece-block : (edition kind place j : ℕ) → j < payload-bytes / w → part (payload-at + w * j) w (block edition kind place (cat f (payload-bytes / w))) ≡ f j
+  piece-block edition kind place j h =
+      part-block edition kind place (cat f (payload-bytes / w)) (w * j) w (omega (arith, length-cat f w l (payload-bytes / w), mul-le-mul-left w h))
       ∙ piece-cat f (payload-bytes / w) j (w * j) w h (length-cat f w l j) (l j)
 
 -- it lies within the block
 piece-room : (w j : ℕ) → j < payload-bytes / w → payload-at + w * j + w ≤ block-bytes
-piece-room w j h = omega (arith, mul-le-mul-left w h, fit w)
+piece-room w j h = omega (arith, piece-inside w j h)
 
 module _ (ps : ℕ) (s : State) where
   abbrev row : ℕ
@@ -58,11 +58,11 @@ module _ (ps : ℕ) (s : State) where
   -- the block at place k, of whichever kind
   unfoldable pub blockAt : ℕ → List ℕ
   blockAt k =
-      pick (eqb k 0) (block 1 k (s .setup .desks ∷ s .setup .cells ∷ openCount s ∷ []))
-      (pick (leb k (s .setup .desks)) (block 2 k (deskBytes ps k (s .applied k) (s .clock k)))
+      pick (eqb k 0) (blockOf ps 1 k (s .setup .desks ∷ s .setup .cells ∷ openCount s ∷ []))
+      (pick (leb k (s .setup .desks)) (blockOf ps 2 k (deskBytes ps k (s .applied k) (s .clock k)))
       (pick (ltb k opens-from)
-      (block 3 k (cat (cellPart ps s ((k - (1 + s .setup .desks)) / row) ((k - (1 + s .setup .desks)) % row)) (cells-in ps)))
-      (block 4 k (cat (openPart ps s (k - opens-from)) (opens-in ps)))))
+      (blockOf ps 3 k (cat (cellPart ps s ((k - (1 + s .setup .desks)) / row) ((k - (1 + s .setup .desks)) % row)) (cells-in ps)))
+      (blockOf ps 4 k (cat (openPart ps s (k - opens-from)) (opens-in ps)))))
 
   at-2 : (i : ℕ) → i < s .setup .desks → blockAt (1 + i) ≡ block2 ps s i
   unfolding blockAt
@@ -122,7 +122,7 @@ module _ (ps : ℕ) (wd : Wide ps) (s : State) where
       (opens-in ps * q + j)
 
   -- what every block has whose payload fits
-  pub every-block : (P : List ℕ → Type 0) → ((kind k : ℕ) (l : List ℕ) → length l ≤ payload-bytes → P (block kind k l)) → (k : ℕ) → P (blockAt ps s k)
+  pub every-block : (P : List ℕ → Type 0) → ((kind k : ℕ) (l : List ℕ) → length l ≤ payload-bytes → P (blockOf ps kind k l)) → (k : ℕ) → P (blockAt ps s k)
   unfolding blockAt
   every-block P h k =
       pick-has P (eqb k 0) (h 1 k _ (omega arith))
@@ -132,7 +132,7 @@ module _ (ps : ℕ) (wd : Wide ps) (s : State) where
       (h 4 k _ (few-bytes (open-bytes ps) _ (length-entry (k - opens-from ps s))))))
 
   pub length-at : (k : ℕ) → length (blockAt ps s k) ≡ block-bytes
-  length-at = every-block (λ l. length l ≡ block-bytes) length-block
+  length-at = every-block (λ l. length l ≡ block-bytes) (length-block (editionOf ps))
 
   -- the length of the image
   pub length-encode : length (encodeAt ps s) ≡ block-bytes * blocks ps s
@@ -150,7 +150,7 @@ module _ (ps : ℕ) (wd : Wide ps) (s : State) where
   part-2 i p w h g =
       let e : block-bytes + (block-bytes * i + (payload-at + p)) ≡ block-bytes * (1 + i) + (payload-at + p) = omega arith in
       rw (e, part-at (1 + i) (payload-at + p) w (omega arith) (omega (arith, wd .desk)), at-2 ps s i h)
-      (part-block 2 (1 + i) (deskBytes ps (suc i) (s .applied (suc i)) (s .clock (suc i))) p w (omega (arith, length-desk ps (suc i) (s .applied (suc i)) (s .clock (suc i)))))
+      (part-block (editionOf ps) 2 (1 + i) (deskBytes ps (suc i) (s .applied (suc i)) (s .clock (suc i))) p w (omega (arith, length-desk ps (suc i) (s .applied (suc i)) (s .clock (suc i)))))
 
   -- a cell
   pub part-3 : (i q j : ℕ) → i < s .setup .desks → q < row ps s → j < cells-in ps
@@ -160,7 +160,7 @@ module _ (ps : ℕ) (wd : Wide ps) (s : State) where
       let k : ℕ = 1 + s .setup .desks + (row ps s * i + q) in
       let e : block-bytes + (block-bytes * s .setup .desks + (block-bytes * row ps s * i + (block-bytes * q + (payload-at + w * j)))) ≡ block-bytes * k + (payload-at + w * j) = omega arith in
       rw (e, part-at k (payload-at + w * j) w (let l = mul-le-mul-left (row ps s) hi in omega arith) (piece-room w j hj), at-3 ps s i q hi hq)
-      (piece-block w (cellPart ps s i q) (length-in i q) 3 (1 + s .setup .desks + row ps s * i + q) j hj)
+      (piece-block w (cellPart ps s i q) (length-in i q) (editionOf ps) 3 (1 + s .setup .desks + row ps s * i + q) j hj)
 
   -- an open write
   pub part-4 : (q j : ℕ) → q < openBlocks ps s → j < opens-in ps
@@ -169,4 +169,4 @@ module _ (ps : ℕ) (wd : Wide ps) (s : State) where
       let w = open-bytes ps in
       let e : block-bytes + (block-bytes * s .setup .desks + (block-bytes * row ps s * s .setup .desks + (block-bytes * q + (payload-at + w * j)))) ≡ block-bytes * (opens-from ps s + q) + (payload-at + w * j) = omega arith in
       rw (e, part-at (opens-from ps s + q) (payload-at + w * j) w (omega arith) (piece-room w j hj), at-4 ps s q)
-      (piece-block w (openPart ps s q) (length-entry q) 4 (opens-from ps s + q) j hj)
+      (piece-block w (openPart ps s q) (length-entry q) (editionOf ps) 4 (opens-from ps s + q) j hj)

@@ -4,18 +4,18 @@ use Rattle.laws.specs.Kit.{arith, decLt, eqb-true, ne-eqb, le-leb, lt-leb, lt-l
 use Rattle.laws.specs.{Kit.{List·getD-eq-default, length-map, sets}, Loop.{cases}, Says.{clash}, Cat.{cat}, Each.{each-in, getD-map-in}}
 use Rattle.clock.specs.Vectors.{places, place}
 use Rattle.machine.specs.Table as machine
-use Rattle.machine.specs.{Table.{Name, State}, Steps.{isNone, openCount}, Rules.{Rules}}
+use Rattle.machine.specs.{Table.{most-writes, Name, State}, Steps.{isNone, openCount}, Rules.{Rules}}
 use Rattle.table.specs.{declared.Cell.{Cell}, declared.Open.{Open}, declared.Table.{Table}, Value.{desk0, desk-cells, cellAt, entries}}
 use Rattle.table.specs.{Value.{openAt}, EntryNames.{named-is}, Model.{modelOf, cellM, openM, appliedM, clockM, cellsM, opensM, slot}}
 use Rattle.table.specs.{Model.{cell-in}, Link.OpensModel.{opens-at}, Sound.{SoundTable, AllZero}}
 use Rattle.image.specs.{OpenNames.{names, no-name, length-names, OpenName, names-open}, Link.OrderFromCounts.{low, counted}}
-use Rattle.image.specs.{Link.OrderFromCounts.{names-counted, open-low}, Encode.{vectorWords, cellBytes, openBytes, deskBytes, block}}
+use Rattle.image.specs.{Link.OrderFromCounts.{names-counted, open-low}, Encode.{vectorWords, cellBytes, openBytes, deskBytes, blockOf}}
 use Rattle.image.specs.{Encode.{blocks, openNamed, cellPart, openPart, perDesk, encodeAt, encode}, ImageSize.{most-blocks}}
 use Rattle.image.specs.{Link.FieldPlaces.{blockAt, encode-is, length-encode}, Mirror.Block.{cellRaw, openRaw}}
 use Rattle.image.specs.Mirror.TableBytes.{CellsFit, cellPiece, OrderFits, openOr, openPiece}
 use Rattle.image.specs.{Mirror.EntryOrder.{HoldsWrite, InOrder, Known}, Limits.{Wide, some-cells, some-opens, block-of, blocks-mono}}
 use Rattle.image.specs.Limits.{block-bytes, vector-bytes, cell-bytes, open-bytes, cells-in, opens-in, blocks-for, row-most}
-use Rattle.image.specs.{Limits.{opens-most, blocks-most}, Fields.{zero-words}}
+use Rattle.image.specs.{Limits.{opens-most, wide, placesFor, places-most, desks-placed}, Fields.{zero-words}}
 
 -- the image of s stands in the buffer from its start on, what lies behind it is as it was, and the result is its length
 pub record Saved (s : State) (before after : List ℕ) (r : ℕ) : Type 0 where
@@ -33,6 +33,7 @@ unset-bytes ps c w z =
 -- what the blocks of a table are made of, once its open writes are in order and its blocks are counted: a desk's cells take c, the open writes
 -- begin at place e, and there are `total` in all
 pub record Planned (ps : ℕ) (t : Table) (order : List ℕ) (count c e total : ℕ) : Type 0 where
+  pub fits : ps ≤ places
   pub desks : t .core .n ≤ places
   pub cells : t .core .m ≤ desk-cells
   pub few : count ≤ entries
@@ -42,13 +43,16 @@ pub record Planned (ps : ℕ) (t : Table) (order : List ℕ) (count c e total : 
   pub opens-from : e ≡ 1 + t .core .n + c * t .core .n
   pub opens-few : total ≤ e + opens-most ps
   pub total-is : total ≡ blocks ps (modelOf t)
-  pub total-few : total ≤ blocks-most ps
+  pub total-few : total ≤ most-writes
   pub counted-right : count ≡ openCount (modelOf t)
   pub cells-fit : CellsFit ps (t .cells)
   pub order-fits : OrderFits (t .opens) order count
   pub piece : (p : ℕ) → openOr ps (t .opens) order count p ≡ getD (map (openNamed ps (modelOf t)) (names (modelOf t))) p (replicate (open-bytes ps) 0)
 
-module _ (ps : ℕ) (wd : Wide ps) {t : Table} (ok : SoundTable t) (fits : t .core .n ≤ ps) where
+module _ (ps : ℕ) (narrow-enough : ps ≤ places) {t : Table} (ok : SoundTable t) (fits : t .core .n ≤ ps) where
+  wd : Wide ps
+  wd = wide ps narrow-enough
+
   abbrev st : State
   st = modelOf t
 
@@ -149,6 +153,7 @@ module _ (ps : ℕ) (wd : Wide ps) {t : Table} (ok : SoundTable t) (fits : t .co
         let few : d ≤ opens-most ps = rw ed (blocks-mono (opens-in ps) count entries (some-opens ps wd) (all-order-fits .few)) in
         let all : e + d ≡ blocks ps st = rw (ee, ec, ed, ord .size ∙ counted-is) in
         record {
+          fits = narrow-enough;
           desks = few-desks;
           cells = r .frame .ranges .cells .1;
           few = all-order-fits .few;
@@ -158,37 +163,41 @@ module _ (ps : ℕ) (wd : Wide ps) {t : Table} (ok : SoundTable t) (fits : t .co
           opens-from = ee;
           opens-few = omega arith;
           total-is = all;
-          total-few = rw all (most-blocks ps wd st r fits);
+          total-few = omega (arith, all, most-blocks ps wd st r fits, wd .few);
           counted-right = ord .size ∙ counted-is;
           cells-fit = all-cells-fit;
           order-fits = all-order-fits;
           piece = piece-at;
         }
 
-  -- the length, by the counts alone
-  pub length-is : block-bytes * (1 + n + perDesk ps (t .core .m) * n + blocks-for (opens-in ps) (length (counted n (appliedM (t .core .desks))))) ≡ length (encodeAt ps st)
-  length-is = rw counted-is (sym (length-encode ps wd st))
+  length-by : block-bytes * (1 + n + perDesk ps (t .core .m) * n + blocks-for (opens-in ps) (length (counted n (appliedM (t .core .desks))))) ≡ length (encodeAt ps st)
+  length-by = rw counted-is (sym (length-encode ps wd st))
+
+-- the length, by the counts alone
+pub length-is : {t : Table} → SoundTable t
+    → (let n = t .core .n in block-bytes * (1 + n + perDesk (placesFor n) (t .core .m) * n + blocks-for (opens-in (placesFor n)) (length (counted n (appliedM (t .core .desks))))) ≡ length (encode (modelOf t)))
+length-is {t} ok = let n = t .core .n in length-by (placesFor n) (places-most n) ok (desks-placed n (ok .rules .frame .ranges .desks .1))
 
 -- the block of the code at place k, by its kind
 module _ (ps : ℕ) {t : Table} {order : List ℕ} {count c e total : ℕ} (P : Planned ps t order count c e total) (k : ℕ) {b : List ℕ} where
-  pub sizes-at : k ≡ 0 → b ≡ block 1 0 (t .core .n ∷ t .core .m ∷ count ∷ []) → b ≡ blockAt ps (modelOf t) k
+  pub sizes-at : k ≡ 0 → b ≡ blockOf ps 1 0 (t .core .n ∷ t .core .m ∷ count ∷ []) → b ≡ blockAt ps (modelOf t) k
   unfolding blockAt
   sizes-at ek eb = rw (eb, P .counted-right, ek)
 
-  pub desk-at : (k ≡ 0 → ⊥) → k ≤ t .core .n → (let d = getD (t .core .desks) (k - 1) desk0 in b ≡ block 2 k (deskBytes ps k (place (d .applied)) (place (d .clock .at)))) → b ≡ blockAt ps (modelOf t) k
+  pub desk-at : (k ≡ 0 → ⊥) → k ≤ t .core .n → (let d = getD (t .core .desks) (k - 1) desk0 in b ≡ blockOf ps 2 k (deskBytes ps k (place (d .applied)) (place (d .clock .at)))) → b ≡ blockAt ps (modelOf t) k
   unfolding blockAt appliedM clockM
   desk-at z h eb =
       let e : suc (k - 1) ≡ k = omega arith in
-      rw (ne-eqb k 0 z, le-leb k (t .core .n) h) (eb ∙ ap (λ (j : ℕ). block 2 k (deskBytes ps k (appliedM (t .core .desks) j) (clockM (t .core .desks) j))) e)
+      rw (ne-eqb k 0 z, le-leb k (t .core .n) h) (eb ∙ ap (λ (j : ℕ). blockOf ps 2 k (deskBytes ps k (appliedM (t .core .desks) j) (clockM (t .core .desks) j))) e)
 
   pub cells-at : t .core .n < k → k < e
-      → b ≡ block 3 k (cat (cellPiece ps (t .cells) ((k - (1 + t .core .n)) / c) ((k - (1 + t .core .n)) % c)) (cells-in ps)) → b ≡ blockAt ps (modelOf t) k
+      → b ≡ blockOf ps 3 k (cat (cellPiece ps (t .cells) ((k - (1 + t .core .n)) / c) ((k - (1 + t .core .n)) % c)) (cells-in ps)) → b ≡ blockAt ps (modelOf t) k
   unfolding blockAt cellPart
   cells-at h g eb =
       let l : k < 1 + t .core .n + perDesk ps (t .core .m) * t .core .n = rw (P .opens-from, P .row) at g in
       rw (eb, ne-eqb k 0 (λ z. omega arith), lt-leb k (t .core .n) h, lt-ltb k _ l, P .row)
 
-  pub opens-at-place : t .core .n < k → e ≤ k → b ≡ block 4 k (cat (openPiece ps (t .opens) order count (k - e)) (opens-in ps)) → b ≡ blockAt ps (modelOf t) k
+  pub opens-at-place : t .core .n < k → e ≤ k → b ≡ blockOf ps 4 k (cat (openPiece ps (t .opens) order count (k - e)) (opens-in ps)) → b ≡ blockAt ps (modelOf t) k
   unfolding blockAt openPart
   opens-at-place h g eb =
       let q : e ≡ 1 + t .core .n + perDesk ps (t .core .m) * t .core .n = P .opens-from ∙ rw (P .row) in

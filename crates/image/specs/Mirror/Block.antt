@@ -21,8 +21,8 @@ pub record SmallOpen (o : Open) : Type 0 where
   pub marks : (t : ℕ) → getD (o .marks) t 0 < 256
 
 -- the head of a block
-abbrev pub head : ℕ → ℕ → List ℕ
-head kind at = kind ∷ 1 ∷ word at
+abbrev pub head : ℕ → ℕ → ℕ → List ℕ
+head edition kind at = kind ∷ edition ∷ word at
 
 sealed-sets : (b : List ℕ) → length b ≡ check-at → sets (b ++ replicate 4 0) check-at (long (checkOf (b ++ replicate 4 0))) ≡ sealed b
 sealed-sets b e =
@@ -32,18 +32,18 @@ sealed-sets b e =
     let d : drop (check-at + 4) (b ++ z) ≡ [] = rw e at (drop-append-add b z 4) in
     rw c (sets-eq (long (checkOf b)) (b ++ z) check-at (omega arith) ∙ rw (take-at b z check-at e, d, append-nil))
 
-body-put : (kind at : ℕ) (l : List ℕ) → length l ≤ payload-bytes → sets (replicate block-bytes 0) 0 (head kind at ++ l) ≡ body kind at l ++ replicate 4 0
-body-put kind at l h =
+body-put : (edition kind at : ℕ) (l : List ℕ) → length l ≤ payload-bytes → sets (replicate block-bytes 0) 0 (head edition kind at ++ l) ≡ body edition kind at l ++ replicate 4 0
+body-put edition kind at l h =
     let e : block-bytes - suc (suc (suc (suc (length l)))) ≡ (payload-bytes - length l) + 4 = omega arith in
-    zeros-put block-bytes (head kind at ++ l) (omega arith) ∙ rw (e, append-assoc l, replicate-append-replicate (payload-bytes - length l))
+    zeros-put block-bytes (head edition kind at ++ l) (omega arith) ∙ rw (e, append-assoc l, replicate-append-replicate (payload-bytes - length l))
 
 -- a block of the code: its head put into zeros, its payload behind that, and then its check
-pub made : (kind at : ℕ) (l : List ℕ) {b0 b1 b : List ℕ} → length l ≤ payload-bytes → b0 ≡ sets (replicate block-bytes 0) 0 (head kind at) → b1 ≡ sets b0 payload-at l
-    → b ≡ sets b1 check-at (long (checkOf b1)) → b ≡ block kind at l
+pub made : (edition kind at : ℕ) (l : List ℕ) {b0 b1 b : List ℕ} → length l ≤ payload-bytes → b0 ≡ sets (replicate block-bytes 0) 0 (head edition kind at) → b1 ≡ sets b0 payload-at l
+    → b ≡ sets b1 check-at (long (checkOf b1)) → b ≡ block edition kind at l
 unfolding block
-made kind at l h e0 e1 e =
-    let z = e1 ∙ rw e0 (then-put (replicate block-bytes 0) (head kind at) l 0 payload-at refl) ∙ body-put kind at l h in
-    e ∙ rw z (sealed-sets (body kind at l) (length-body kind at l h))
+made edition kind at l h e0 e1 e =
+    let z = e1 ∙ rw e0 (then-put (replicate block-bytes 0) (head edition kind at) l 0 payload-at refl) ∙ body-put edition kind at l h in
+    e ∙ rw z (sealed-sets (body edition kind at l) (length-body edition kind at l h))
 
 -- pieces of zeros at its end need not be put: the rest of a block is zeros
 cat-zeros : (f : ℕ → List ℕ) (w n d : ℕ) → ((j : ℕ) → n ≤ j → j < n + d → f j ≡ replicate w 0) → cat f (n + d) ≡ cat f n ++ replicate (w * d) 0
@@ -55,10 +55,10 @@ cat-zeros f w n (suc d) h =
     rw (a, cat-zeros f w n d (λ j g l. h j g (omega arith)), h (n + d) (omega arith) (omega arith), e)
     (append-assoc (cat f n) (replicate (w * d) 0) (replicate w 0) ∙ rw (replicate-append-replicate {A = ℕ} (w * d) w 0))
 
-pub zeros-behind : (kind at w n all : ℕ) (f : ℕ → List ℕ) → n ≤ all → ((j : ℕ) → length (f j) ≡ w) → w * all ≤ payload-bytes
-    → ((j : ℕ) → n ≤ j → j < all → f j ≡ replicate w 0) → block kind at (cat f n) ≡ block kind at (cat f all)
+pub zeros-behind : (edition kind at w n all : ℕ) (f : ℕ → List ℕ) → n ≤ all → ((j : ℕ) → length (f j) ≡ w) → w * all ≤ payload-bytes
+    → ((j : ℕ) → n ≤ j → j < all → f j ≡ replicate w 0) → block edition kind at (cat f n) ≡ block edition kind at (cat f all)
 unfolding block
-zeros-behind kind at w n all f h l fits z =
+zeros-behind edition kind at w n all f h l fits z =
     let d : ℕ = all - n in
     let e : all ≡ n + d = omega arith in
     let m = ap (λ (x : ℕ). w * x) e in
@@ -67,7 +67,7 @@ zeros-behind kind at w n all f h l fits z =
     let r : payload-bytes - length (cat f n) ≡ w * d + (payload-bytes - length (cat f n ++ replicate (w * d) 0)) = rw (length-append, length-replicate) (omega arith) in
     let q : cat f n ++ replicate (payload-bytes - length (cat f n)) 0 ≡ cat f all ++ replicate (payload-bytes - length (cat f all)) 0 =
     rw (c, append-assoc (cat f n), replicate-append-replicate {A = ℕ} (w * d), r) in
-    ap (λ (b : List ℕ). sealed (kind ∷ 1 ∷ (word at ++ b))) q
+    ap (λ (b : List ℕ). sealed (kind ∷ edition ∷ (word at ++ b))) q
 
 -- where a vector takes ps places
 module _ (ps : ℕ) where

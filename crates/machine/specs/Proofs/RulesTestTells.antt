@@ -11,7 +11,7 @@ use Rattle.machine.specs.RulesTest.{cellRules, lacking, markAt, writeAt,
 bounded : {P : Type 0} (a b : ℕ) → (1 ≤ a → P) → (P → a ≤ b) → a ≤ b
 bounded a b f g = same-or a 0 (λ e. omega arith) (λ e. g (f (omega arith)))
 
--- at the 8 places, so at all
+-- at every desk's place, so at all
 below-all : (v w : Vec) → Flat most-desks v → belowAt v w .holds → Below v w
 below-all v w f h t = bounded (v t) (w t) (f t) (λ i. h t (i .0) (i .1))
 

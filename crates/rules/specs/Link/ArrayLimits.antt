@@ -21,7 +21,7 @@ flat-place l e (suc t) h =
     (λ b. (omega arith, ltb-true t places b))
     (λ b. absurd (omega (arith, place-out l (suc t) (omega (arith, ltb-false t places b)))))
 
--- zero at the 8 places, so at all
+-- zero at all the places of an array, so at all
 pub zero-all : (l : List ℕ) → length l ≡ places → ((t : ℕ) → 1 ≤ t → t ≤ places → place l t ≡ 0) → (t : ℕ) → place l t ≡ 0
 zero-all l e h t = same-or (place l t) 0 (λ q. q) (λ q. let b = flat-place l e t (omega arith) in h t (b .0) (b .1))
 

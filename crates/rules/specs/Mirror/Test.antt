@@ -35,7 +35,7 @@ gapAt own os t = gapOf (has os (suc t)) (getD own t 0)
 unfoldable pub gaps : List ℕ → List ℕ → List ℕ
 gaps own os = tab places (gapAt own os)
 
--- a vector at most another, and one of zeros, at the 8 places --
+-- a vector at most another, and one of zeros, at all the places of an array --
 
 abbrev pub noughts : List ℕ
 noughts = replicate places 0
