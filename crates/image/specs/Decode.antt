@@ -23,6 +23,10 @@ mIn b = getD b (payload-at + 1) 0
 abbrev pub countIn : List ℕ → ℕ
 countIn b = getD b (payload-at + 2) 0
 
+-- the places of its vectors follow from n, wherever that was read; the edition is not looked at
+abbrev pub placesIn : List ℕ → ℕ
+placesIn b = placesFor (nIn b)
+
 -- where the fields stand: p of a desk's payload; a cell; an open write
 abbrev pub deskPlace : ℕ → ℕ → ℕ
 deskPlace p i = block-bytes + (block-bytes * i + (payload-at + p))
@@ -211,9 +215,8 @@ module _ (ps : ℕ) where
     unfolding decodeAt
     read-back = rw (n-back s, m-back s, applied-back, clock-back, cell-back, opens-back)
 
--- the places of its vectors follow from n, wherever that was read; the edition is not looked at
 abbrev pub decode : List ℕ → State
-decode b = decodeAt (placesFor (nIn b)) b
+decode b = decodeAt (placesIn b) b
 
 -- decode undoes encode
 pub decode-encode : (s : State) → Rules s → decode (encode s) ≡ s

@@ -4,6 +4,7 @@ pub mod Encode
 pub mod Fields
 pub mod Decode
 pub mod Load
+pub mod Editions
 pub mod Saving
 pub mod Unique
 pub mod Examples

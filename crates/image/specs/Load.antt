@@ -4,7 +4,7 @@ use Rattle.laws.specs.Tests.{same, says-same}
 use Rattle.machine.specs.{Table.{State}, Answer.{Refusal, damaged, broken}, Rules.{Rules}, RulesTest.{keeps}}
 use Rattle.machine.specs.Proofs.RulesTestTells.{says-rules}
 use Rattle.image.specs.{Encode.{encode}, Decode.{decode, decode-encode}, Damage.{Undamaged, Damaged, sound, says-sound, sound-encode}}
-use Rattle.image.specs.{Decode.{nIn}, Link.ReadShape.{shaped}, Limits.{placesFor, places-most, wide}}
+use Rattle.image.specs.{Decode.{nIn, placesIn}, Link.ReadShape.{shaped}, Limits.{placesFor, places-most, wide}}
 
 pub data Loaded : Type 0 where
   refused : Refusal → Loaded
@@ -52,7 +52,7 @@ read-back b s r e = ap decode (sym e) ∙ decode-encode s r
 
 -- of what was read, the test tells of the rules
 says-read : (b : List ℕ) → Says (keeps (decode b)) (Rules (decode b))
-says-read b = says-rules (decode b) (shaped (placesFor (nIn b)) (places-most (nIn b)) b)
+says-read b = says-rules (decode b) (shaped (placesIn b) (places-most (nIn b)) b)
 
 -- it comes to what load gives, and so to one thing only
 pub loads-is : (b : List ℕ) (x : Loaded) → Loads b x → x ≡ load b

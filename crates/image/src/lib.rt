@@ -6,10 +6,11 @@ ghost use Prim.Native.Nat.{ℕ, suc, _+_, _-_, _*_, _/_, _<_, _≤_, min};
 ghost use lib.ListN.{getD, length, take};
 ghost use lib.Seq.{sets};
 ghost use Rattle.laws.specs.Cat.{cat};
+ghost use Rattle.laws.specs.Says.{Says};
 ghost use Rattle.clock.specs.Vectors.{places, place};
 ghost use Rattle.image.specs.Limits.{placesFor, editionOf, block-bytes, check-at, payload-bytes, vector-bytes, after-vector, cell-bytes, open-bytes, cells-in, opens-in, blocks-for, row-most, opens-most};
 ghost use Rattle.image.specs.Check.{checkOf};
-ghost use Rattle.image.specs.Encode.{word, long, vectorWords, markBytes, deskBytes, blockOf, perDesk, encodeAt, encode};
+ghost use Rattle.image.specs.Encode.{word, long, vectorWords, markBytes, deskBytes, blockOf, perDesk, encode};
 ghost use Rattle.image.specs.Damage.{rightCheck, sound};
 ghost use Rattle.image.specs.Mirror.Block.{head, openRaw, SmallOpen};
 ghost use Rattle.image.specs.Mirror.TableBytes.{CellsFit, cellPiece, OrderFits, openPiece};
@@ -375,24 +376,25 @@ pub fn copy(part: &[u8], len: usize, out: &mut [u8], at: usize)
     }
 }
 
-// The block at place k: the sizes, the desks, then their cells, c blocks to a desk, and from place e on the open writes.
-fn block_at(
+// How the blocks of a table stand: the places of a vector, the open writes, the blocks to a desk's cells, all blocks before the open writes, and
+// all blocks.
+struct Plan {
     p: usize,
-    core: Core,
-    cells: &Cells,
-    opens: &Opens,
-    order: &[usize; OPENS],
     count: usize,
-    c: usize,
-    e: usize,
+    row: usize,
+    ahead: usize,
     total: usize,
-    k: usize,
-) -> [u8; BLOCK]
-    requires { ⌜ Planned p (tableWith core (now cells) (now opens)) (now order) count c e total × (k < total) ⌝ }
-    ensures { λ r. ⌜ r ≡ blockAt p (modelOf (tableWith core (now (cells .entry)) (now (opens .entry)))) k ⌝ }
+}
+
+// The block at place k: the sizes, the desks, then their cells, and then the open writes.
+fn block_at(core: Core, cells: &Cells, opens: &Opens, order: &[usize; OPENS], plan: Plan, k: usize) -> [u8; BLOCK]
+    requires { ⌜ Planned (tableWith core (now cells) (now opens)) (now order) plan × (k < plan .total) ⌝ }
+    ensures { λ r. ⌜ r ≡ blockAt (plan .p) (modelOf (tableWith core (now (cells .entry)) (now (opens .entry)))) k ⌝ }
 {
     let n = core.n;
     let m = core.m;
+    let p = plan.p;
+    let count = plan.count;
     if k == 0 {
         return size_block(p, n as u16, m as u16, count as u16);
     }
@@ -401,34 +403,62 @@ fn block_at(
         let d = desks[k - 1];
         return desk_block(p, k as u16, d);
     }
-    if k < e {
+    let first = plan.ahead;
+    if k < first {
         let q = k - (1 + n);
-        return cell_block(p, k as u16, cells, q / c, q % c);
+        let row = plan.row;
+        return cell_block(p, k as u16, cells, q / row, q % row);
     }
-    open_block(p, k as u16, opens, order, count, k - e)
+    open_block(p, k as u16, opens, order, count, k - first)
 }
 
-fn save_blocks(
-    p: usize,
-    core: Core,
-    cells: &Cells,
-    opens: &Opens,
-    order: &[usize; OPENS],
-    count: usize,
-    c: usize,
-    e: usize,
-    total: usize,
-    out: &mut [u8],
-)
-    requires { ⌜ Planned p (tableWith core (now cells) (now opens)) (now order) count c e total × (block-bytes * total ≤ length (now out)) ⌝ }
-    ensures { λ _. ⌜ now (out .exit) ≡ sets (now (out .entry)) 0 (encodeAt p (modelOf (tableWith core (now (cells .entry)) (now (opens .entry))))) ⌝ }
+fn save_blocks(core: Core, cells: &Cells, opens: &Opens, order: &[usize; OPENS], plan: Plan, out: &mut [u8])
+    requires { ⌜ Planned (tableWith core (now cells) (now opens)) (now order) plan × (block-bytes * plan .total ≤ length (now out)) ⌝ }
+    ensures { λ _. ⌜ now (out .exit) ≡ sets (now (out .entry)) 0 (encode (modelOf (tableWith core (now (cells .entry)) (now (opens .entry))))) ⌝ }
 {
+    let total = plan.total;
     let mut k = 0;
     while k < total {
-        let b = block_at(p, core, cells, opens, order, count, c, e, total, k);
+        let b = block_at(core, cells, opens, order, plan, k);
         copy(&b, BLOCK, out, BLOCK * k);
         k += 1;
     }
+}
+
+// Are two parts of one length the same bytes?
+fn same(a: &[u8], b: &[u8]) -> bool
+    requires { ⌜ length (now a) ≡ length (now b) ⌝ }
+    ensures { λ r. ⌜ Says r (now (a .entry) ≡ now (b .entry)) ⌝ }
+{
+    // No way out in the middle: the compiler then compares many bytes at a time.
+    let mut same = true;
+    let mut i = 0;
+    while i < a.len() {
+        if a[i] != b[i] {
+            same = false;
+        }
+        i += 1;
+    }
+    same
+}
+
+// Are the blocks of a table those of b, which is as long?
+fn same_blocks(core: Core, cells: &Cells, opens: &Opens, order: &[usize; OPENS], plan: Plan, b: &[u8]) -> bool
+    requires { ⌜ Planned (tableWith core (now cells) (now opens)) (now order) plan × (length (now b) ≡ block-bytes * plan .total) ⌝ }
+    ensures { λ r. ⌜ Says r (encode (modelOf (tableWith core (now (cells .entry)) (now (opens .entry)))) ≡ now (b .entry)) ⌝ }
+{
+    let total = plan.total;
+    let mut k = 0;
+    while k < total {
+        let x = block_at(core, cells, opens, order, plan, k);
+        let at = BLOCK * k;
+        let e = at + BLOCK;
+        if !same(&x, &b[at..e]) {
+            return false;
+        }
+        k += 1;
+    }
+    true
 }
 
 // The open writes, by writer then number --
@@ -563,23 +593,51 @@ pub fn image_length(core: Core) -> usize
     length_of(n, m, count)
 }
 
+// The order of the open writes of a table that keeps the rules, and how its blocks stand. (The cells are there for the contract alone.)
+fn planned(core: Core, cells: &Cells, opens: &Opens, order: &mut [usize; OPENS]) -> Plan
+    requires { ⌜ SoundTable (tableWith core (now cells) (now opens)) ⌝ }
+    ensures { λ r. ⌜ Planned (tableWith core (now (cells .entry)) (now (opens .entry))) (now (order .exit)) r ⌝ }
+{
+    let n = core.n;
+    let m = core.m;
+    let desks = core.desks;
+    let count = order_all(opens, desks, n, order);
+    let p = places_for(n);
+    let row = per_desk(p, m);
+    let ahead = cells_end(n, row);
+    let total = ahead + blocks_for(opens_in(p), count);
+    Plan {
+        p: p,
+        count: count,
+        row: row,
+        ahead: ahead,
+        total: total,
+    }
+}
+
 // The image of a table that keeps the rules, into a buffer that is long enough. The result is the image's length.
 pub fn save_parts(core: Core, cells: &Cells, opens: &Opens, out: &mut [u8]) -> usize
     requires { ⌜ SoundTable (tableWith core (now cells) (now opens)) ⌝ }
     requires { ⌜ length (encode (modelOf (tableWith core (now cells) (now opens)))) ≤ length (now out) ⌝ }
     ensures { λ r. ⌜ Saved (modelOf (tableWith core (now (cells .entry)) (now (opens .entry)))) (now (out .entry)) (now (out .exit)) r ⌝ }
 {
-    let n = core.n;
-    let m = core.m;
-    let desks = core.desks;
     let mut order = [0usize; OPENS];
-    let count = order_all(opens, desks, n, &mut order);
-    let p = places_for(n);
-    let c = per_desk(p, m);
-    let e = cells_end(n, c);
-    let total = e + blocks_for(opens_in(p), count);
-    save_blocks(p, core, cells, opens, &order, count, c, e, total, out);
-    BLOCK * total
+    let plan = planned(core, cells, opens, &mut order);
+    save_blocks(core, cells, opens, &order, plan, out);
+    BLOCK * plan.total
+}
+
+// Is b the image of a table that keeps the rules?
+pub fn is_image(core: Core, cells: &Cells, opens: &Opens, b: &[u8]) -> bool
+    requires { ⌜ SoundTable (tableWith core (now cells) (now opens)) ⌝ }
+    ensures { λ r. ⌜ Says r (encode (modelOf (tableWith core (now (cells .entry)) (now (opens .entry)))) ≡ now (b .entry)) ⌝ }
+{
+    let mut order = [0usize; OPENS];
+    let plan = planned(core, cells, opens, &mut order);
+    if b.len() != BLOCK * plan.total {
+        return false;
+    }
+    same_blocks(core, cells, opens, &order, plan, b)
 }
 
 // What save answers: the image's length, or refusal 13 (Broken) or 14 (Short).

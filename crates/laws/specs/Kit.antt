@@ -12,7 +12,7 @@ pub use lib.ListN.{length-map, length-replicate, length-set, length-take, replic
 pub use lib.ListN.{take-append-drop}
 pub use lib.Seq.{drop-append-add, drop-append-le, drop-at, drop-cons, drop-drop, drop-length, ext-getD, getD-append-add, getD-drop}
 pub use lib.Seq.{getD-set-other, getD-set-same, getD-take, length-sets, length-take-le, set-at, set-comm, set-getD, sets, sets-eq, take-all}
-pub use lib.Seq.{take-append-le, take-append-seam, take-at, take-length, take-suc, take-take}
+pub use lib.Seq.{take-add, take-append-le, take-append-seam, take-at, take-length, take-suc, take-take}
 pub use mathlib.Core.Bool.{Bool, _&&_, _||_, and-false, false, not, true}
 pub use mathlib.Core.List.{List, List·Memᴰ, List·Memᴰ·append-cases, List·Memᴰ·cases-cons, List·Memᴰ·eq-of-singleton, List·Memᴰ·head}
 pub use mathlib.Core.List.{List·Memᴰ·not-nil, List·Memᴰ·tail, Memᴰ·append-left, Memᴰ·append-right, Memᴰ·cast, [], _++_, _∷_, append-assoc}

@@ -4,12 +4,11 @@ use Rattle.laws.specs.Kit.{replicate, length-replicate, sets, sets-eq, take-app
 use Rattle.laws.specs.Says.{Says, apart, says-as}
 use Rattle.machine.specs.{Table.{State}, Answer.{damaged, broken}, Rules.{Rules}}
 use Rattle.table.specs.{declared.Table.{Table}, Beginning.{freshTable}, Model.{modelOf}, Sound.{SoundTable}}
-use Rattle.image.specs.{Encode.{encode}, ImageSize.{most-blocks}, Link.FieldPlaces.{length-encode}, Load.{Loaded, refused, loaded, Loads}}
-use Rattle.image.specs.{Load.{by-damage, by-rule, as-saved}, Limits.{wide, image-bytes}}
+use Rattle.image.specs.{Encode.{encode}, Load.{Loaded, refused, loaded, Loads}}
+use Rattle.image.specs.{Load.{by-damage, by-rule, as-saved}, Limits.{broad, image-bytes}}
 use Rattle.image.specs.Damage as whole
 use Rattle.load.specs.{declared.Outcome.{Outcome}, Link.ReadsBack.{ReadsRight}}
 use Rattle.load.specs.declared.Outcome.the-variants as outcome
-use Rattle.clock.specs.Vectors.{places}
 
 -- the table, or a refusal
 abbrev pub loadedOf : Outcome → Table → Loaded
@@ -52,10 +51,6 @@ same-all a b h f =
 pub same-at : (a b : List ℕ) (i : ℕ) → i < length a → a ≡ take (length a) b → getD a i 0 ≡ getD b i 0
 same-at a b i h e = ap (λ (l : List ℕ). getD l i 0) e ∙ getD-take (length a) b i 0 h
 
--- "The largest image is 37 blocks."
-pub image-most : (s : State) → Rules s → length (encode s) ≤ (image-bytes places)
-image-most s r = omega (arith, most-blocks places wide s r (r .frame .ranges .desks .1), length-encode places wide s)
-
 -- the answers, by the code's tests
 pub damaged-so : (b : List ℕ) (o : Outcome) (t : Table) → o ≡ outcome.Damaged → t ≡ freshTable 0 0 → whole.sound b ≡ false → Answers b o t
 damaged-so b o t eo et f = rw eo (λ s. apart (whole.sound b) (whole.says-sound b .from s) f, et)
@@ -63,11 +58,11 @@ damaged-so b o t eo et f = rw eo (λ s. apart (whole.sound b) (whole.says-sound 
 pub broken-so : (b : List ℕ) (o : Outcome) (t : Table) → o ≡ outcome.Broken → t ≡ freshTable 0 0 → whole.sound b ≡ true → ((s : State) → Rules s → encode s ≡ b → ⊥) → Answers b o t
 broken-so b o t eo et f g = rw eo ((whole.says-sound b .to f, g), et)
 
--- in a buffer of 37 blocks
-pub buffer-long : (after vs : List ℕ) → after ≡ sets (replicate (image-bytes places) 0) 0 vs → length after ≡ (image-bytes places)
-buffer-long after vs e = ap length e ∙ length-sets (replicate (image-bytes places) 0) 0 vs ∙ length-replicate {A = ℕ} (image-bytes places) 0
+-- in a buffer of that length
+pub buffer-long : (after vs : List ℕ) → after ≡ sets (replicate (image-bytes broad) 0) 0 vs → length after ≡ (image-bytes broad)
+buffer-long after vs e = ap length e ∙ length-sets (replicate (image-bytes broad) 0) 0 vs ∙ length-replicate {A = ℕ} (image-bytes broad) 0
 
-pub buffer-says : (r : Bool) (b after vs : List ℕ) → after ≡ sets (replicate (image-bytes places) 0) 0 vs → length b ≡ length vs → length vs ≤ (image-bytes places) → Says r (b ≡ take (length b) after) → Says r (vs ≡ b)
+pub buffer-says : (r : Bool) (b after vs : List ℕ) → after ≡ sets (replicate (image-bytes broad) 0) 0 vs → length b ≡ length vs → length vs ≤ (image-bytes broad) → Says r (b ≡ take (length b) after) → Says r (vs ≡ b)
 buffer-says r b after vs ea e h s =
-    let p : take (length b) after ≡ vs = rw (ea, e) (saved-part (replicate (image-bytes places) 0) vs (rw (length-replicate (image-bytes places)) h)) in
+    let p : take (length b) after ≡ vs = rw (ea, e) (saved-part (replicate (image-bytes broad) 0) vs (rw (length-replicate (image-bytes broad)) h)) in
     says-as r s (λ q. sym (q ∙ p)) (λ q. sym (p ∙ q))

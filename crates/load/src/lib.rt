@@ -5,33 +5,27 @@ ghost use lib.ListN.{length, take, replicate};
 ghost use Rattle.laws.specs.Says.{Says};
 ghost use Rattle.laws.specs.Tab.{tab};
 ghost use Rattle.clock.specs.Vectors.{places};
-ghost use Rattle.table.specs.Value.{all-cells, entries, open-width};
+ghost use Rattle.table.specs.Value.{desk-cells, all-cells, cell-width, entries, open-width};
 ghost use Rattle.table.specs.Model.{modelOf, tableWith};
 ghost use Rattle.table.specs.Sound.{SoundTable};
 ghost use Rattle.table.specs.Beginning.{freshTable};
-ghost use Rattle.image.specs.Limits.{block-bytes, payload-at, payload-bytes, vector-bytes, cell-bytes, open-bytes, row-most, rows-most, opens-most};
-ghost use Rattle.image.specs.Encode.{perDesk, encode};
-ghost use Rattle.image.specs.Decode.{nIn, mIn, countIn, openPlace};
-ghost use Rattle.load.specs.Mirror.ImageRead.{wordAt, wordsFrom, bytesFrom, cellFrom, openFrom, deskFrom, deskFor, cellFor, Fits, CellsRead};
+ghost use Rattle.image.specs.Limits.{block-bytes, payload-at, payload-bytes, vector-bytes, cell-bytes, open-bytes};
+ghost use Rattle.image.specs.Encode.{encode};
+ghost use Rattle.image.specs.Decode.{placesIn, openPlace};
+ghost use Rattle.load.specs.Mirror.ImageRead.{wordAt, wordsFrom, bytesFrom, cellFrom, openFrom, deskFrom, deskFor, cellFor, Fits, Sized, CellsRead};
 ghost use Rattle.load.specs.Link.EntryEach.{OpensRead};
 ghost use Rattle.load.specs.Link.ReadsBack.{ReadAs, ReadsRight};
 ghost use Rattle.load.specs.Loading.{Answers};
 use clock::Clock;
 use clock::PLACES;
-use image::AFTER_VECTOR;
 use image::APPLIED_AT;
 use image::BLOCK;
-use image::CELL_BYTES;
 use image::CELLS_AT;
-use image::CELLS_IN;
 use image::COUNT_AT;
 use image::DESKS_AT;
 use image::IMAGE;
-use image::OPEN_BYTES;
-use image::OPENS_IN;
 use image::PAYLOAD_AT;
 use image::VECTOR_AT;
-use image::VECTOR_BYTES;
 use table::CELL;
 use table::CELLS;
 use table::Cell;
@@ -68,39 +62,40 @@ fn word_at(b: &[u8], at: usize) -> u16
     lo + 256 * hi
 }
 
-fn words_at(b: &[u8], at: usize) -> [u16; PLACES]
-    requires { ⌜ at + vector-bytes places ≤ length (now b) ⌝ }
-    ensures { λ r. ⌜ r ≡ wordsFrom places (now (b .entry)) at ⌝ }
+// A vector of p places, and p marks: zeros in the others.
+fn words_at(b: &[u8], at: usize, p: usize) -> [u16; PLACES]
+    requires { ⌜ (p ≤ places) × (at + vector-bytes p ≤ length (now b)) ⌝ }
+    ensures { λ r. ⌜ r ≡ wordsFrom p (now (b .entry)) at ⌝ }
 {
     let mut v = [0u16; PLACES];
     let mut t = 0;
-    while t < PLACES {
+    while t < p {
         v[t] = word_at(b, at + 2 * t);
         t += 1;
     }
     v
 }
 
-fn bytes_at(b: &[u8], at: usize) -> [u16; PLACES]
-    requires { ⌜ at + places ≤ length (now b) ⌝ }
-    ensures { λ r. ⌜ r ≡ bytesFrom places (now (b .entry)) at ⌝ }
+fn bytes_at(b: &[u8], at: usize, p: usize) -> [u16; PLACES]
+    requires { ⌜ (p ≤ places) × (at + p ≤ length (now b)) ⌝ }
+    ensures { λ r. ⌜ r ≡ bytesFrom p (now (b .entry)) at ⌝ }
 {
     let mut v = [0u16; PLACES];
     let mut t = 0;
-    while t < PLACES {
+    while t < p {
         v[t] = wide(b[at + t]);
         t += 1;
     }
     v
 }
 
-fn read_cell(b: &[u8], at: usize) -> Cell
-    requires { ⌜ at + cell-bytes places ≤ length (now b) ⌝ }
-    ensures { λ r. ⌜ r ≡ cellFrom places (now (b .entry)) at ⌝ }
+fn read_cell(b: &[u8], at: usize, p: usize) -> Cell
+    requires { ⌜ (p ≤ places) × (at + cell-bytes p ≤ length (now b)) ⌝ }
+    ensures { λ r. ⌜ r ≡ cellFrom p (now (b .entry)) at ⌝ }
 {
     let writer = wide(b[at]);
     let status = wide(b[at + 1]);
-    let vector = words_at(b, at + VECTOR_AT);
+    let vector = words_at(b, at + VECTOR_AT, p);
     Cell {
         writer: writer,
         status: status,
@@ -108,14 +103,14 @@ fn read_cell(b: &[u8], at: usize) -> Cell
     }
 }
 
-fn read_open(b: &[u8], at: usize) -> Open
-    requires { ⌜ at + open-bytes places ≤ length (now b) ⌝ }
-    ensures { λ r. ⌜ r ≡ openFrom places (now (b .entry)) at ⌝ }
+fn read_open(b: &[u8], at: usize, p: usize) -> Open
+    requires { ⌜ (p ≤ places) × (at + open-bytes p ≤ length (now b)) ⌝ }
+    ensures { λ r. ⌜ r ≡ openFrom p (now (b .entry)) at ⌝ }
 {
-    let c = read_cell(b, at);
+    let c = read_cell(b, at, p);
     let vector = c.vector;
     let cell = wide(b[at + 2]);
-    let marks = bytes_at(b, at + AFTER_VECTOR);
+    let marks = bytes_at(b, at + image::cell_bytes(p), p);
     Open {
         writer: c.writer,
         status: c.status,
@@ -126,13 +121,13 @@ fn read_open(b: &[u8], at: usize) -> Open
 }
 
 // The block of desk i, from 0.
-fn read_desk(b: &[u8], i: usize) -> Desk
-    requires { ⌜ (i < places) × (block-bytes + block-bytes * i + block-bytes ≤ length (now b)) ⌝ }
-    ensures { λ r. ⌜ r ≡ deskFrom places (now (b .entry)) i ⌝ }
+fn read_desk(b: &[u8], i: usize, p: usize) -> Desk
+    requires { ⌜ (p ≤ places) × ((i < places) × (block-bytes + block-bytes * i + block-bytes ≤ length (now b))) ⌝ }
+    ensures { λ r. ⌜ r ≡ deskFrom p (now (b .entry)) i ⌝ }
 {
     let at = BLOCK + (BLOCK * i + APPLIED_AT);
-    let applied = words_at(b, at);
-    let v = words_at(b, at + VECTOR_BYTES);
+    let applied = words_at(b, at, p);
+    let v = words_at(b, at + 2 * p, p);
     let clock = Clock { at: v };
     Desk {
         applied: applied,
@@ -144,7 +139,7 @@ fn read_desk(b: &[u8], i: usize) -> Desk
 
 // The sizes are in range, and the image is as long as they say.
 fn sizes_fit(b: &[u8]) -> bool
-    ensures { λ r. ⌜ Says r (Fits places (now (b .entry))) ⌝ }
+    ensures { λ r. ⌜ Says r (Fits (placesIn (now (b .entry))) (now (b .entry))) ⌝ }
 {
     if b.len() < BLOCK {
         return false;
@@ -161,12 +156,12 @@ fn sizes_fit(b: &[u8]) -> bool
     b.len() == image::length_of(n, m, count)
 }
 
-fn desk_or(b: &[u8], n: usize, i: usize) -> Desk
-    requires { ⌜ (n ≤ places) × (block-bytes + block-bytes * n ≤ length (now b)) ⌝ }
-    ensures { λ r. ⌜ r ≡ deskFor places (now (b .entry)) n i ⌝ }
+fn desk_or(b: &[u8], p: usize, n: usize, i: usize) -> Desk
+    requires { ⌜ (p ≤ places) × ((n ≤ places) × (block-bytes + block-bytes * n ≤ length (now b))) ⌝ }
+    ensures { λ r. ⌜ r ≡ deskFor p (now (b .entry)) n i ⌝ }
 {
     if i < n {
-        return read_desk(b, i);
+        return read_desk(b, i, p);
     }
     let zero = [0u16; PLACES];
     let clock = Clock { at: zero };
@@ -176,15 +171,15 @@ fn desk_or(b: &[u8], n: usize, i: usize) -> Desk
     }
 }
 
-fn read_desks(b: &[u8], n: usize) -> [Desk; PLACES]
-    requires { ⌜ (n ≤ places) × (block-bytes + block-bytes * n ≤ length (now b)) ⌝ }
-    ensures { λ r. ⌜ r ≡ tab places (deskFor places (now (b .entry)) n) ⌝ }
+fn read_desks(b: &[u8], p: usize, n: usize) -> [Desk; PLACES]
+    requires { ⌜ (p ≤ places) × ((n ≤ places) × (block-bytes + block-bytes * n ≤ length (now b))) ⌝ }
+    ensures { λ r. ⌜ r ≡ tab places (deskFor p (now (b .entry)) n) ⌝ }
 {
-    let first = desk_or(b, n, 0);
+    let first = desk_or(b, p, n, 0);
     let mut desks = [first; PLACES];
     let mut i = 0;
     while i < PLACES {
-        let d = desk_or(b, n, i);
+        let d = desk_or(b, p, n, i);
         desks[i] = d;
         i += 1;
     }
@@ -193,24 +188,33 @@ fn read_desks(b: &[u8], n: usize) -> [Desk; PLACES]
 
 // Where a field stands: r of the payload of a block, the q-th after k blocks that follow the desks'.
 fn field_place(n: usize, k: usize, q: usize, r: usize) -> usize
-    requires { ⌜ (n ≤ places) × ((k ≤ rows-most places) × ((q < row-most places + opens-most places) × (r < payload-bytes))) ⌝ }
+    requires { ⌜ (n ≤ places) × ((k ≤ all-cells) × ((q < desk-cells + entries) × (r < payload-bytes))) ⌝ }
     ensures { λ a. ⌜ a ≡ block-bytes + (block-bytes * n + (block-bytes * k + (block-bytes * q + (payload-at + r)))) ⌝ }
 {
     BLOCK + (BLOCK * n + (BLOCK * k + (BLOCK * q + (PAYLOAD_AT + r))))
 }
 
-// Row s of the cells, where a desk's cells take c blocks.
-fn cell_or(b: &[u8], n: usize, m: usize, c: usize, s: usize) -> Cell
-    requires { ⌜ (Fits places (now b)) × ((n ≡ nIn (now b)) × ((m ≡ mIn (now b)) × ((c ≡ perDesk places m) × (s < all-cells)))) ⌝ }
-    ensures { λ r. ⌜ r ≡ cellFor places (now (b .entry)) n m s ⌝ }
+// What every field's place takes: the places of a vector, the sizes, and the blocks to a desk's cells.
+pub struct Sizes {
+    pub p: usize,
+    pub n: usize,
+    pub m: usize,
+    pub count: usize,
+    pub c: usize,
+}
+
+// Row s of the cells, one of the n desks'.
+fn cell_or(b: &[u8], z: Sizes, s: usize) -> Cell
+    requires { ⌜ Sized (now b) z × (s < z .n * desk-cells) ⌝ }
+    ensures { λ r. ⌜ r ≡ cellFor (z .p) (now (b .entry)) (z .n) (z .m) s ⌝ }
 {
     let i = s / CELLS;
     let x = s % CELLS;
-    if i < n {
-        if x < m {
-            let at = field_place(n, c * i, x / CELLS_IN, CELL_BYTES * (x % CELLS_IN));
-            return read_cell(b, at);
-        }
+    if x < z.m {
+        let w = image::cell_bytes(z.p);
+        let room = image::cells_in(z.p);
+        let at = field_place(z.n, z.c * i, x / room, w * (x % room));
+        return read_cell(b, at, z.p);
     }
     let zero = [0u16; PLACES];
     Cell {
@@ -220,25 +224,29 @@ fn cell_or(b: &[u8], n: usize, m: usize, c: usize, s: usize) -> Cell
     }
 }
 
-fn read_cells(b: &[u8], n: usize, m: usize, c: usize, cells: &mut Cells)
-    requires { ⌜ (Fits places (now b)) × ((n ≡ nIn (now b)) × ((m ≡ mIn (now b)) × (c ≡ perDesk places m))) ⌝ }
-    ensures { λ _. ⌜ CellsRead places (now (b .entry)) n m (now (cells .exit)) ⌝ }
+// Into zeros: the rows past the n desks' stay.
+fn read_cells(b: &[u8], z: Sizes, cells: &mut Cells)
+    requires { ⌜ Sized (now b) z × (now cells ≡ replicate (all-cells * cell-width) 0) ⌝ }
+    ensures { λ _. ⌜ CellsRead (z .p) (now (b .entry)) (z .n) (z .m) (now (cells .exit)) ⌝ }
 {
+    let end = z.n * CELLS;
     let mut s = 0;
-    while s < PLACES * CELLS {
-        let x = cell_or(b, n, m, c, s);
+    while s < end {
+        let x = cell_or(b, z, s);
         table::put_cell(cells, s, x);
         s += 1;
     }
 }
 
-// Open write p of the image.
-fn open_of(b: &[u8], n: usize, m: usize, c: usize, count: usize, p: usize) -> Open
-    requires { ⌜ (Fits places (now b)) × ((n ≡ nIn (now b)) × ((m ≡ mIn (now b)) × ((c ≡ perDesk places m) × ((count ≡ countIn (now b)) × (p < count))))) ⌝ }
-    ensures { λ r. ⌜ r ≡ openFrom places (now (b .entry)) (openPlace places n m p) ⌝ }
+// Open write j of the image.
+fn open_of(b: &[u8], z: Sizes, j: usize) -> Open
+    requires { ⌜ Sized (now b) z × (j < z .count) ⌝ }
+    ensures { λ r. ⌜ r ≡ openFrom (z .p) (now (b .entry)) (openPlace (z .p) (z .n) (z .m) j) ⌝ }
 {
-    let at = field_place(n, c * n, p / OPENS_IN, OPEN_BYTES * (p % OPENS_IN));
-    read_open(b, at)
+    let w = image::open_bytes(z.p);
+    let room = image::opens_in(z.p);
+    let at = field_place(z.n, z.c * z.n, j / room, w * (j % room));
+    read_open(b, at, z.p)
 }
 
 // The write's number, and 0 where its writer is no desk.
@@ -255,20 +263,20 @@ fn number_of(o: Open) -> u16 {
 }
 
 // Each goes into the entry where a search for it begins, or a free one behind that.
-fn read_opens(b: &[u8], n: usize, m: usize, c: usize, count: usize, opens: &mut Opens)
-    requires { ⌜ (Fits places (now b)) × ((n ≡ nIn (now b)) × ((m ≡ mIn (now b)) × ((c ≡ perDesk places m) × (count ≡ countIn (now b))))) ⌝ }
-    requires { ⌜ now opens ≡ replicate (entries * open-width) 0 ⌝ }
-    ensures { λ _. ⌜ OpensRead places (now (b .entry)) n m count (now (opens .exit)) ⌝ }
+fn read_opens(b: &[u8], z: Sizes, opens: &mut Opens)
+    requires { ⌜ Sized (now b) z × (now opens ≡ replicate (entries * open-width) 0) ⌝ }
+    ensures { λ _. ⌜ OpensRead (z .p) (now (b .entry)) (z .n) (z .m) (z .count) (now (opens .exit)) ⌝ }
 {
-    let mut p = 0;
-    while p < count {
-        let o = open_of(b, n, m, c, count, p);
+    let count = z.count;
+    let mut j = 0;
+    while j < count {
+        let o = open_of(b, z, j);
         let found = table::find_free(opens, table::wide(o.writer), number_of(o));
         let Found::At(e) = found else {
             return;
         };
         table::put_open(opens, e, o);
-        p += 1;
+        j += 1;
     }
 }
 
@@ -289,24 +297,40 @@ fn candidate(b: &[u8]) -> Table
     read_table(b)
 }
 
-fn read_table(b: &[u8]) -> Table
-    requires { ⌜ Fits places (now b) ⌝ }
-    ensures { λ r. ⌜ ReadAs places (now (b .entry)) r ⌝ }
+// The sizes that an image tells of itself.
+fn sizes_of(b: &[u8]) -> Sizes
+    requires { ⌜ Fits (placesIn (now b)) (now b) ⌝ }
+    ensures { λ r. ⌜ Sized (now (b .entry)) r ⌝ }
 {
     let n = size(b[DESKS_AT]);
     let m = size(b[CELLS_AT]);
     let count = size(b[COUNT_AT]);
-    let desks = read_desks(b, n);
-    let core = Core {
+    let p = image::places_for(n);
+    let c = image::per_desk(p, m);
+    Sizes {
+        p: p,
         n: n,
         m: m,
+        count: count,
+        c: c,
+    }
+}
+
+fn read_table(b: &[u8]) -> Table
+    requires { ⌜ Fits (placesIn (now b)) (now b) ⌝ }
+    ensures { λ r. ⌜ ReadAs (placesIn (now (b .entry))) (now (b .entry)) r ⌝ }
+{
+    let z = sizes_of(b);
+    let desks = read_desks(b, z.p, z.n);
+    let core = Core {
+        n: z.n,
+        m: z.m,
         desks: desks,
     };
-    let c = image::per_desk(m);
     let mut cells = [0u16; PLACES * CELLS * CELL];
-    read_cells(b, n, m, c, &mut cells);
+    read_cells(b, z, &mut cells);
     let mut opens = [0u16; OPENS * OPEN];
-    read_opens(b, n, m, c, count, &mut opens);
+    read_opens(b, z, &mut opens);
     Table {
         core: core,
         cells: cells,

@@ -1,7 +1,7 @@
 -- Stores one after the other: what a loop that puts a piece each turn has put so far; and a block of zeros that is filled from its start on.
 use Rattle.laws.specs.Kit.{ℕ, zero, suc, _+_, _-_, _*_, _<_, _≤_, _≡_, sym, ap, _∙_, List, [], _∷_, _++_, append-assoc, append-nil}
 use Rattle.laws.specs.Kit.{add-zero, zero-add, arith, add-one, length, getD, set, take, drop, replicate, length-replicate, sets, sets-eq}
-use Rattle.laws.specs.{Kit.{take-suc, length-take-le}, Cat.{cat}, Tab.{tab, tab-more, length-tab}, Stores.{sets-append}}
+use Rattle.laws.specs.{Kit.{take-suc, take-add, take-all, length-take-le}, Cat.{cat, part}, Tab.{tab, tab-more, length-tab}, Stores.{sets-append}}
 
 module _ {A : Type 0} where
   -- pieces by two counts, and row by row
@@ -14,6 +14,17 @@ module _ {A : Type 0} where
   unfolding cat
   cat-rows f c zero = let e : c * 0 ≡ 0 = omega arith in rw e
   cat-rows f c (suc n) = let e : c * suc n ≡ c * n + c = omega arith in rw (e, cat-plus f (c * n) c, cat-rows f c n)
+
+  -- a list whose parts are the pieces
+  cat-taken : (f : ℕ → List A) (w n : ℕ) (b : List A) → ((j : ℕ) → j < n → f j ≡ part (w * j) w b) → cat f n ≡ take (w * n) b
+  unfolding cat part
+  cat-taken f w zero b h = let e : w * 0 ≡ 0 = omega arith in rw e
+  cat-taken f w (suc n) b h =
+      let e : w * suc n ≡ w * n + w = omega arith in
+      rw (e, take-add (w * n) w b, cat-taken f w n b (λ j l. h j (omega arith)), h n (omega arith))
+
+  pub cat-parts : (f : ℕ → List A) (w n : ℕ) (b : List A) → length b ≡ w * n → ((j : ℕ) → j < n → f j ≡ part (w * j) w b) → cat f n ≡ b
+  cat-parts f w n b e h = cat-taken f w n b h ∙ take-all (w * n) b (omega arith)
 
   -- one behind the other
   pub then-put : (d xs ys : List A) (at k : ℕ) → length xs ≡ k → sets (sets d at xs) (at + k) ys ≡ sets d at (xs ++ ys)

@@ -10,8 +10,8 @@ use Rattle.table.specs.{Value.{openAt}, EntryNames.{named-is}, Model.{modelOf, 
 use Rattle.table.specs.{Model.{cell-in}, Link.OpensModel.{opens-at}, Sound.{SoundTable, AllZero}}
 use Rattle.image.specs.{OpenNames.{names, no-name, length-names, OpenName, names-open}, Link.OrderFromCounts.{low, counted}}
 use Rattle.image.specs.{Link.OrderFromCounts.{names-counted, open-low}, Encode.{vectorWords, cellBytes, openBytes, deskBytes, blockOf}}
-use Rattle.image.specs.{Encode.{blocks, openNamed, cellPart, openPart, perDesk, encodeAt, encode}, ImageSize.{most-blocks}}
-use Rattle.image.specs.{Link.FieldPlaces.{blockAt, encode-is, length-encode}, Mirror.Block.{cellRaw, openRaw}}
+use Rattle.image.specs.{Encode.{blocks, openNamed, cellPart, openPart, perDesk, encodeAt, encode}, Damage.{blockIn}, ImageSize.{most-blocks}}
+use Rattle.image.specs.{declared.Plan.{Plan}, Link.FieldPlaces.{blockAt, encode-is, length-encode, block-at}, Link.BlockFill.{cat-parts}, Mirror.Block.{cellRaw, openRaw}}
 use Rattle.image.specs.Mirror.TableBytes.{CellsFit, cellPiece, OrderFits, openOr, openPiece}
 use Rattle.image.specs.{Mirror.EntryOrder.{HoldsWrite, InOrder, Known}, Limits.{Wide, some-cells, some-opens, block-of, blocks-mono}}
 use Rattle.image.specs.Limits.{block-bytes, vector-bytes, cell-bytes, open-bytes, cells-in, opens-in, blocks-for, row-most}
@@ -30,24 +30,24 @@ unset-bytes ps c w z =
     let e : 4 + vector-bytes ps ≡ suc (suc (suc (suc (vector-bytes ps)))) = omega arith in
     rw (w, z .status, e) (ap (λ (r : List ℕ). 0 ∷ 0 ∷ 0 ∷ 0 ∷ r) (ap (vectorWords ps) v ∙ zero-words ps))
 
--- what the blocks of a table are made of, once its open writes are in order and its blocks are counted: a desk's cells take c, the open writes
--- begin at place e, and there are `total` in all
-pub record Planned (ps : ℕ) (t : Table) (order : List ℕ) (count c e total : ℕ) : Type 0 where
-  pub fits : ps ≤ places
+-- what the blocks of a table are made of, once its open writes are in order and its blocks are counted
+pub record Planned (t : Table) (order : List ℕ) (plan : Plan) : Type 0 where
+  pub p-is : plan .p ≡ placesFor (t .core .n)
+  pub most : plan .p ≤ places
   pub desks : t .core .n ≤ places
   pub cells : t .core .m ≤ desk-cells
-  pub few : count ≤ entries
-  pub row : c ≡ perDesk ps (t .core .m)
-  pub row-some : 1 ≤ c
-  pub row-few : c ≤ row-most ps
-  pub opens-from : e ≡ 1 + t .core .n + c * t .core .n
-  pub opens-few : total ≤ e + opens-most ps
-  pub total-is : total ≡ blocks ps (modelOf t)
-  pub total-few : total ≤ most-writes
-  pub counted-right : count ≡ openCount (modelOf t)
-  pub cells-fit : CellsFit ps (t .cells)
-  pub order-fits : OrderFits (t .opens) order count
-  pub piece : (p : ℕ) → openOr ps (t .opens) order count p ≡ getD (map (openNamed ps (modelOf t)) (names (modelOf t))) p (replicate (open-bytes ps) 0)
+  pub few : plan .count ≤ entries
+  pub row : plan .row ≡ perDesk (plan .p) (t .core .m)
+  pub row-some : 1 ≤ plan .row
+  pub row-few : plan .row ≤ row-most (plan .p)
+  pub opens-from : plan .ahead ≡ 1 + t .core .n + plan .row * t .core .n
+  pub opens-few : plan .total ≤ plan .ahead + opens-most (plan .p)
+  pub total-is : plan .total ≡ blocks (plan .p) (modelOf t)
+  pub total-few : plan .total ≤ most-writes
+  pub counted-right : plan .count ≡ openCount (modelOf t)
+  pub cells-fit : CellsFit (plan .p) (t .cells)
+  pub order-fits : OrderFits (t .opens) order (plan .count)
+  pub piece : (p : ℕ) → openOr (plan .p) (t .opens) order (plan .count) p ≡ getD (map (openNamed (plan .p) (modelOf t)) (names (modelOf t))) p (replicate (open-bytes (plan .p)) 0)
 
 module _ (ps : ℕ) (narrow-enough : ps ≤ places) {t : Table} (ok : SoundTable t) (fits : t .core .n ≤ ps) where
   wd : Wide ps
@@ -147,13 +147,15 @@ module _ (ps : ℕ) (narrow-enough : ps ≤ places) {t : Table} (ok : SoundTable
             let g : count ≤ p = omega arith in
             rw (le-ltb p count g, List·getD-eq-default (map (openNamed ps st) (names st)) (replicate (open-bytes ps) 0) l)
 
-    pub planned : {c e d : ℕ} → c ≡ perDesk ps (t .core .m) → e ≡ 1 + n + c * n → d ≡ blocks-for (opens-in ps) count → Planned ps t order count c e (e + d)
-    planned {c} {e} {d} ec ee ed =
+    pub planned : {c e d : ℕ} → ps ≡ placesFor n → c ≡ perDesk ps (t .core .m) → e ≡ 1 + n + c * n → d ≡ blocks-for (opens-in ps) count
+        → Planned t order (record { p = ps; count = count; row = c; ahead = e; total = e + d })
+    planned {c} {e} {d} ep ec ee ed =
         let m = t .core .m in
         let few : d ≤ opens-most ps = rw ed (blocks-mono (opens-in ps) count entries (some-opens ps wd) (all-order-fits .few)) in
         let all : e + d ≡ blocks ps st = rw (ee, ec, ed, ord .size ∙ counted-is) in
         record {
-          fits = narrow-enough;
+          p-is = ep;
+          most = narrow-enough;
           desks = few-desks;
           cells = r .frame .ranges .cells .1;
           few = all-order-fits .few;
@@ -179,32 +181,56 @@ pub length-is : {t : Table} → SoundTable t
 length-is {t} ok = let n = t .core .n in length-by (placesFor n) (places-most n) ok (desks-placed n (ok .rules .frame .ranges .desks .1))
 
 -- the block of the code at place k, by its kind
-module _ (ps : ℕ) {t : Table} {order : List ℕ} {count c e total : ℕ} (P : Planned ps t order count c e total) (k : ℕ) {b : List ℕ} where
-  pub sizes-at : k ≡ 0 → b ≡ blockOf ps 1 0 (t .core .n ∷ t .core .m ∷ count ∷ []) → b ≡ blockAt ps (modelOf t) k
+module _ {t : Table} {order : List ℕ} {plan : Plan} (P : Planned t order plan) (k : ℕ) {b : List ℕ} where
+  pub sizes-at : k ≡ 0 → b ≡ blockOf (plan .p) 1 0 (t .core .n ∷ t .core .m ∷ plan .count ∷ []) → b ≡ blockAt (plan .p) (modelOf t) k
   unfolding blockAt
   sizes-at ek eb = rw (eb, P .counted-right, ek)
 
-  pub desk-at : (k ≡ 0 → ⊥) → k ≤ t .core .n → (let d = getD (t .core .desks) (k - 1) desk0 in b ≡ blockOf ps 2 k (deskBytes ps k (place (d .applied)) (place (d .clock .at)))) → b ≡ blockAt ps (modelOf t) k
+  pub desk-at : (k ≡ 0 → ⊥) → k ≤ t .core .n → (let d = getD (t .core .desks) (k - 1) desk0 in b ≡ blockOf (plan .p) 2 k (deskBytes (plan .p) k (place (d .applied)) (place (d .clock .at)))) → b ≡ blockAt (plan .p) (modelOf t) k
   unfolding blockAt appliedM clockM
   desk-at z h eb =
       let e : suc (k - 1) ≡ k = omega arith in
-      rw (ne-eqb k 0 z, le-leb k (t .core .n) h) (eb ∙ ap (λ (j : ℕ). blockOf ps 2 k (deskBytes ps k (appliedM (t .core .desks) j) (clockM (t .core .desks) j))) e)
+      rw (ne-eqb k 0 z, le-leb k (t .core .n) h) (eb ∙ ap (λ (j : ℕ). blockOf (plan .p) 2 k (deskBytes (plan .p) k (appliedM (t .core .desks) j) (clockM (t .core .desks) j))) e)
 
-  pub cells-at : t .core .n < k → k < e
-      → b ≡ blockOf ps 3 k (cat (cellPiece ps (t .cells) ((k - (1 + t .core .n)) / c) ((k - (1 + t .core .n)) % c)) (cells-in ps)) → b ≡ blockAt ps (modelOf t) k
+  pub cells-at : t .core .n < k → k < plan .ahead
+      → b ≡ blockOf (plan .p) 3 k (cat (cellPiece (plan .p) (t .cells) ((k - (1 + t .core .n)) / plan .row) ((k - (1 + t .core .n)) % plan .row)) (cells-in (plan .p))) → b ≡ blockAt (plan .p) (modelOf t) k
   unfolding blockAt cellPart
   cells-at h g eb =
-      let l : k < 1 + t .core .n + perDesk ps (t .core .m) * t .core .n = rw (P .opens-from, P .row) at g in
+      let l : k < 1 + t .core .n + perDesk (plan .p) (t .core .m) * t .core .n = rw (P .opens-from, P .row) at g in
       rw (eb, ne-eqb k 0 (λ z. omega arith), lt-leb k (t .core .n) h, lt-ltb k _ l, P .row)
 
-  pub opens-at-place : t .core .n < k → e ≤ k → b ≡ blockOf ps 4 k (cat (openPiece ps (t .opens) order count (k - e)) (opens-in ps)) → b ≡ blockAt ps (modelOf t) k
+  pub opens-at-place : t .core .n < k → plan .ahead ≤ k
+      → b ≡ blockOf (plan .p) 4 k (cat (openPiece (plan .p) (t .opens) order (plan .count) (k - plan .ahead)) (opens-in (plan .p))) → b ≡ blockAt (plan .p) (modelOf t) k
   unfolding blockAt openPart
   opens-at-place h g eb =
-      let q : e ≡ 1 + t .core .n + perDesk ps (t .core .m) * t .core .n = P .opens-from ∙ rw (P .row) in
-      let l : 1 + t .core .n + perDesk ps (t .core .m) * t .core .n ≤ k = rw q at g in
-      let f : openPiece ps (t .opens) order count (k - e) ≡ openPart ps (modelOf t) (k - e) = fun-ext (λ j. P .piece (opens-in ps * (k - e) + j)) in
+      let e = plan .ahead in
+      let q : e ≡ 1 + t .core .n + perDesk (plan .p) (t .core .m) * t .core .n = P .opens-from ∙ rw (P .row) in
+      let l : 1 + t .core .n + perDesk (plan .p) (t .core .m) * t .core .n ≤ k = rw q at g in
+      let f : openPiece (plan .p) (t .opens) order (plan .count) (k - e) ≡ openPart (plan .p) (modelOf t) (k - e) = fun-ext (λ j. P .piece (opens-in (plan .p) * (k - e) + j)) in
       rw (eb, f, ne-eqb k 0 (λ z. omega arith), lt-leb k (t .core .n) h, le-ltb k _ l, q)
 
 -- all of them
-pub all-blocks : (ps : ℕ) (s : State) (out : List ℕ) {out′ : List ℕ} {k : ℕ} → out′ ≡ sets out 0 (cat (blockAt ps s) k) → k ≡ blocks ps s → out′ ≡ sets out 0 (encodeAt ps s)
-all-blocks ps s out e q = e ∙ rw (q, ← encode-is ps s)
+module _ {t : Table} {order : List ℕ} {plan : Plan} (P : Planned t order plan) where
+  abbrev s : State
+  s = modelOf t
+
+  pub planned-wide : Wide (plan .p)
+  planned-wide = wide (plan .p) (P .most)
+
+  encoded : encode s ≡ encodeAt (plan .p) s
+  encoded = ap (λ (p : ℕ). encodeAt p s) (sym (P .p-is))
+
+  pub planned-length : length (encode s) ≡ block-bytes * plan .total
+  planned-length = rw encoded (length-encode (plan .p) planned-wide s ∙ rw (P .total-is))
+
+  pub all-blocks : (out : List ℕ) {out′ : List ℕ} {k : ℕ} → out′ ≡ sets out 0 (cat (blockAt (plan .p) s) k) → k ≡ plan .total → out′ ≡ sets out 0 (encode s)
+  all-blocks out e q = e ∙ rw (q, P .total-is, ← encode-is (plan .p) s, encoded)
+
+  -- b is the image exactly if each of its blocks is
+  pub blocks-same : (b : List ℕ) → length b ≡ block-bytes * plan .total
+      → ((k : ℕ) → k < plan .total → blockAt (plan .p) s k ≡ blockIn b k) → encode s ≡ b
+  blocks-same b l h =
+      encoded ∙ encode-is (plan .p) s ∙ rw (← P .total-is) (cat-parts (blockAt (plan .p) s) block-bytes (plan .total) b l h)
+
+  pub same-block : (b : List ℕ) (k : ℕ) → k < plan .total → encode s ≡ b → blockAt (plan .p) s k ≡ blockIn b k
+  same-block b k h e = sym (block-at (plan .p) planned-wide s k (rw (← P .total-is) h)) ∙ ap (λ (l : List ℕ). blockIn l k) (sym encoded ∙ e)

@@ -15,7 +15,7 @@ use Rattle.image.specs.{OpenNames.{names, no-name, length-names, OpenName, name
 use Rattle.image.specs.{Encode.{cellPart, cellBytes, encodeAt, encode}, Link.FieldPlaces.{length-encode, part-3}, Fields.{zero-words}}
 use Rattle.image.specs.{Fields.{vec-words, vecOf, cellRead, writerIn, numberIn}, Decode.{nIn, mIn, countIn, deskPlace, cellPlace}}
 use Rattle.image.specs.Decode.{openPlace, deskIn, cellIn, n-back, m-back, count-back, applied-back, clock-back, cell-back, shows-at}
-use Rattle.image.specs.{Decode.{open-name}, Limits.{Wide, some-cells, block-of, wide, vector-at, vector-bytes, after-vector, cell-bytes}}
+use Rattle.image.specs.{Decode.{open-name, placesIn}, Limits.{placesFor, places-most, desks-placed, Wide, some-cells, block-of, wide, vector-at, vector-bytes, after-vector, cell-bytes}}
 use Rattle.image.specs.{Limits.{open-bytes, cells-in}, Link.BlockFill.{drop-replicate}}
 use Rattle.load.specs.{Link.EntryEach.{Spread, OpensRead}, Mirror.ImageRead.{cellFrom, openFrom, deskFrom, noDesk, deskFor, cellFor}}
 use Rattle.load.specs.Mirror.ImageRead.{Fits, CellsRead, for-cases, getD-part, part-of-part, place-words, cell-read, open-read}
@@ -253,9 +253,29 @@ module _ (ps : ℕ) where
 abbrev pub ReadsRight : List ℕ → Table → Type 0
 ReadsRight b t = (s : State) → Rules s → encode s ≡ b → (modelOf t ≡ s) × SoundTable t
 
-pub reads-right : (b : List ℕ) (t : Table) → ReadAs places b t → ReadsRight b t
-reads-right b t h s ok e = read-image places wide s ok (ok .frame .ranges .desks .1) t (rw (← e) at h)
+-- at the places that follow from n
+module _ (b : List ℕ) (t : Table) (s : State) (ok : Rules s) (e : encode s ≡ b) where
+  abbrev width : ℕ
+  width = placesFor (s .setup .desks)
+
+  wide-enough : Wide width
+  wide-enough = wide width (places-most (s .setup .desks))
+
+  placed : s .setup .desks ≤ width
+  placed = desks-placed (s .setup .desks) (ok .frame .ranges .desks .1)
+
+  width-in : placesIn b ≡ width
+  width-in = ap placesIn (sym e) ∙ ap placesFor (n-back width s)
+
+  read-so : ReadAs (placesIn b) b t → (modelOf t ≡ s) × SoundTable t
+  read-so h = read-image width wide-enough s ok placed t (rw (width-in, ← e) at h)
+
+  fits-so : Fits (placesIn b) b
+  fits-so = rw width-in (rw e at (fits-image width wide-enough s ok placed))
+
+pub reads-right : (b : List ℕ) (t : Table) → ReadAs (placesIn b) b t → ReadsRight b t
+reads-right b t h s ok e = read-so b t s ok e h
 
 -- an image whose sizes do not fit is none
-pub reads-none : (b : List ℕ) (t : Table) → (Fits places b → ⊥) → ReadsRight b t
-reads-none b t f s ok e = absurd (f (rw e at (fits-image places wide s ok (ok .frame .ranges .desks .1))))
+pub reads-none : (b : List ℕ) (t : Table) → (Fits (placesIn b) b → ⊥) → ReadsRight b t
+reads-none b t f s ok e = absurd (f (fits-so b t s ok e))

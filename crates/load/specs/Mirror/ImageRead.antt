@@ -1,15 +1,16 @@
 -- The fields of an image as the code reads them: the code's desk, cell and open write from a place on.
-use Rattle.laws.specs.Kit.{ℕ, zero, suc, _+_, _*_, _/_, _%_, _<_, _≤_, _≡_, refl, sym, ap, _∙_, true, false, List, [], _∷_, arith, decLt}
-use Rattle.laws.specs.Kit.{ltb-true, ltb, mul-le-mul, mul-le-mul-left, mod-lt, length, getD, take, drop, replicate, getD-take, getD-drop}
-use Rattle.laws.specs.{Kit.{take-take, drop-drop}, Loop.{pick, cases}, Says.{Says, clash}, Update.{same-or}, FromOne.{from1-is}}
-use Rattle.laws.specs.{Tab.{tab, getD-tab, getD-tab-out}, Cat.{part}}
+use Rattle.laws.specs.Kit.{ℕ, zero, suc, _+_, _*_, _/_, _%_, _<_, _≤_, _-_, _≡_, refl, sym, ap, _∙_, false, List, [], _∷_, _++_, arith, decLt}
+use Rattle.laws.specs.Kit.{ltb-true, le-ltb, ltb, mul-le-mul, mul-le-mul-left, mod-lt, length, getD, take, drop, replicate, getD-take, getD-drop}
+use Rattle.laws.specs.{Kit.{take-take, drop-drop, List·getD-append, getD-append-add}, Loop.{pick, cases}, Says.{Says, clash}, Update.{same-or}, FromOne.{from1-is}}
+use Rattle.laws.specs.{Tab.{tab, getD-tab, length-tab}, Cat.{part}}
+use Rattle.table.specs.Beginning.{zeros-at}
 use Rattle.clock.specs.Vectors.{places, place, clockOf}
+use Rattle.load.specs.declared.Sizes.{Sizes}
 use Rattle.table.specs.{declared.Cell.{Cell}, declared.Desk.{Desk}, declared.Open.{Open}, Value.{desk-cells, all-cells, cellAt, cellAt-put}}
 use Rattle.table.specs.{Value.{cellAt-other, entries, CellPut}, Model.{cellM, openM}}
 use Rattle.image.specs.{Encode.{perDesk}, Fields.{vecOf, marksOf, cellRead, openRead}, Decode.{nIn, mIn, countIn, deskPlace, cellPlace}}
-use Rattle.image.specs.{Decode.{openPlace}, Limits.{Wide, fit, some-cells, some-opens, block-of, blocks-mono, block-bytes, payload-at}}
-use Rattle.image.specs.Limits.{payload-bytes, vector-at, vector-bytes, after-vector, cell-bytes, open-bytes, cells-in, opens-in, blocks-for}
-use Rattle.image.specs.Limits.{row-most, rows-most, opens-most}
+use Rattle.image.specs.{Decode.{placesIn, openPlace}, Limits.{Wide, wide, fit, some-cells, some-opens, block-of, few-for, block-bytes}}
+use Rattle.image.specs.Limits.{payload-at, payload-bytes, vector-at, vector-bytes, after-vector, cell-bytes, open-bytes, cells-in, opens-in, blocks-for}
 
 abbrev pub wordAt : List ℕ → ℕ → ℕ
 wordAt b p = getD b p 0 + 256 * getD b (p + 1) 0
@@ -40,14 +41,28 @@ pub part-of-part : (b : List ℕ) (p q v w : ℕ) → q + v ≤ w → part q v (
 unfolding part
 part-of-part b p q v w h = part-head (drop p b) q v w h ∙ rw (drop-drop q p b)
 
+-- an array whose first ps places were filled
+unfoldable pub filled : ℕ → (ℕ → ℕ) → List ℕ
+filled ps f = tab ps f ++ replicate (places - ps) 0
+
+filled-at : (ps : ℕ) (f : ℕ → ℕ) (t : ℕ) → t < ps → getD (filled ps f) t 0 ≡ f t
+unfolding filled
+filled-at ps f t h = List·getD-append (tab ps f) (replicate (places - ps) 0) 0 t (omega (arith, length-tab f ps)) ∙ getD-tab f ps t 0 h
+
+filled-past : (ps : ℕ) (f : ℕ → ℕ) (t : ℕ) → ps ≤ t → getD (filled ps f) t 0 ≡ 0
+unfolding filled
+filled-past ps f t h =
+    let e : t ≡ length (tab ps f) + (t - ps) = omega (arith, length-tab f ps) in
+    rw e (getD-append-add (tab ps f) (replicate (places - ps) 0) (t - ps) 0 ∙ zeros-at (places - ps) (t - ps))
+
 -- where a vector takes ps places in the image
 module _ (ps : ℕ) where
   -- ps numbers of 16 bits; ps of a byte
   abbrev pub wordsFrom : List ℕ → ℕ → List ℕ
-  wordsFrom b p = tab ps (λ t. wordAt b (p + 2 * t))
+  wordsFrom b p = filled ps (λ t. wordAt b (p + 2 * t))
 
   abbrev pub bytesFrom : List ℕ → ℕ → List ℕ
-  bytesFrom b p = tab ps (λ t. getD b (p + t) 0)
+  bytesFrom b p = filled ps (λ t. getD b (p + t) 0)
 
   abbrev pub cellFrom : List ℕ → ℕ → Cell
   cellFrom b p = record { writer = getD b p 0; status = getD b (p + 1) 0; vector = wordsFrom b (p + vector-at) }
@@ -85,32 +100,34 @@ module _ (ps : ℕ) where
   -- where a cell and an open write stand, and that they lie within
   pub record Within (b : List ℕ) (n k q r w at : ℕ) : Type 0 where
     pub desks : n ≤ ps
-    pub before : k ≤ rows-most ps
-    pub block : q < row-most ps + opens-most ps
+    pub before : k ≤ all-cells
+    pub block : q < desk-cells + entries
     pub payload : r < payload-bytes
     pub is : block-bytes + (block-bytes * n + (block-bytes * k + (block-bytes * q + (payload-at + r)))) ≡ at
     pub ends : at + w ≤ length b
 
-  module _ (wd : Wide ps) (b : List ℕ) (h : Fits b) where
-    few-blocks : perDesk ps (mIn b) ≤ row-most ps
-    few-blocks = blocks-mono (cells-in ps) (mIn b) desk-cells (some-cells ps wd) (h .cells .1)
+  module _ (most : ps ≤ places) (b : List ℕ) (h : Fits b) where
+    wd : Wide ps
+    wd = wide ps most
+
+    few-blocks : perDesk ps (mIn b) ≤ desk-cells
+    few-blocks = omega (arith, few-for (cells-in ps) (mIn b) (some-cells ps wd), h .cells .1)
 
     row-block : (x : ℕ) → x < mIn b → x / cells-in ps < perDesk ps (mIn b)
     row-block x hx = block-of (cells-in ps) (mIn b) x (some-cells ps wd) hx
 
     -- a piece of w bytes, the j-th of its block
-    module _ (n c i j q w : ℕ) (e : c ≡ perDesk ps (mIn b)) (hn : n ≡ nIn b) (hi : i ≤ n) (some-bytes : 1 ≤ w) (hj : j < payload-bytes / w) (hq : q < row-most ps + opens-most ps) (inside : perDesk ps (mIn b) * i + q < perDesk ps (mIn b) * n + blocks-for (opens-in ps) (countIn b)) where
+    module _ (n c i j q w : ℕ) (e : c ≡ perDesk ps (mIn b)) (hn : n ≡ nIn b) (hi : i ≤ n) (some-bytes : 1 ≤ w) (hj : j < payload-bytes / w) (hq : q < desk-cells + entries) (inside : perDesk ps (mIn b) * i + q < perDesk ps (mIn b) * n + blocks-for (opens-in ps) (countIn b)) where
       piece-within : Within b n (c * i) q (w * j) w (block-bytes + (block-bytes * n + (block-bytes * perDesk ps (mIn b) * i + (block-bytes * q + (payload-at + w * j)))))
       piece-within =
-          let n8 : n ≤ ps = omega (arith, h .desks .1) in
-          let i8 : i ≤ ps = omega arith in
-          let z3 : c ≤ row-most ps = omega (arith, few-blocks) in
+          let few : i ≤ places = omega (arith, h .desks .1) in
+          let row : c ≤ desk-cells = omega (arith, few-blocks) in
           let f = ap (λ (y : ℕ). y * i) e in
           let d = ap (λ (y : ℕ). perDesk ps (mIn b) * y) hn in
           let l = h .size in
           let r = mul-le-mul-left w hj in
           let a = fit w in
-          record { desks = n8; before = mul-le-mul z3 i8; block = hq; payload = omega arith; is = omega arith; ends = omega arith }
+          record { desks = omega (arith, h .desks .1); before = (let y : c * i ≤ desk-cells * places = mul-le-mul row few in omega arith); block = hq; payload = omega arith; is = omega arith; ends = omega arith }
 
     -- a cell and an open write, at the code's own numbers
     pub cell-where : (n m i x c : ℕ) → n ≡ nIn b → m ≡ mIn b → c ≡ perDesk ps m → i < n → x < m → Within b n (c * i) (x / cells-in ps) (cell-bytes ps * (x % cells-in ps)) (cell-bytes ps) (cellPlace ps n m i x)
@@ -124,11 +141,16 @@ module _ (ps : ℕ) where
     pub open-where : (n m p c count : ℕ) → n ≡ nIn b → m ≡ mIn b → c ≡ perDesk ps m → count ≡ countIn b → p < count → Within b n (c * n) (p / opens-in ps) (open-bytes ps * (p % opens-in ps)) (open-bytes ps) (openPlace ps n m p)
     open-where n m p c count en em ec eq hp =
         let a = block-of (opens-in ps) (countIn b) p (some-opens ps wd) (omega arith) in
-        let z : blocks-for (opens-in ps) (countIn b) ≤ opens-most ps = blocks-mono (opens-in ps) (countIn b) entries (some-opens ps wd) (h .few) in
+        let z : blocks-for (opens-in ps) (countIn b) ≤ entries = omega (arith, few-for (opens-in ps) (countIn b) (some-opens ps wd), h .few) in
         rw (en, em) (piece-within (nIn b) c (nIn b) (p % opens-in ps) (p / opens-in ps) (open-bytes ps) (ec ∙ ap (perDesk ps) em) refl (omega arith) (omega arith) (mod-lt p (some-opens ps wd)) (omega arith) (omega arith))
 
     pub desks-within : block-bytes + block-bytes * nIn b ≤ length b
     desks-within = omega (arith, h .size)
+
+  -- a row past the n desks' is none
+  pub cells-end : (b : List ℕ) (n m s : ℕ) → n * desk-cells ≤ s → cellFor b n m s ≡ noCell
+  unfolding cellFor
+  cells-end b n m s h = rw (le-ltb (s / desk-cells) n (omega arith))
 
   -- one row more
   pub cells-more : (b : List ℕ) (n m s : ℕ) (l r : List ℕ) (c : Cell) → ((t : ℕ) → t < s → cellAt l t ≡ cellFor b n m t) → s < all-cells → c ≡ cellFor b n m s → CellPut l s c r
@@ -143,9 +165,9 @@ module _ (ps : ℕ) where
 
   -- what is read is what the definitions of document 01's fields read --
 
-  place-past : (f : ℕ → ℕ) (t : ℕ) → (1 ≤ t → t ≤ ps → ⊥) → place (tab ps f) t ≡ 0
+  place-past : (f : ℕ → ℕ) (t : ℕ) → (1 ≤ t → t ≤ ps → ⊥) → place (filled ps f) t ≡ 0
   place-past f zero o = refl
-  place-past f (suc t) o = getD-tab-out f ps t 0 (past (decLt t ps))
+  place-past f (suc t) o = filled-past ps f t (past (decLt t ps))
     where
       past : Dec (t < ps) → ps ≤ t
       past (yes h) = absurd (o (omega arith) h)
@@ -158,14 +180,14 @@ module _ (ps : ℕ) where
       (λ t h.
       let e0 : p + (2 * t + 0) ≡ p + 2 * t = omega arith in
       let e1 : p + (2 * t + 1) ≡ p + 2 * t + 1 = omega arith in
-      rw (getD-tab (λ t. wordAt b (p + 2 * t)) ps t 0 h, getD-part b p (vector-bytes ps) (2 * t + 0) (omega arith), getD-part b p (vector-bytes ps) (2 * t + 1) (omega arith), e0, e1))
+      rw (filled-at ps (λ t. wordAt b (p + 2 * t)) t h, getD-part b p (vector-bytes ps) (2 * t + 0) (omega arith), getD-part b p (vector-bytes ps) (2 * t + 1) (omega arith), e0, e1))
       (place-past (λ t. wordAt b (p + 2 * t))))
 
   pub place-bytes : (b : List ℕ) (p : ℕ) → place (bytesFrom b p) ≡ marksOf ps (part p ps b)
   unfolding marksOf
   place-bytes b p =
       sym (from1-is 0 ps (λ t. getD (part p ps b) t 0) (place (bytesFrom b p))
-      (λ t h. rw (getD-tab (λ t. getD b (p + t) 0) ps t 0 h, getD-part b p ps t h))
+      (λ t h. rw (filled-at ps (λ t. getD b (p + t) 0) t h, getD-part b p ps t h))
       (place-past (λ t. getD b (p + t) 0)))
 
   pub cell-read : (b : List ℕ) (p : ℕ) → cellM (cellFrom b p) ≡ cellRead ps (part p (cell-bytes ps) b)
@@ -178,3 +200,13 @@ module _ (ps : ℕ) where
   unfolding openRead
   open-read b p =
       rw (place-words b (p + vector-at), place-bytes b (p + after-vector ps), getD-part b p (open-bytes ps) 1 (omega arith), getD-part b p (open-bytes ps) 2 (omega arith), part-of-part b p vector-at (vector-bytes ps) (open-bytes ps) (omega arith), part-of-part b p (after-vector ps) ps (open-bytes ps) (omega arith))
+
+-- the sizes that the code goes by are those of the image
+pub record Sized (b : List ℕ) (z : Sizes) : Type 0 where
+  pub p-is : z .p ≡ placesIn b
+  pub most : z .p ≤ places
+  pub fits : Fits (z .p) b
+  pub n-is : z .n ≡ nIn b
+  pub m-is : z .m ≡ mIn b
+  pub count-is : z .count ≡ countIn b
+  pub c-is : z .c ≡ perDesk (z .p) (z .m)
