@@ -1,11 +1,10 @@
 -- The answer to a load: document 01's number and values for every case of it.
-use Rattle.laws.specs.Kit.{ℕ, _+_, _<_, _≤_, _≡_, sym, ap, _∙_, Bool, true, false, List, arith, zero-add, length, getD, take, drop}
-use Rattle.laws.specs.Kit.{replicate, length-replicate, sets, sets-eq, take-append-seam, length-sets, ext-getD, getD-take, length-take-le}
-use Rattle.laws.specs.Says.{Says, apart, says-as}
+use Rattle.laws.specs.Kit.{ℕ, _+_, _*_, _≤_, _≡_, ap, _∙_, true, false, List, zero-add, length, replicate, take, drop, sets, sets-eq, take-append-seam}
+use Rattle.laws.specs.Says.{apart}
 use Rattle.machine.specs.{Table.{State}, Answer.{damaged, broken}, Rules.{Rules}}
-use Rattle.table.specs.{declared.Table.{Table}, Beginning.{freshTable}, Model.{modelOf}, Sound.{SoundTable}}
-use Rattle.image.specs.{Encode.{encode}, Load.{Loaded, refused, loaded, Loads}}
-use Rattle.image.specs.{Load.{by-damage, by-rule, as-saved}, Limits.{broad, image-bytes}}
+use Rattle.table.specs.{declared.Core.{Core}, declared.Table.{Table}, Beginning.{freshTable}, Model.{modelOf, tableWith}, Sound.{SoundTable}}
+use Rattle.table.specs.Value.{all-cells, cell-width, entries, open-width}
+use Rattle.image.specs.{Encode.{encode}, Load.{Loaded, refused, loaded, Loads, by-damage, by-rule, as-saved}}
 use Rattle.image.specs.Damage as whole
 use Rattle.load.specs.{declared.Outcome.{Outcome}, Link.ReadsBack.{ReadsRight}}
 use Rattle.load.specs.declared.Outcome.the-variants as outcome
@@ -30,26 +29,26 @@ answers-loads b outcome.Accepted t h = as-saved (modelOf t) (h .0 .rules) (h .1)
 answers-loads b outcome.Damaged t h = by-damage (h .0)
 answers-loads b outcome.Broken t h = by-rule (h .0 .0) (h .0 .1)
 
--- the candidate breaks the rules, or its image is another
-pub not-sound : (b : List ℕ) (t : Table) → ReadsRight b t → (SoundTable t → ⊥) → (s : State) → Rules s → encode s ≡ b → ⊥
-not-sound b t r f s ok e = f (r s ok e .1)
+-- what was read breaks the rules, or its image is another
+pub not-held : (b : List ℕ) (t : Table) → ReadsRight b t → ((SoundTable t × (encode (modelOf t) ≡ b)) → ⊥) → (s : State) → Rules s → encode s ≡ b → ⊥
+not-held b t r f s ok e = let h = r s ok e in f (h .1, ap encode (h .0) ∙ e)
 
-pub not-image : (b : List ℕ) (t : Table) → ReadsRight b t → (encode (modelOf t) ≡ b → ⊥) → (s : State) → Rules s → encode s ≡ b → ⊥
-not-image b t r f s ok e = f (ap encode (r s ok e .0) ∙ e)
-
--- the comparison: what was saved from the start of a buffer on --
-
+-- what was saved from the start of a buffer on
 pub saved-part : (out vs : List ℕ) → length vs ≤ length out → take (length vs) (sets out 0 vs) ≡ vs
 saved-part out vs h =
     ap (λ (l : List ℕ). take (length vs) l) (sets-eq vs out 0 (rw zero-add h)) ∙ take-append-seam vs (drop (0 + length vs) out)
 
--- two lists by their elements
-pub same-all : (a b : List ℕ) → length a ≤ length b → ((i : ℕ) → i < length a → getD a i 0 ≡ getD b i 0) → a ≡ take (length a) b
-same-all a b h f =
-    ext-getD 0 a (take (length a) b) (sym (length-take-le (length a) b h)) (λ i l. f i l ∙ sym (getD-take (length a) b i 0 l))
+-- zeros, part by part
+pub zeros-so : {c : Core} {l o : List ℕ} → c ≡ freshTable 0 0 .core → l ≡ freshTable 0 0 .cells → o ≡ freshTable 0 0 .opens → tableWith c l o ≡ freshTable 0 0
+zeros-so a b d = λ j. tableWith (a j) (b j) (d j)
 
-pub same-at : (a b : List ℕ) (i : ℕ) → i < length a → a ≡ take (length a) b → getD a i 0 ≡ getD b i 0
-same-at a b i h e = ap (λ (l : List ℕ). getD l i 0) e ∙ getD-take (length a) b i 0 h
+pub cleared-cells : (l : List ℕ) {r : List ℕ} → r ≡ replicate (length l) 0 → length l ≡ all-cells * cell-width → r ≡ freshTable 0 0 .cells
+unfolding freshTable
+cleared-cells l e h = e ∙ ap (λ (n : ℕ). replicate {A = ℕ} n 0) h
+
+pub cleared-opens : (l : List ℕ) {r : List ℕ} → r ≡ replicate (length l) 0 → length l ≡ entries * open-width → r ≡ freshTable 0 0 .opens
+unfolding freshTable
+cleared-opens l e h = e ∙ ap (λ (n : ℕ). replicate {A = ℕ} n 0) h
 
 -- the answers, by the code's tests
 pub damaged-so : (b : List ℕ) (o : Outcome) (t : Table) → o ≡ outcome.Damaged → t ≡ freshTable 0 0 → whole.sound b ≡ false → Answers b o t
@@ -57,12 +56,3 @@ damaged-so b o t eo et f = rw eo (λ s. apart (whole.sound b) (whole.says-sound 
 
 pub broken-so : (b : List ℕ) (o : Outcome) (t : Table) → o ≡ outcome.Broken → t ≡ freshTable 0 0 → whole.sound b ≡ true → ((s : State) → Rules s → encode s ≡ b → ⊥) → Answers b o t
 broken-so b o t eo et f g = rw eo ((whole.says-sound b .to f, g), et)
-
--- in a buffer of that length
-pub buffer-long : (after vs : List ℕ) → after ≡ sets (replicate (image-bytes broad) 0) 0 vs → length after ≡ (image-bytes broad)
-buffer-long after vs e = ap length e ∙ length-sets (replicate (image-bytes broad) 0) 0 vs ∙ length-replicate {A = ℕ} (image-bytes broad) 0
-
-pub buffer-says : (r : Bool) (b after vs : List ℕ) → after ≡ sets (replicate (image-bytes broad) 0) 0 vs → length b ≡ length vs → length vs ≤ (image-bytes broad) → Says r (b ≡ take (length b) after) → Says r (vs ≡ b)
-buffer-says r b after vs ea e h s =
-    let p : take (length b) after ≡ vs = rw (ea, e) (saved-part (replicate (image-bytes broad) 0) vs (rw (length-replicate (image-bytes broad)) h)) in
-    says-as r s (λ q. sym (q ∙ p)) (λ q. sym (p ∙ q))

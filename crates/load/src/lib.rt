@@ -1,11 +1,11 @@
 // A table read from its saved image (document 01, "Saved image").
 ghost use mathlib.Core.Path.{_≡_};
 ghost use Prim.Native.Nat.{_+_, _*_, _/_, _<_, _≤_};
-ghost use lib.ListN.{length, take, replicate};
+ghost use lib.ListN.{length, replicate};
 ghost use Rattle.laws.specs.Says.{Says};
 ghost use Rattle.laws.specs.Tab.{tab};
 ghost use Rattle.clock.specs.Vectors.{places};
-ghost use Rattle.table.specs.Value.{desk-cells, all-cells, cell-width, entries, open-width};
+ghost use Rattle.table.specs.Value.{desk-cells, all-cells, entries};
 ghost use Rattle.table.specs.Model.{modelOf, tableWith};
 ghost use Rattle.table.specs.Sound.{SoundTable};
 ghost use Rattle.table.specs.Beginning.{freshTable};
@@ -14,7 +14,7 @@ ghost use Rattle.image.specs.Encode.{encode};
 ghost use Rattle.image.specs.Decode.{placesIn, openPlace};
 ghost use Rattle.load.specs.Mirror.ImageRead.{wordAt, wordsFrom, bytesFrom, cellFrom, openFrom, deskFrom, deskFor, cellFor, Fits, Sized, CellsRead};
 ghost use Rattle.load.specs.Link.EntryEach.{OpensRead};
-ghost use Rattle.load.specs.Link.ReadsBack.{ReadAs, ReadsRight};
+ghost use Rattle.load.specs.Link.ReadsBack.{ReadAs};
 ghost use Rattle.load.specs.Loading.{Answers};
 use clock::Clock;
 use clock::PLACES;
@@ -23,7 +23,6 @@ use image::BLOCK;
 use image::CELLS_AT;
 use image::COUNT_AT;
 use image::DESKS_AT;
-use image::IMAGE;
 use image::PAYLOAD_AT;
 use image::VECTOR_AT;
 use table::CELL;
@@ -226,7 +225,7 @@ fn cell_or(b: &[u8], z: Sizes, s: usize) -> Cell
 
 // Into zeros: the rows past the n desks' stay.
 fn read_cells(b: &[u8], z: Sizes, cells: &mut Cells)
-    requires { ⌜ Sized (now b) z × (now cells ≡ replicate (all-cells * cell-width) 0) ⌝ }
+    requires { ⌜ Sized (now b) z × (now cells ≡ freshTable 0 0 .cells) ⌝ }
     ensures { λ _. ⌜ CellsRead (z .p) (now (b .entry)) (z .n) (z .m) (now (cells .exit)) ⌝ }
 {
     let end = z.n * CELLS;
@@ -264,7 +263,7 @@ fn number_of(o: Open) -> u16 {
 
 // Each goes into the entry where a search for it begins, or a free one behind that.
 fn read_opens(b: &[u8], z: Sizes, opens: &mut Opens)
-    requires { ⌜ Sized (now b) z × (now opens ≡ replicate (entries * open-width) 0) ⌝ }
+    requires { ⌜ Sized (now b) z × (now opens ≡ freshTable 0 0 .opens) ⌝ }
     ensures { λ _. ⌜ OpensRead (z .p) (now (b .entry)) (z .n) (z .m) (z .count) (now (opens .exit)) ⌝ }
 {
     let count = z.count;
@@ -278,23 +277,6 @@ fn read_opens(b: &[u8], z: Sizes, opens: &mut Opens)
         table::put_open(opens, e, o);
         j += 1;
     }
-}
-
-fn zeros() -> Table
-    ensures { λ r. ⌜ r ≡ freshTable 0 0 ⌝ }
-{
-    let none = table::begin(0, 0);
-    none.table
-}
-
-// The table that an image seems to hold; zeros where its sizes can't be right.
-fn candidate(b: &[u8]) -> Table
-    ensures { λ r. ⌜ ReadsRight (now (b .entry)) r ⌝ }
-{
-    if !sizes_fit(b) {
-        return zeros();
-    }
-    read_table(b)
 }
 
 // The sizes that an image tells of itself.
@@ -316,58 +298,41 @@ fn sizes_of(b: &[u8]) -> Sizes
     }
 }
 
-fn read_table(b: &[u8]) -> Table
-    requires { ⌜ Fits (placesIn (now b)) (now b) ⌝ }
-    ensures { λ r. ⌜ ReadAs (placesIn (now (b .entry))) (now (b .entry)) r ⌝ }
+// The table that an image seems to hold, into arrays of zeros.
+fn read_table(b: &[u8], cells: &mut Cells, opens: &mut Opens) -> Core
+    requires { ⌜ Fits (placesIn (now b)) (now b) × ((now cells ≡ freshTable 0 0 .cells) × (now opens ≡ freshTable 0 0 .opens)) ⌝ }
+    ensures { λ r. ⌜ ReadAs (placesIn (now (b .entry))) (now (b .entry)) (tableWith r (now (cells .exit)) (now (opens .exit))) ⌝ }
 {
     let z = sizes_of(b);
     let desks = read_desks(b, z.p, z.n);
-    let core = Core {
+    read_cells(b, z, cells);
+    read_opens(b, z, opens);
+    Core {
         n: z.n,
         m: z.m,
         desks: desks,
-    };
-    let mut cells = [0u16; PLACES * CELLS * CELL];
-    read_cells(b, z, &mut cells);
-    let mut opens = [0u16; OPENS * OPEN];
-    read_opens(b, z, &mut opens);
-    Table {
-        core: core,
-        cells: cells,
-        opens: opens,
     }
 }
 
-// The comparison --
-
-// Does b stand at the start of l?
-fn starts(l: &[u8], b: &[u8]) -> bool
-    requires { ⌜ length (now b) ≤ length (now l) ⌝ }
-    ensures { λ r. ⌜ Says r (now (b .entry) ≡ take (length (now (b .entry))) (now (l .entry))) ⌝ }
+// Does a table keep the rules, and is b its image?
+fn saved_as(core: Core, cells: &Cells, opens: &Opens, b: &[u8]) -> bool
+    ensures { λ r. ⌜ Says r (SoundTable (tableWith core (now (cells .entry)) (now (opens .entry))) × (encode (modelOf (tableWith core (now (cells .entry)) (now (opens .entry)))) ≡ now (b .entry))) ⌝ }
 {
-    // No way out in the middle: the compiler then compares many bytes at a time.
-    let mut same = true;
-    let mut i = 0;
-    while i < b.len() {
-        if b[i] != l[i] {
-            same = false;
-        }
-        i += 1;
-    }
-    same
-}
-
-// Is b the image of a table that keeps the rules?
-fn saves_to(core: Core, cells: &Cells, opens: &Opens, b: &[u8]) -> bool
-    requires { ⌜ SoundTable (tableWith core (now cells) (now opens)) ⌝ }
-    ensures { λ r. ⌜ Says r (encode (modelOf (tableWith core (now (cells .entry)) (now (opens .entry)))) ≡ now (b .entry)) ⌝ }
-{
-    let mut out = [0u8; IMAGE];
-    let n = image::save_parts(core, cells, opens, &mut out);
-    if b.len() != n {
+    if !rules::keeps_rules(core, cells, opens) {
         return false;
     }
-    starts(&out, b)
+    image::is_image(core, cells, opens, b)
+}
+
+// Zeros again, after what was no table.
+fn clear(l: &mut [u16])
+    ensures { λ _. ⌜ now (l .exit) ≡ replicate (length (now (l .entry))) 0 ⌝ }
+{
+    let mut i = 0;
+    while i < l.len() {
+        l[i] = 0;
+        i += 1;
+    }
 }
 
 // What load answers: a table, or refusal 12 (Damaged) or 13 (Broken) and nothing but zeros.
@@ -377,40 +342,67 @@ pub enum Outcome {
     Broken,
 }
 
+// The same where the arrays are lent.
+pub struct Taken {
+    pub answer: Outcome,
+    pub core: Core,
+}
+
 pub struct Loading {
     pub answer: Outcome,
     pub table: Table,
 }
 
-fn refused(o: Outcome) -> Loading
-    ensures { λ r. ⌜ (r .answer ≡ o) × (r .table ≡ freshTable 0 0) ⌝ }
+fn refused(o: Outcome) -> Taken
+    ensures { λ r. ⌜ (r .answer ≡ o) × (r .core ≡ freshTable 0 0 .core) ⌝ }
 {
-    let z = zeros();
-    Loading {
+    let core = table::fresh_core(0, 0);
+    Taken {
         answer: o,
-        table: z,
+        core: core,
     }
 }
 
-// The lengths and the checks; then the fields are read, the rules tested, and the image of what was read compared.
-pub fn load(b: &[u8]) -> Loading
-    ensures { λ r. ⌜ Answers (now (b .entry)) (r .answer) (r .table) ⌝ }
+// The lengths and the checks; then the fields are read, the rules tested, and the image of what was read compared. The arrays come as zeros,
+// and a refusal leaves them so.
+pub fn load_into(b: &[u8], cells: &mut Cells, opens: &mut Opens) -> Taken
+    requires { ⌜ (now cells ≡ freshTable 0 0 .cells) × (now opens ≡ freshTable 0 0 .opens) ⌝ }
+    ensures { λ r. ⌜ Answers (now (b .entry)) (r .answer) (tableWith (r .core) (now (cells .exit)) (now (opens .exit))) ⌝ }
 {
     if !image::sound_image(b) {
         return refused(Outcome::Damaged);
     }
-    let t = candidate(b);
-    let core = t.core;
-    let cells = t.cells;
-    let opens = t.opens;
-    if !rules::keeps_rules(core, &cells, &opens) {
+    if !sizes_fit(b) {
         return refused(Outcome::Broken);
     }
-    if !saves_to(core, &cells, &opens, b) {
-        return refused(Outcome::Broken);
+    let core = read_table(b, cells, opens);
+    if saved_as(core, cells, opens, b) {
+        return Taken {
+            answer: Outcome::Accepted,
+            core: core,
+        };
     }
+    clear(cells);
+    clear(opens);
+    refused(Outcome::Broken)
+}
+
+// The same with the table by value.
+pub fn load(b: &[u8]) -> Loading
+    ensures { λ r. ⌜ Answers (now (b .entry)) (r .answer) (r .table) ⌝ }
+{
+    let mut cells = [0u16; PLACES * CELLS * CELL];
+    let mut opens = [0u16; OPENS * OPEN];
+    let l = load_into(b, &mut cells, &mut opens);
+    let answer = l.answer;
+    let core = l.core;
+    let table = Table {
+        core: core,
+        cells: cells,
+        opens: opens,
+    };
     Loading {
-        answer: Outcome::Accepted,
-        table: t,
+        answer: answer,
+        table: table,
     }
 }

@@ -341,8 +341,9 @@ pub struct Begun {
     pub table: Table,
 }
 
-fn fresh(n: usize, m: usize) -> Table
-    ensures { λ r. ⌜ r ≡ freshTable n m ⌝ }
+// Every desk's counts and clock at zero.
+pub fn fresh_core(n: usize, m: usize) -> Core
+    ensures { λ r. ⌜ r ≡ freshTable n m .core ⌝ }
 {
     let zero = [0u16; PLACES];
     let clock = Clock { at: zero };
@@ -351,11 +352,17 @@ fn fresh(n: usize, m: usize) -> Table
         clock: clock,
     };
     let desks = [desk; PLACES];
-    let core = Core {
+    Core {
         n: n,
         m: m,
         desks: desks,
-    };
+    }
+}
+
+fn fresh(n: usize, m: usize) -> Table
+    ensures { λ r. ⌜ r ≡ freshTable n m ⌝ }
+{
+    let core = fresh_core(n, m);
     let cells = [0u16; PLACES * CELLS * CELL];
     let opens = [0u16; OPENS * OPEN];
     Table {

@@ -1,29 +1,38 @@
-use Rattle.clock.specs.Vectors.{places}
-use Rattle.image.specs.{Limits.{wide, open-bytes, opens-in}, Decode.{openPlace}}
+use Rattle.image.specs.{Limits.{open-bytes}, Decode.{openPlace}}
 use Rattle.load.specs.Mirror.ImageRead.{Within, open-where, openFrom}
-use Rattle.laws.specs.Kit.{arith, ap, _∙_, ℕ, _*_, _/_, _%_, needs}
+use Rattle.laws.specs.Kit.{arith, ap, _∙_, _*_, _/_, _%_, needs}
 use Rattle.load.proofs.open_of.Statement.{statement}
 use Rattle.load.proofs.open_of.Tie as tie
 
-stands : (c : tie.Start) → (let A = c .args in Within places (A .b .now) (A .n) (A .c * A .n) (A .p / opens-in places) (open-bytes places * (A .p % opens-in places)) (open-bytes places) (openPlace places (A .n) (A .m) (A .p)))
+-- where the open write stands
+stands : (c : tie.After-opens-in)
+    → (let A = c .before .before .before .args in
+    let z = A .z in
+    Within (z .p) (A .b .now) (z .n) (z .c * z .n) (A .j / c .opens-in .result) (c .before .open-bytes .result * (A .j % c .opens-in .result)) (open-bytes (z .p)) (openPlace (z .p) (z .n) (z .m) (A .j)))
 stands c =
-    let A = c .args in
-    let P = c .pre in
-    open-where places wide (A .b .now) (P .0) (A .n) (A .m) (A .p) (A .c) (A .count) (P .1 .0) (P .1 .1 .0) (P .1 .1 .1 .0) (P .1 .1 .1 .1 .0) (P .1 .1 .1 .1 .1)
+    let A = c .before .before .before .args in
+    let z = A .z in
+    let S = c .before .before .before .pre .0 in
+    rw (c .before .open-bytes .ensures, c .opens-in .ensures .0)
+    (open-where (z .p) (S .most) (A .b .now) (S .fits) (z .n) (z .m) (A .j) (z .c) (z .count) (S .n-is) (S .m-is) (S .c-is) (S .count-is) (c .before .before .before .pre .1))
 
 mul-field-place : tie.Need-mul-field-place
 mul-field-place c = omega (arith, stands (c .before) .before)
 
+mul-field-place-2 : tie.Need-mul-field-place-2
+mul-field-place-2 c = omega (arith, stands (c .before) .payload)
+
 field-place-requires : tie.Need-field-place-requires
-field-place-requires c κs = let w = stands (c .before) in (w .desks, (w .before, (w .block, w .payload)))
+field-place-requires c κs = let w = stands (c .before) in (omega (arith, w .desks, c .before .before .before .before .pre .0 .most), (w .before, (w .block, w .payload)))
 
 read-open-requires : tie.Need-read-open-requires
-read-open-requires c κs = let w = stands (c .before .before) in omega (arith, w .is, w .ends, c .field-place .ensures)
+read-open-requires c κs = let w = stands (c .before .before) in (c .before .before .before .before .before .pre .0 .most, omega (arith, w .is, w .ends, c .field-place .ensures))
 
 returns : tie.Need-returns
 returns c =
-    let w = stands (c .before .before .before) in
-    c .read-open .ensures ∙ ap (λ (k : ℕ). openFrom places (c .before .before .before .args .b .now) k) (c .before .field-place .ensures ∙ w .is)
+    let A = c .before .before .before .before .before .before .args in
+    c .read-open .ensures ∙ ap (openFrom (A .z .p) (A .b .now)) (c .before .field-place .ensures ∙ stands (c .before .before .before) .is)
 
 pub open-of-spec : {M : Type 1} → statement M
-open-of-spec = tie.close (tie.spec mul-field-place (λ c. search needs) field-place-requires read-open-requires returns)
+open-of-spec = tie.close (tie.spec (λ c κs. search needs) (λ c κs. search needs) mul-field-place (λ c. search needs) (λ c. search needs)
+    mul-field-place-2 field-place-requires read-open-requires returns)

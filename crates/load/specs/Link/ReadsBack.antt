@@ -254,7 +254,7 @@ abbrev pub ReadsRight : List ℕ → Table → Type 0
 ReadsRight b t = (s : State) → Rules s → encode s ≡ b → (modelOf t ≡ s) × SoundTable t
 
 -- at the places that follow from n
-module _ (b : List ℕ) (t : Table) (s : State) (ok : Rules s) (e : encode s ≡ b) where
+module _ (b : List ℕ) (s : State) (ok : Rules s) (e : encode s ≡ b) where
   abbrev width : ℕ
   width = placesFor (s .setup .desks)
 
@@ -267,15 +267,12 @@ module _ (b : List ℕ) (t : Table) (s : State) (ok : Rules s) (e : encode s ≡
   width-in : placesIn b ≡ width
   width-in = ap placesIn (sym e) ∙ ap placesFor (n-back width s)
 
-  read-so : ReadAs (placesIn b) b t → (modelOf t ≡ s) × SoundTable t
-  read-so h = read-image width wide-enough s ok placed t (rw (width-in, ← e) at h)
+  read-so : (t : Table) → ReadAs (placesIn b) b t → (modelOf t ≡ s) × SoundTable t
+  read-so t h = read-image width wide-enough s ok placed t (rw (width-in, ← e) at h)
 
-  fits-so : Fits (placesIn b) b
+  -- the sizes of an image fit
+  pub fits-so : Fits (placesIn b) b
   fits-so = rw width-in (rw e at (fits-image width wide-enough s ok placed))
 
 pub reads-right : (b : List ℕ) (t : Table) → ReadAs (placesIn b) b t → ReadsRight b t
-reads-right b t h s ok e = read-so b t s ok e h
-
--- an image whose sizes do not fit is none
-pub reads-none : (b : List ℕ) (t : Table) → (Fits (placesIn b) b → ⊥) → ReadsRight b t
-reads-none b t f s ok e = absurd (f (fits-so b t s ok e))
+reads-right b t h s ok e = read-so b s ok e t h

@@ -1,14 +1,15 @@
 -- The fields of an image as the code reads them: the code's desk, cell and open write from a place on.
 use Rattle.laws.specs.Kit.{ℕ, zero, suc, _+_, _*_, _/_, _%_, _<_, _≤_, _-_, _≡_, refl, sym, ap, _∙_, false, List, [], _∷_, _++_, arith, decLt}
 use Rattle.laws.specs.Kit.{ltb-true, le-ltb, ltb, mul-le-mul, mul-le-mul-left, mod-lt, length, getD, take, drop, replicate, getD-take, getD-drop}
-use Rattle.laws.specs.{Kit.{take-take, drop-drop, List·getD-append, getD-append-add}, Loop.{pick, cases}, Says.{Says, clash}, Update.{same-or}, FromOne.{from1-is}}
+use Rattle.laws.specs.{Kit.{take-take, drop-drop, List·getD-append, getD-append-add, ext-getD, length-replicate}, Loop.{pick, cases}, Says.{Says, clash}, Update.{same-or}, FromOne.{from1-is}}
 use Rattle.laws.specs.{Tab.{tab, getD-tab, length-tab}, Cat.{part}}
+use Rattle.laws.specs.Rows.{numbersFrom, length-part, part-at}
 use Rattle.table.specs.Beginning.{zeros-at}
 use Rattle.clock.specs.Vectors.{places, place, clockOf}
 use Rattle.load.specs.declared.Sizes.{Sizes}
 use Rattle.table.specs.{declared.Cell.{Cell}, declared.Desk.{Desk}, declared.Open.{Open}, Value.{desk-cells, all-cells, cellAt, cellAt-put}}
-use Rattle.table.specs.{Value.{cellAt-other, entries, CellPut}, Model.{cellM, openM}}
-use Rattle.image.specs.{Encode.{perDesk}, Fields.{vecOf, marksOf, cellRead, openRead}, Decode.{nIn, mIn, countIn, deskPlace, cellPlace}}
+use Rattle.table.specs.{Value.{cellAt-other, cellOf, cell-width, entries, CellPut}, Model.{cellM, openM}}
+use Rattle.image.specs.{Encode.{perDesk}, Link.BlockFill.{drop-replicate}, Fields.{vecOf, marksOf, cellRead, openRead}, Decode.{nIn, mIn, countIn, deskPlace, cellPlace}}
 use Rattle.image.specs.{Decode.{placesIn, openPlace}, Limits.{Wide, wide, fit, some-cells, some-opens, block-of, few-for, block-bytes}}
 use Rattle.image.specs.Limits.{payload-at, payload-bytes, vector-at, vector-bytes, after-vector, cell-bytes, open-bytes, cells-in, opens-in, blocks-for}
 
@@ -45,6 +46,13 @@ part-of-part b p q v w h = part-head (drop p b) q v w h ∙ rw (drop-drop q p b)
 unfoldable pub filled : ℕ → (ℕ → ℕ) → List ℕ
 filled ps f = tab ps f ++ replicate (places - ps) 0
 
+-- as a loop fills zeros
+pub fill-zeros : (ps : ℕ) (f : ℕ → ℕ) → ps ≤ places → tab ps f ++ drop ps (replicate places 0) ≡ filled ps f
+unfolding filled
+fill-zeros ps f h =
+    let e : places ≡ ps + (places - ps) = omega arith in
+    ap (λ (r : List ℕ). tab ps f ++ r) (ap (λ (k : ℕ). drop ps (replicate {A = ℕ} k 0)) e ∙ drop-replicate {A = ℕ} ps (places - ps) 0)
+
 filled-at : (ps : ℕ) (f : ℕ → ℕ) (t : ℕ) → t < ps → getD (filled ps f) t 0 ≡ f t
 unfolding filled
 filled-at ps f t h = List·getD-append (tab ps f) (replicate (places - ps) 0) 0 t (omega (arith, length-tab f ps)) ∙ getD-tab f ps t 0 h
@@ -54,6 +62,22 @@ unfolding filled
 filled-past ps f t h =
     let e : t ≡ length (tab ps f) + (t - ps) = omega (arith, length-tab f ps) in
     rw e (getD-append-add (tab ps f) (replicate (places - ps) 0) (t - ps) 0 ∙ zeros-at (places - ps) (t - ps))
+
+pub zeros-tab : (n : ℕ) → tab n (λ k. zero) ≡ replicate n 0
+zeros-tab n =
+    let f : ℕ → ℕ = λ k. 0 in
+    ext-getD 0 (tab n f) (replicate n 0) (length-tab f n ∙ sym (length-replicate {A = ℕ} n 0))
+    (λ i h. getD-tab f n i 0 (rw (length-tab f n) at h) ∙ sym (zeros-at n i))
+
+numbers-zero : (n p w : ℕ) → numbersFrom (replicate n 0) p w ≡ replicate w 0
+numbers-zero n p w =
+    ext-getD 0 (numbersFrom (replicate n 0) p w) (replicate w 0) (length-part (replicate n 0) p w ∙ sym (length-replicate {A = ℕ} w 0))
+    (λ k h. part-at (replicate n 0) p w k (rw (length-part (replicate n 0) p w) at h) ∙ zeros-at n (p + k) ∙ sym (zeros-at w k))
+
+-- a row of zeros
+pub zero-row : (n s : ℕ) → cellAt (replicate n 0) s ≡ noCell
+unfolding cellAt
+zero-row n s = ap cellOf (numbers-zero n (s * cell-width) cell-width) ∙ (λ j. record { writer = 0; status = 0; vector = numbers-zero cell-width 2 places j })
 
 -- where a vector takes ps places in the image
 module _ (ps : ℕ) where
@@ -162,6 +186,18 @@ module _ (ps : ℕ) where
     where
       less : (t ≡ s → ⊥) → t < s
       less q = omega arith
+
+  -- a row behind it stays
+  pub cells-left : (s : ℕ) (l r : List ℕ) (c : Cell) → ((t : ℕ) → s ≤ t → cellAt l t ≡ noCell) → CellPut l s c r → (t : ℕ) → s + 1 ≤ t → cellAt r t ≡ noCell
+  cells-left s l r c h p t ht = rw (p .is) (cellAt-other l s c (p .full) t (λ q. omega arith) ∙ h t (omega arith))
+
+  -- the rows of the n desks read, and the others left
+  pub cells-all : (b : List ℕ) (n m s : ℕ) (l : List ℕ) → n * desk-cells ≤ s → ((t : ℕ) → t < s → cellAt l t ≡ cellFor b n m t) → ((t : ℕ) → s ≤ t → cellAt l t ≡ noCell) → CellsRead b n m l
+  cells-all b n m s l e h r t _ = go (decLt t s)
+    where
+      go : Dec (t < s) → cellAt l t ≡ cellFor b n m t
+      go (yes y) = h t y
+      go (no y) = r t (omega arith) ∙ sym (cells-end b n m t (omega arith))
 
   -- what is read is what the definitions of document 01's fields read --
 

@@ -5,7 +5,7 @@ use Rattle.table.proofs.fresh.Tie as tie
 
 returns : tie.Need-returns
 unfolding freshTable
-returns c = search needs
+returns c = rw (c .fresh-core .ensures)
 
 pub fresh-spec : {M : Type 1} → statement M
-fresh-spec = tie.close (tie.spec returns)
+fresh-spec = tie.close (tie.spec (λ c κs. search needs) returns)
