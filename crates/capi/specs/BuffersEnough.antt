@@ -1,8 +1,6 @@
 -- Buffers that are never too short: the header's ACCESS_ANSWERS_BOUND and ACCESS_MAX_IMAGE.
 use Rattle.laws.specs.Kit.{_≡_, refl, sym, ap, _∙_, List, [], _∷_, none, some, ℕ, _≤_, arith, length}
-use Rattle.clock.specs.Vectors.{places}
-use Rattle.image.specs.{Limits.{image-bytes}, Load.{Loaded, refused, loaded, load, load-is}}
-use Rattle.load.specs.Loading.{image-most}
+use Rattle.image.specs.{Limits.{broad, image-bytes}, Editions.{image-largest}, Load.{Loaded, refused, loaded, load, load-is}}
 use Rattle.session.specs.{Session.{Session}, Transcript.{sessionFrom, most-text}, Link.SessionRules.{SessionKept, session-kept}}
 use Rattle.session.specs.AnswersBound.{answersBound, answers-fit}
 use Rattle.capi.specs.{Access.{imageOf, refuse, begin, started, startOf, runFrom, accessRun}, Link.CallFrom.{CallRoom, says-fits}}
@@ -17,13 +15,13 @@ start-kept (b ∷ l) z e = go (load (b ∷ l)) refl
     go (refused r) h = let q : refuse r ≡ begin z = ap started (sym h) ∙ e in absurd (let y : _≡_ {A = ℕ} 0 1 = cc in omega arith)
     go (loaded s) h = let q : begin (some s) ≡ begin z = ap started (sym h) ∙ e in let y : some s ≡ z = cc in rw (← y) (load-is (b ∷ l) s .0 h .0)
 
--- "The largest image is 37 blocks."
+-- "The largest image is 105 blocks."
 abbrev pub most-image : ℕ
-most-image = image-bytes places
+most-image = image-bytes broad
 
 image-few : (z : Session) → SessionKept z → length (imageOf z) ≤ most-image
 image-few none k = omega arith
-image-few (some s) k = image-most s k
+image-few (some s) k = image-largest s k
 
 -- from an image that is not refused a schedule of at most 65,536 bytes runs
 pub enough : (saved text answers image lengths : List ℕ) (z : Session) → startOf saved ≡ begin z → length text ≤ most-text

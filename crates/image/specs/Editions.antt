@@ -3,7 +3,7 @@
 use Rattle.laws.specs.Kit.{ℕ, _*_, _/_, _<_, _≤_, _≡_, _≢_, refl, sym, ap, _∙_, List, arith, decLe, le-leb, lt-leb, length, getD}
 use Rattle.machine.specs.{Table.{State}, Answer.{broken}, Rules.{Rules}}
 use Rattle.image.specs.{Check.{Bytes}, Encode.{block, blocks, encodeAt, encode}, Decode.{nIn, n-back}, ImageSize.{most-blocks}}
-use Rattle.image.specs.{ImageSize.{bytes-encode}, Damage.{blockIn, Undamaged, sound-encode}, Load.{refused, loaded, load, load-13, load-is}}
+use Rattle.image.specs.{ImageSize.{bytes-encode}, Damage.{blockIn, Undamaged}, Load.{image-sound, refused, loaded, load, load-13, load-is}}
 use Rattle.image.specs.{Load.{encode-load}, Link.FieldPlaces.{length-encode, block-at, every-block}, Limits.{narrow, broad, placesFor}}
 use Rattle.image.specs.Limits.{editionOf, edition-1, edition-2, desks-placed, places-most, one-edition, Wide, wide, image-bytes}
 use Rattle.image.specs.Limits.{block-bytes}
@@ -77,7 +77,7 @@ first-edition p t = refl
 
 -- "An old program refuses edition 2 with 13": it is undamaged, and in edition 1 the image of no table whatever
 pub old-refuses : (s : State) → narrow < s .setup .desks → Undamaged (encode s) × ((t : State) → encodeAt narrow t ≢ encode s)
-old-refuses s h = (sound-encode (width s) (wide-enough s) s, λ t e. (
+old-refuses s h = (image-sound s, λ t e. (
     let z : _≡_ {A = ℕ} 1 2 =
     sym (edition-1 .numbered) ∙ sym (first-edition narrow t) ∙ ap (λ (l : List ℕ). getD l 1 0) (e ∙ saves-broad s h) ∙ first-edition broad s ∙ edition-2 .numbered in
     omega arith))

@@ -24,10 +24,8 @@ pub data Loads (b : List ℕ) : Loaded → Type 0 where
   as-saved : (s : State) → Rules s → encode s ≡ b → Loads b (loaded s)
 
 -- an image is not damaged
-image-sound : (b : List ℕ) (s : State) → encode s ≡ b → Undamaged b
-image-sound b s e =
-    let p = placesFor (s .setup .desks) in
-    rw e at (sound-encode p (wide p (places-most (s .setup .desks))) s)
+pub image-sound : (s : State) → Undamaged (encode s)
+image-sound s = let n = s .setup .desks in sound-encode (placesFor n) (wide (placesFor n) (places-most n)) s
 
 -- Any reader loads right that reads images right: what it reads has its rules tested, is saved again and compared.
 module _ (b : List ℕ) (c : State) (reads : (s : State) → Rules s → encode s ≡ b → c ≡ s) where
@@ -69,7 +67,7 @@ loads-is b x (as-saved s r e) =
     let d = read-back b s r e in
     let k : keeps (decode b) ≡ true = says-read b .from (rw d r) in
     let q : same (encode (decode b)) b ≡ true = says-same (encode (decode b)) b .from (rw d e) in
-    rw (says-sound b .from (image-sound b s e), k, q) (ap loaded (sym d))
+    rw (says-sound b .from (rw e at (image-sound s)), k, q) (ap loaded (sym d))
 
 pub one-load : (b : List ℕ) (x y : Loaded) → Loads b x → Loads b y → x ≡ y
 one-load b x y p q = loads-is b x p ∙ sym (loads-is b y q)
