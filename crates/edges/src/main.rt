@@ -85,9 +85,9 @@ fn many(t: Table, times: usize) -> Table {
 }
 
 fn sizes() {
-    begin(8, 64);
-    begin(9, 64);
-    begin(8, 65);
+    begin(16, 64);
+    begin(17, 64);
+    begin(16, 65);
     begin(0, 1);
 }
 
@@ -117,6 +117,19 @@ fn open_writes() {
     deliver(t7, 2, 1, 1);
 }
 
+// A write that waits for desk 16.
+fn last_desk() {
+    let t0 = begin(16, 1);
+    let t1 = write(t0, 16, 1, 1);
+    let t2 = deliver(t1, 1, 16, 1);
+    let t3 = read(t2, 1, 1);
+    let t4 = write(t3, 1, 1, 2);
+    let t5 = deliver(t4, 2, 1, 1);
+    let t6 = deliver(t5, 2, 16, 1);
+    let t7 = read(t6, 2, 1);
+    deliver(t7, 17, 1, 1);
+}
+
 // With n = 1 a write is never open; write 65,535 and the next.
 fn alone() {
     let t0 = begin(1, 1);
@@ -138,6 +151,7 @@ fn main() {
     sizes();
     steps();
     open_writes();
+    last_desk();
     alone();
     broken();
 }

@@ -72,7 +72,7 @@ fn one_write(entry: usize) -> Table {
         opens[at + 1] = 2;
         opens[at + 2] = 1;
         opens[at + 3] = 1;
-        opens[at + 11] = 2;
+        opens[at + 3 + PLACES] = 2;
     }
     Table {
         core: core,

@@ -1,7 +1,8 @@
 // A table that was saved and reloaded goes on exactly as the one that was not (document 01, "Saved image").
 //
 // The schedule on standard input is run on two tables. The first is never saved; the second is saved and reloaded, in a first run where a line S
-// stands, in a second run after every step. For each step: the answers of both, whether these are the same, and whether the saved images are.
+// stands, in a second run after every step. For each step: the answers of both, whether these are the same, and whether the saved images are. A
+// line Z goes back to no table.
 ghost use Rattle.image_reload.specs.Live.{Live};
 use image::IMAGE;
 use image::Saving;
@@ -180,6 +181,18 @@ fn compare(t: Two) {
     say(b"\n");
 }
 
+// No table.
+fn nothing() -> Two
+    ensures { λ r. ⌜ Live (r .kept) × Live (r .reloaded) ⌝ }
+{
+    let none = table::begin(0, 0);
+    let kept = none.table;
+    Two {
+        kept: kept,
+        reloaded: kept,
+    }
+}
+
 fn one(t: Two, line: &[u8], every: bool) -> Two
     requires { ⌜ Live (t .kept) × Live (t .reloaded) ⌝ }
     ensures { λ r. ⌜ Live (r .kept) × Live (r .reloaded) ⌝ }
@@ -189,6 +202,10 @@ fn one(t: Two, line: &[u8], every: bool) -> Two
         let u = again(t);
         compare(u);
         return u;
+    }
+    if check::same(line, b"Z\n") {
+        say(b"Z\n");
+        return nothing();
     }
     let u = both(t, line);
     if every {
@@ -201,12 +218,7 @@ fn one(t: Two, line: &[u8], every: bool) -> Two
 }
 
 fn run(text: &[u8], every: bool) {
-    let none = table::begin(0, 0);
-    let kept = none.table;
-    let mut t = Two {
-        kept: kept,
-        reloaded: kept,
-    };
+    let mut t = nothing();
     let mut at = 0;
     while at < text.len() {
         let line = schedule::line_at(text, at);

@@ -1,6 +1,6 @@
 use Prim.Native.Nat.{_≤_, _-_}
 use lib.ListN.{length}
-use Rattle.image_reload.specs.Live.{Live, live-begun}
+use Rattle.image_reload.specs.Live.{Live}
 use borrow.Author.Needs.{needs}
 use Rattle.image_reload.proofs.run.Statement.{statement}
 use Rattle.image_reload.proofs.run.Tie as tie
@@ -11,10 +11,7 @@ Inv-loop text every t₀ at₀ t at = (at ≤ length text) × (Live (t .kept) ×
 abbrev μ-loop : tie.MeasureT-loop
 μ-loop text every t₀ at₀ t at = length text - at
 
-loop-holds : tie.Need-loop-holds Inv-loop μ-loop
-loop-holds c = let l = live-begun (c .before .begin .result) (c .before .begin .ensures) in (search needs, (l, l))
-
 pub run-spec : {M : Type 1} → statement M
-run-spec = tie.close (tie.spec Inv-loop μ-loop (λ c κs. search needs) loop-holds (λ c κs. search needs) (λ c. search needs)
+run-spec = tie.close (tie.spec Inv-loop μ-loop (λ c κs. search needs) (λ c. search needs) (λ c κs. search needs) (λ c. search needs)
     (λ c. search needs) (λ c. search needs) (λ c. search needs) (λ c. search needs) (λ c. search needs) (λ c. search needs)
     (λ c κs. search needs) (λ c. search needs) (λ c. search needs) (λ c. search needs))
