@@ -77,7 +77,10 @@ first-edition p t = refl
 
 -- "An old program refuses edition 2 with 13": it is undamaged, and in edition 1 the image of no table whatever
 pub old-refuses : (s : State) → narrow < s .setup .desks → Undamaged (encode s) × ((t : State) → encodeAt narrow t ≢ encode s)
-old-refuses s h = (image-sound s, λ t e. (
-    let z : _≡_ {A = ℕ} 1 2 =
-    sym (edition-1 .numbered) ∙ sym (first-edition narrow t) ∙ ap (λ (l : List ℕ). getD l 1 0) (e ∙ saves-broad s h) ∙ first-edition broad s ∙ edition-2 .numbered in
-    omega arith))
+old-refuses s h = (
+  image-sound s,
+  λ t e. (
+      let z : _≡_ {A = ℕ} 1 2 =
+      sym (edition-1 .numbered) ∙ sym (first-edition narrow t) ∙ ap (λ (l : List ℕ). getD l 1 0) (e ∙ saves-broad s h) ∙ first-edition broad s ∙ edition-2 .numbered in
+      omega arith),
+)

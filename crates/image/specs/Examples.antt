@@ -1,5 +1,5 @@
 -- The document's numbers, computed.
-use Rattle.laws.specs.{Kit.{_*_, _≡_, refl, true, false, none, [], _∷_, length, replicate}, Update.{upd, upd2}, Sum.{sum}}
+use Rattle.laws.specs.{Kit.{_*_, _≡_, refl, true, false, none, [], _∷_, _++_, length, replicate}, Update.{upd, upd2}, Sum.{sum}}
 use Rattle.laws.specs.{Loop.{scan, turns}, All.{all}, Tab.{tab, tabFrom}, Cat.{cat, part}}
 use Rattle.machine.specs.{Table.{zeros, sized, State, fresh}, Answer.{damaged}, Steps.{openCount, everywhere, failing, write}}
 use Rattle.machine.specs.RulesTest.{keeps}
@@ -29,7 +29,23 @@ pub open-entry : part (5 * block-bytes) 40 (encode one-write-table) ≡ 4 ∷ 1 
 unfolding placesFor editionOf encodeAt block cat vectorWords markBytes deskBytes cellBytes cellPart openBytes openPart names namesOfDesk openCount sum checkOf part upd upd2 everywhere all scan turns tab tabFrom
 open-entry = refl
 
--- the rules hold of it; of the same with the clocks or the open write lost they do not
+-- Document 02, T-06. Desk 9 of 9 writes status 2 to cell 1: edition 2, and the block at place 19 holds the open write, with 16 places and 16 marks,
+-- of which the ninth are set
+abbrev pub ninth-write-table : State
+ninth-write-table = write (fresh 9 1) 9 1 2
+
+pub broad-entry : part (19 * block-bytes) 60 (encode ninth-write-table)
+    ≡ 4 ∷ 2 ∷ 19 ∷ 0 ∷ 9 ∷ 2 ∷ 1 ∷ 0 ∷ (replicate 16 0 ++ 1 ∷ 0 ∷ (replicate 14 0 ++ (replicate 8 0 ++ 2 ∷ (replicate 7 0 ++ replicate 4 0))))
+unfolding placesFor editionOf encodeAt block cat vectorWords markBytes deskBytes cellBytes cellPart openBytes openPart names namesOfDesk openCount sum checkOf part upd upd2 everywhere all scan turns tab tabFrom
+broad-entry = refl
+
+-- the block of desk 9 before it: its counts, and from byte 40 its clock
+pub broad-desk : part (9 * block-bytes) 76 (encode ninth-write-table)
+    ≡ 2 ∷ 2 ∷ 9 ∷ 0 ∷ 9 ∷ 0 ∷ 0 ∷ 0 ∷ (replicate 16 0 ++ 1 ∷ 0 ∷ (replicate 14 0 ++ (replicate 16 0 ++ 1 ∷ 0 ∷ (replicate 14 0 ++ replicate 4 0))))
+unfolding placesFor editionOf encodeAt block cat vectorWords markBytes deskBytes cellBytes cellPart openBytes openPart names namesOfDesk openCount sum checkOf part upd upd2 everywhere all scan turns tab tabFrom
+broad-desk = refl
+
+-- the rules hold of one-write-table; of the same with the clocks or the open write lost they do not
 pub one-write-keeps : keeps one-write-table ≡ true
 unfolding keeps openCount sum upd upd2 everywhere failing all scan turns
 one-write-keeps = refl

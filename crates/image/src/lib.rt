@@ -72,7 +72,10 @@ const BROAD_CELLS: usize = (CHECK - PAYLOAD_AT) / BROAD_CELL;
 const BROAD_OPENS: usize = (CHECK - PAYLOAD_AT) / (BROAD_CELL + BROAD);
 
 pub const IMAGE: usize = BLOCK
-    * (1 + BROAD + (CELLS + BROAD_CELLS - 1) / BROAD_CELLS * BROAD + (OPENS + BROAD_OPENS - 1) / BROAD_OPENS);
+    * (1
+        + BROAD
+        + (CELLS + BROAD_CELLS - 1) / BROAD_CELLS * BROAD
+        + (OPENS + BROAD_OPENS - 1) / BROAD_OPENS);
 
 // The layout --
 
@@ -341,7 +344,14 @@ fn cell_block(p: usize, at: u16, cells: &Cells, i: usize, q: usize) -> [u8; BLOC
 }
 
 // Block q of the open writes.
-fn open_block(p: usize, at: u16, opens: &Opens, order: &[usize; OPENS], count: usize, q: usize) -> [u8; BLOCK]
+fn open_block(
+    p: usize,
+    at: u16,
+    opens: &Opens,
+    order: &[usize; OPENS],
+    count: usize,
+    q: usize,
+) -> [u8; BLOCK]
     requires { ⌜ (p ≤ places) × ((q < opens-most p) × OrderFits (now opens) (now order) count) ⌝ }
     ensures { λ r. ⌜ r ≡ blockOf p 4 at (cat (openPiece p (now (opens .entry)) (now (order .entry)) count q) (opens-in p)) ⌝ }
 {
@@ -387,7 +397,14 @@ struct Plan {
 }
 
 // The block at place k: the sizes, the desks, then their cells, and then the open writes.
-fn block_at(core: Core, cells: &Cells, opens: &Opens, order: &[usize; OPENS], plan: Plan, k: usize) -> [u8; BLOCK]
+fn block_at(
+    core: Core,
+    cells: &Cells,
+    opens: &Opens,
+    order: &[usize; OPENS],
+    plan: Plan,
+    k: usize,
+) -> [u8; BLOCK]
     requires { ⌜ Planned (tableWith core (now cells) (now opens)) (now order) plan × (k < plan .total) ⌝ }
     ensures { λ r. ⌜ r ≡ blockAt (plan .p) (modelOf (tableWith core (now (cells .entry)) (now (opens .entry)))) k ⌝ }
 {
@@ -412,7 +429,14 @@ fn block_at(core: Core, cells: &Cells, opens: &Opens, order: &[usize; OPENS], pl
     open_block(p, k as u16, opens, order, count, k - first)
 }
 
-fn save_blocks(core: Core, cells: &Cells, opens: &Opens, order: &[usize; OPENS], plan: Plan, out: &mut [u8])
+fn save_blocks(
+    core: Core,
+    cells: &Cells,
+    opens: &Opens,
+    order: &[usize; OPENS],
+    plan: Plan,
+    out: &mut [u8],
+)
     requires { ⌜ Planned (tableWith core (now cells) (now opens)) (now order) plan × (block-bytes * plan .total ≤ length (now out)) ⌝ }
     ensures { λ _. ⌜ now (out .exit) ≡ sets (now (out .entry)) 0 (encode (modelOf (tableWith core (now (cells .entry)) (now (opens .entry))))) ⌝ }
 {
@@ -443,7 +467,14 @@ fn same(a: &[u8], b: &[u8]) -> bool
 }
 
 // Are the blocks of a table those of b, which is as long?
-fn same_blocks(core: Core, cells: &Cells, opens: &Opens, order: &[usize; OPENS], plan: Plan, b: &[u8]) -> bool
+fn same_blocks(
+    core: Core,
+    cells: &Cells,
+    opens: &Opens,
+    order: &[usize; OPENS],
+    plan: Plan,
+    b: &[u8],
+) -> bool
     requires { ⌜ Planned (tableWith core (now cells) (now opens)) (now order) plan × (length (now b) ≡ block-bytes * plan .total) ⌝ }
     ensures { λ r. ⌜ Says r (encode (modelOf (tableWith core (now (cells .entry)) (now (opens .entry)))) ≡ now (b .entry)) ⌝ }
 {

@@ -76,7 +76,7 @@ pub refused-bytes : (r : Refusal) → length (answerLine (refused r)) ≤ each-b
 refused-bytes r = simp length-append (omega (arith, decimal-short 1 (numberOf r) (refusal-small r)))
 
 module _ {s : State} (f : Frame s) where
-  name-bytes : (w : Name) → Made s w → 1 + length (nameBytes w) ≤ each-name
+  pub name-bytes : (w : Name) → Made s w → 1 + length (nameBytes w) ≤ each-name
   name-bytes w h =
       omega (
         arith,
@@ -85,7 +85,7 @@ module _ {s : State} (f : Frame s) where
         number-short (w .number) (omega (arith, h .1 .1, f .ranges .written (w .writer))),
       )
 
-  names-bytes : (l : List Name) → Each (Made s) l → length (namesBytes l) ≤ each-name * length l
+  pub names-bytes : (l : List Name) → Each (Made s) l → length (namesBytes l) ≤ each-name * length l
   unfolding namesBytes
   names-bytes l no = omega arith
   names-bytes l (and {x = w} {l = m} h e) = simp length-append (omega (arith, name-bytes w h, names-bytes m e))

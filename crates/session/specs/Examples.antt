@@ -26,3 +26,9 @@ pub edges : map transcript (
     text "E 10\nE 11\nE 10\nN\nE 10\nE 9\nE 10\nW 1.1\nR 0 1.1\nE 10\n" ∷ []
 unfolding transcript transcriptFrom linesOf answersOf printed lineOf words number numbers readOn form bind isDigit turns scan all upd upd2 sum begin step failing everywhere openCount firstDue settle reads any every verdict digits decimal nameBytes namesBytes
 edges = refl
+
+-- desk numbers of two digits: a write that waits for desk 16
+pub sixteen-desks : transcript (text "N 16 1\nW 16 1 1\nD 1 16 1\nR 1 1\nW 1 1 2\nD 2 1 1\nD 2 16 1\nD 17 1 1\n")
+    ≡ text "N\nW 16.1\nA 16.1\nR 1 16.1\nW 1.1\nH 16.1\nA 16.1 1.1\nE 1\n"
+unfolding transcript transcriptFrom linesOf answersOf printed lineOf words number numbers readOn form bind isDigit turns scan all upd upd2 sum begin step failing everywhere openCount firstDue settle reads any every verdict digits decimal nameBytes namesBytes
+sixteen-desks = refl

@@ -1,6 +1,7 @@
 pub mod Session
 pub mod Transcript
 pub mod AnswersBound
+pub mod LongestLine
 pub mod Examples
 pub mod Holds
 pub mod Run
