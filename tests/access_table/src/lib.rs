@@ -55,18 +55,19 @@ pub const MAX_SCHEDULE: usize = 65_536;
 /// The length of a block of an image.
 pub const BLOCK: usize = 512;
 
-/// The length of the largest image: 37 blocks.
-pub const MAX_IMAGE: usize = 37 * BLOCK;
+/// The length of the largest image: 105 blocks, of 16 desks. With up to 8 desks
+/// an image has at most 37.
+pub const MAX_IMAGE: usize = 105 * BLOCK;
 
 /// A length that the answers to a schedule of so many bytes never exceed.
 ///
 /// Five bytes for each byte (an empty line is 1 byte, and its answer, `E 10`
 /// and LF, is 5), and 9 for the name of each write that came held with the
-/// image, at most 64 at each of 7 desks. The formula is proved: `enough` in
+/// image, at most 64 at each of 15 desks. The formula is proved: `enough` in
 /// `crates/capi/specs/Enough.antt`, from `answers-fit` in
 /// `crates/session/specs/AnswersBound.antt`.
 pub const fn answers_bound(schedule: usize) -> usize {
-    5 * schedule + 9 * 64 * 7
+    5 * schedule + 9 * 64 * 15
 }
 
 /// Why a whole call was refused, by document 01's numbers.

@@ -84,11 +84,13 @@ pub struct Holds {
     pub several: usize,
     /// t.j is itself held there.
     pub held: usize,
+    /// t has two digits.
+    pub digits: usize,
 }
 
 impl Holds {
     /// Each class in words, and its count.
-    pub fn classes(&self) -> [(&'static str, usize); 6] {
+    pub fn classes(&self) -> [(&'static str, usize); 7] {
         [
             ("j above 1", self.later),
             ("t the writer", self.writer),
@@ -96,6 +98,7 @@ impl Holds {
             ("t another desk and its vector place above j", self.further),
             ("a larger desk failing too", self.several),
             ("t.j itself held there", self.held),
+            ("t of two digits", self.digits),
         ]
     }
 
@@ -114,6 +117,7 @@ impl AddAssign for Holds {
         self.further += more.further;
         self.several += more.several;
         self.held += more.held;
+        self.digits += more.digits;
     }
 }
 
@@ -329,7 +333,7 @@ impl Run {
             .collect::<Option<_>>()
             .ok_or(MISFIT)?;
         if letter == b"N" {
-            let ([n @ 1..=8, m @ 1..=64], [b"N"], true) =
+            let ([n @ 1..=16, m @ 1..=64], [b"N"], true) =
                 (&numbers[..], &answer[..], self.desks.is_empty())
             else {
                 return Err(MISFIT);
@@ -501,6 +505,7 @@ impl Run {
             further: usize::from(!own && of_t > 1),
             several: usize::from(missing.len() > of_t),
             held: usize::from(self.desks[i].held.contains(&named)),
+            digits: usize::from(t > 9),
         }
     }
 

@@ -7,10 +7,10 @@
 
 mod damage;
 
-pub use damage::{damage, damaged_image, Damage, Sample};
+pub use damage::{damage, damaged_image, in_edition, Damage, Sample};
 
 use crate::image;
-use crate::table::{Delivery, Mark, Table};
+use crate::table::{Delivery, Mark, Table, MAX_DESKS};
 use crate::text::{Reader, Session, MAX_INPUT, MAX_LINE};
 
 /// A small pseudo-random generator (splitmix64).
@@ -106,20 +106,36 @@ impl Kind {
     }
 }
 
-/// A schedule of at most `lines` lines.
+/// A schedule of at most `lines` lines. Half of the seeds give more than 8 desks.
 pub fn schedule(seed: u64, kind: Kind, lines: usize) -> Vec<u8> {
+    schedule_of(seed, kind, lines, None)
+}
+
+/// As [`schedule`], with so many desks. `Single` has one, whatever is asked for.
+pub fn schedule_of(seed: u64, kind: Kind, lines: usize, asked: Option<usize>) -> Vec<u8> {
+    // Drawn apart: the traffic of all other seeds is as it was before there
+    // were more than 8.
+    let mut many = Rng::new(seed ^ (kind as u64 + 1) << 48);
+    let many = many.chance(1, 2).then(|| {
+        let some = many.range(10, 15);
+        *many.pick(&[9, 16, some, some])
+    });
+    let desks = Desks(asked.or(many));
     let mut rng = Rng::new(seed ^ (kind as u64 + 1) << 56);
     let mut out = Lines {
         text: Vec::new(),
         left: lines,
     };
     match kind {
-        Kind::Traffic => traffic(&mut rng, &mut out, false),
-        Kind::HalfTyped => half_typed(&mut rng, &mut out),
-        Kind::Edges => edges(&mut rng, &mut out),
-        Kind::Full => full(&mut rng, &mut out),
-        Kind::Single => traffic(&mut rng, &mut out, true),
-        Kind::Size => size(&mut rng, &mut out),
+        Kind::Traffic => {
+            let n = desks.or(rng.range(2, 8));
+            traffic(n, &mut rng, &mut out);
+        }
+        Kind::HalfTyped => half_typed(desks, &mut rng, &mut out),
+        Kind::Edges => edges(desks, &mut rng, &mut out),
+        Kind::Full => full(desks, &mut rng, &mut out),
+        Kind::Single => traffic(1, &mut rng, &mut out),
+        Kind::Size => size(desks, &mut rng, &mut out),
         Kind::Mixed => {
             let kinds = [
                 Kind::Traffic,
@@ -130,10 +146,21 @@ pub fn schedule(seed: u64, kind: Kind, lines: usize) -> Vec<u8> {
                 Kind::Single,
             ];
             let kind = *rng.pick(&kinds);
-            return schedule(rng.bits(), kind, lines);
+            return schedule_of(rng.bits(), kind, lines, asked);
         }
     }
     out.text
+}
+
+/// The number of desks that is asked for, if one is.
+#[derive(Clone, Copy)]
+struct Desks(Option<usize>);
+
+impl Desks {
+    /// That number, or else this one.
+    fn or(self, n: usize) -> usize {
+        self.0.unwrap_or(n)
+    }
 }
 
 /// A table that a schedule gave.
@@ -160,7 +187,7 @@ pub fn worn_image(seed: u64) -> Vec<u8> {
     let table = table(seed);
     let mut rng = Rng::new(seed ^ 0x3047_0000_0000_0000);
     let n = table.desks();
-    let mut up = [0u16; 8];
+    let mut up = [0u16; MAX_DESKS];
     for desk in 1..=n {
         let own = table
             .applied(desk.into())
@@ -239,10 +266,10 @@ struct Traffic {
     /// (desk, writer, number)
     due: Vec<(u16, u16, u16)>,
     /// Desks that receive nothing for a while.
-    cut: [bool; 9],
+    cut: [bool; MAX_DESKS + 1],
     order: Order,
     /// The cell last changed at each desk.
-    fresh: [u16; 9],
+    fresh: [u16; MAX_DESKS + 1],
     /// Weights of write, deliver, read, trip, stray.
     weights: [usize; 5],
     /// With more deliveries outstanding than this, a write is rare.
@@ -279,9 +306,9 @@ impl Traffic {
         Traffic {
             table,
             due,
-            cut: [false; 9],
+            cut: [false; MAX_DESKS + 1],
             order: *rng.pick(&[Order::First, Order::Last, Order::Any, Order::Any]),
-            fresh: [1; 9],
+            fresh: [1; MAX_DESKS + 1],
             weights,
             ceiling: *rng.pick(&[6, 15, 40, 120, 500]),
         }
@@ -405,7 +432,8 @@ impl Traffic {
         let (n, m) = (self.n() as u16, self.m() as u16);
         let (i, u, x) = (self.desk(rng), self.desk(rng), self.cell(rng));
         let own = self.table.applied(u).map_or(0, |a| a[u as usize - 1]);
-        let bad_desk = *rng.pick(&[0, n + 1, 9, 65_535]);
+        let past = if n <= 8 { 9 } else { 17 };
+        let bad_desk = *rng.pick(&[0, n + 1, past, 65_535]);
         let bad_cell = *rng.pick(&[0, m + 1, 65, 65_535]);
         let line = match rng.below(13) {
             0 => format!("R {bad_desk} {x}"),
@@ -456,8 +484,7 @@ fn cells(rng: &mut Rng) -> usize {
     rng.range(1, most)
 }
 
-fn traffic(rng: &mut Rng, out: &mut Lines, single: bool) {
-    let n = if single { 1 } else { rng.range(2, 8) };
+fn traffic(n: usize, rng: &mut Rng, out: &mut Lines) {
     let m = cells(rng);
     out.put(format!("N {n} {m}"));
     let mut traffic = Traffic::fresh(n, m, rng);
@@ -466,8 +493,8 @@ fn traffic(rng: &mut Rng, out: &mut Lines, single: bool) {
     }
 }
 
-fn full(rng: &mut Rng, out: &mut Lines) {
-    let n = *rng.pick(&[2, 2, 2, 3, 3, 4, 8]);
+fn full(desks: Desks, rng: &mut Rng, out: &mut Lines) {
+    let n = desks.or(*rng.pick(&[2, 2, 2, 3, 3, 4, 8]));
     let m = cells(rng);
     out.put(format!("N {n} {m}"));
     let mut t = Traffic::fresh(n, m, rng);
@@ -529,7 +556,7 @@ fn full(rng: &mut Rng, out: &mut Lines) {
     }
 }
 
-fn half_typed(rng: &mut Rng, out: &mut Lines) {
+fn half_typed(desks: Desks, rng: &mut Rng, out: &mut Lines) {
     // Steps and nonsense before there is a table.
     for _ in 0..rng.below(6) {
         let line = match rng.below(8) {
@@ -537,8 +564,8 @@ fn half_typed(rng: &mut Rng, out: &mut Lines) {
             1 => "W 1 1 1".into(),
             2 => "D 1 2 1".into(),
             3 => "T 1".into(),
-            4 => format!("N {} {}", rng.below(11), rng.pick(&[0, 65, 65_535])),
-            5 => format!("N {} {}", rng.pick(&[0, 9, 65_535]), rng.below(66)),
+            4 => format!("N {} {}", rng.below(19), rng.pick(&[0, 65, 65_535])),
+            5 => format!("N {} {}", rng.pick(&[0, 17, 65_535]), rng.below(66)),
             6 => "N 65536 1".into(),
             _ => "n 3 2".into(),
         };
@@ -548,7 +575,7 @@ fn half_typed(rng: &mut Rng, out: &mut Lines) {
             out.put(line);
         }
     }
-    let n = rng.range(1, 8);
+    let n = desks.or(rng.range(1, 8));
     let m = cells(rng);
     out.put(format!("N {n} {m}"));
     let mut t = Traffic::fresh(n, m, rng);
@@ -634,7 +661,7 @@ fn long_line(rng: &mut Rng) -> Vec<u8> {
             line.resize(length, b' ');
             line
         }
-        _ => long_trip(length, *rng.pick(&[0, 1, 1, 2, 9])),
+        _ => long_trip(length, *rng.pick(&[0, 1, 1, 2, 9, 17])),
     }
 }
 
@@ -650,25 +677,30 @@ fn long_trip(length: usize, desk: u16) -> Vec<u8> {
     line
 }
 
-fn edges(rng: &mut Rng, out: &mut Lines) {
+fn edges(desks: Desks, rng: &mut Rng, out: &mut Lines) {
     for _ in 0..rng.below(5) {
         out.put(*rng.pick(&[
-            "N 9 64",
-            "N 8 65",
+            "N 17 64",
+            "N 16 65",
+            "N 17 65",
             "N 0 1",
             "N 1 0",
             "N 65535 1",
             "N 1 65535",
             "N 65536 1",
             "N 1 65536",
-            "N 8",
+            "N 16",
             "N",
-            "N 8 64 1",
-            "N 08 64",
+            "N 16 64 1",
+            "N 016 64",
         ]));
     }
-    let n = *rng.pick(&[1, 2, 7, 8]);
-    let m = *rng.pick(&[1, 25, 26, 50, 51, 63, 64]);
+    let n = desks.or(*rng.pick(&[1, 2, 7, 8]));
+    // At the edges of a block of cells, in either edition.
+    let m = *rng.pick(match n {
+        1..=8 => &[1, 25, 26, 50, 51, 63, 64],
+        _ => &[1, 14, 15, 28, 29, 42, 43, 56, 57, 63, 64],
+    });
     out.put(format!("N {n} {m}"));
     let mut t = Traffic::fresh(n, m, rng);
     while out.more() {
@@ -696,10 +728,10 @@ fn edges(rng: &mut Rng, out: &mut Lines) {
     }
 }
 
-fn size(rng: &mut Rng, out: &mut Lines) {
+fn size(desks: Desks, rng: &mut Rng, out: &mut Lines) {
     let far = MAX_INPUT + 2 + rng.below(5_000);
     let length = *rng.pick(&[MAX_INPUT - 1, MAX_INPUT, MAX_INPUT, MAX_INPUT + 1, far]);
-    let n = rng.range(1, 8);
+    let n = desks.or(rng.range(1, 8));
     let m = cells(rng);
     out.left = usize::MAX;
     out.put(format!("N {n} {m}"));

@@ -1,4 +1,7 @@
-//! The saved image: blocks of 512 bytes, kinds 1 to 4.
+//! The saved image: blocks of 512 bytes, kinds 1 to 4, in two editions.
+//!
+//! An edition is the number of places that its vectors have: 8 in edition 1, for
+//! tables of up to 8 desks, and 16 in edition 2. The codec is one, over that number.
 
 use crate::table::{Cell, Entry, Mark, Table, Vector, MAX_CELLS, MAX_DESKS, MAX_OPEN};
 use crate::Refusal;
@@ -9,18 +12,68 @@ pub const BLOCK: usize = 512;
 pub const PAYLOAD: usize = 4;
 /// Where the check begins, and the payload ends.
 pub const CHECK: usize = 508;
-/// The edition of this format.
-pub const EDITION: u8 = 1;
-/// How many cells a block of kind 3 holds.
-pub const CELLS_PER_BLOCK: usize = 25;
-/// The bytes of a cell.
-pub const CELL_BYTES: usize = 20;
-/// How many open writes a block of kind 4 holds.
-pub const OPEN_PER_BLOCK: usize = 18;
-/// The bytes of an open write.
-pub const OPEN_BYTES: usize = 28;
 /// The most blocks an image can have.
-pub const MAX_BLOCKS: usize = 37;
+pub const MAX_BLOCKS: usize = 105;
+
+/// An edition: its number, and what it makes of blocks.
+#[derive(Clone, Copy, Debug, PartialEq, Eq)]
+pub struct Edition {
+    /// Byte 1 of every block.
+    pub number: u8,
+    /// The places of a vector, and the marks of an open write.
+    pub places: usize,
+    /// The bytes of a cell.
+    pub cell_bytes: usize,
+    /// How many cells a block of kind 3 holds.
+    pub cells_per_block: usize,
+    /// The bytes of an open write.
+    pub open_bytes: usize,
+    /// How many open writes a block of kind 4 holds.
+    pub open_per_block: usize,
+}
+
+impl Edition {
+    /// For tables of up to 8 desks.
+    pub const ONE: Edition = Edition::over(1, 8);
+    /// For tables of 9 to 16 desks.
+    pub const TWO: Edition = Edition::over(2, 16);
+
+    const fn over(number: u8, places: usize) -> Edition {
+        let (cell_bytes, open_bytes) = (4 + 2 * places, 4 + 3 * places);
+        Edition {
+            number,
+            places,
+            cell_bytes,
+            cells_per_block: (CHECK - PAYLOAD) / cell_bytes,
+            open_bytes,
+            open_per_block: (CHECK - PAYLOAD) / open_bytes,
+        }
+    }
+
+    /// The edition of a table of n desks.
+    pub const fn of(n: usize) -> Edition {
+        if n <= Edition::ONE.places {
+            Edition::ONE
+        } else {
+            Edition::TWO
+        }
+    }
+
+    /// Where the clock begins in a desk's payload, behind its counts.
+    pub const fn clock(&self) -> usize {
+        4 + 2 * self.places
+    }
+
+    /// Where the marks of an open write begin, behind its vector.
+    pub const fn marks(&self) -> usize {
+        4 + 2 * self.places
+    }
+
+    /// The blocks of an image of a table with these numbers.
+    pub const fn blocks(&self, n: usize, m: usize, open: usize) -> usize {
+        1 + n + n * m.div_ceil(self.cells_per_block) + open.div_ceil(self.open_per_block)
+    }
+}
 
 /// The check of a block: 1 plus the sum of (j+1) times byte j, j from 0 to
 /// 507. Bytes past 507 do not count.
@@ -33,7 +86,7 @@ pub fn check_of(block: &[u8]) -> u32 {
 
 /// The blocks of an image of a table with these numbers.
 pub fn block_count(n: usize, m: usize, open: usize) -> usize {
-    1 + n + n * m.div_ceil(CELLS_PER_BLOCK) + open.div_ceil(OPEN_PER_BLOCK)
+    Edition::of(n).blocks(n, m, open)
 }
 
 /// The length in bytes of a table's image.
@@ -52,29 +105,42 @@ pub fn save(table: &Table, buffer: &mut [u8]) -> Result<usize, Refusal> {
     let Some(image) = buffer.get_mut(..length) else {
         return Err(Refusal::Length);
     };
-    let n = table.n as usize;
+    match Edition::of(table.n.into()) {
+        Edition::ONE => put::<8>(table, image),
+        _ => put::<16>(table, image),
+    }
+    Ok(length)
+}
+
+/// Writes a table into an image of its length, with vectors of P places.
+fn put<const P: usize>(table: &Table, image: &mut [u8]) {
+    let edition = const { Edition::of(P) };
     let m = table.m as usize;
-    let mut blocks = BlockWriter { image, place: 0 };
+    let mut blocks = BlockWriter {
+        image,
+        edition: edition.number,
+        place: 0,
+    };
 
     blocks.put(1, |p| {
         p[0] = table.n;
         p[1] = table.m;
         p[2] = table.open_count() as u8;
     });
-    for (d, number) in table.desks[..n].iter().zip(1..) {
+    for (d, number) in table.desks.iter().zip(1..) {
         blocks.put(2, |p| {
             p[0] = number;
-            put_vector(&mut p[4..], &d.applied);
-            put_vector(&mut p[20..], &d.clock);
+            put_vector::<P>(&mut p[4..], &d.applied);
+            put_vector::<P>(&mut p[edition.clock()..], &d.clock);
         });
     }
-    for d in &table.desks[..n] {
-        for group in d.cells[..m].chunks(CELLS_PER_BLOCK) {
+    for d in &table.desks {
+        for group in d.cells[..m].chunks(edition.cells_per_block) {
             blocks.put(3, |p| {
-                for (cell, p) in group.iter().zip(p.chunks_mut(CELL_BYTES)) {
+                for (cell, p) in group.iter().zip(p.chunks_mut(edition.cell_bytes)) {
                     p[0] = cell.writer;
                     p[1] = cell.status;
-                    put_vector(&mut p[4..], &cell.vector);
+                    put_vector::<P>(&mut p[4..], &cell.vector);
                 }
             });
         }
@@ -83,12 +149,12 @@ pub fn save(table: &Table, buffer: &mut [u8]) -> Result<usize, Refusal> {
     while open.peek().is_some() {
         blocks.put(4, |p| {
             // The places come first: a write is taken only where one is left.
-            for (p, write) in p.chunks_exact_mut(OPEN_BYTES).zip(open.by_ref()) {
+            for (p, write) in p.chunks_exact_mut(edition.open_bytes).zip(open.by_ref()) {
                 p[0] = write.name.desk;
                 p[1] = write.status;
                 p[2] = write.cell;
-                put_vector(&mut p[4..], &write.vector);
-                for (byte, mark) in p[20..].iter_mut().zip(write.marks) {
+                put_vector::<P>(&mut p[4..], &write.vector);
+                for (byte, mark) in p[edition.marks()..].iter_mut().zip(write.marks) {
                     *byte = match mark {
                         Mark::Missing => 0,
                         Mark::Held => 1,
@@ -98,7 +164,6 @@ pub fn save(table: &Table, buffer: &mut [u8]) -> Result<usize, Refusal> {
             }
         });
     }
-    Ok(length)
 }
 
 /// Saves a table into a buffer of its own. Refusal: 13, as in [`save`].
@@ -120,7 +185,12 @@ pub fn load(image: &[u8]) -> Result<Table, Refusal> {
             return Err(Refusal::ImageDamaged);
         }
     }
-    parse(image).ok_or(Refusal::RuleBroken)
+    // Byte 4 of the first block is n.
+    let table = match Edition::of(image[PAYLOAD].into()) {
+        Edition::ONE => parse::<8>(image),
+        _ => parse::<16>(image),
+    };
+    table.ok_or(Refusal::RuleBroken)
 }
 
 /// Whether a table keeps the rules of document 01. Every table that the steps
@@ -131,26 +201,22 @@ pub fn keeps_rules(table: &Table) -> bool {
     if !(1..=MAX_DESKS).contains(&n) || !(1..=MAX_CELLS).contains(&m) {
         return false;
     }
-    let (desks, no_desks) = table.desks.split_at(n);
+    if table.desks.len() != n {
+        return false;
+    }
     let mut own: Vector = [0; MAX_DESKS];
-    for (u, d) in desks.iter().enumerate() {
+    for (u, d) in table.desks.iter().enumerate() {
         own[u] = d.applied[u];
     }
     let fresh = |cell: &Cell| *cell == Cell::UNSET;
-    let desks_good = desks.iter().enumerate().all(|(i, d)| {
+    let desks_good = table.desks.iter().enumerate().all(|(i, d)| {
         at_most(&d.applied, &own)
             && at_most(&d.clock, &d.applied)
             && d.clock[i] == d.applied[i]
             && d.cells[..m].iter().all(|c| cell_good(c, &d.applied, n))
             && d.cells[m..].iter().all(fresh)
     });
-    let no_desks_good = no_desks.iter().all(|d| {
-        d.applied == [0; MAX_DESKS]
-            && d.clock == [0; MAX_DESKS]
-            && d.held == 0
-            && d.cells.iter().all(fresh)
-    });
-    desks_good && no_desks_good && open_good(table, &own)
+    desks_good && open_good(table, &own)
 }
 
 /// Whether the open list is exact and every open write keeps its rules.
@@ -173,7 +239,7 @@ fn open_good(table: &Table, own: &Vector) -> bool {
             let good = e.status <= 2
                 && (1..=table.m).contains(&e.cell)
                 && at_most(&e.vector, own)
-                && table.desks[..n].iter().enumerate().all(|(i, d)| {
+                && table.desks.iter().enumerate().all(|(i, d)| {
                     let held = d.held >> s & 1 == 1;
                     if k <= d.applied[u].into() {
                         !held && at_most(&e.vector, &d.applied)
@@ -204,19 +270,26 @@ fn cell_good(cell: &Cell, applied: &Vector, n: usize) -> bool {
 }
 
 fn at_most(a: &Vector, b: &Vector) -> bool {
-    a.iter().zip(b).all(|(x, y)| x <= y)
+    // Without a way out in between: all places at once.
+    (a.iter().zip(b)).fold(0, |over, (x, y)| over | x.saturating_sub(*y)) == 0
 }
 
-/// Takes an image with good checks apart; `None` is refusal 13.
-fn parse(image: &[u8]) -> Option<Table> {
-    let mut blocks = BlockReader { image, place: 0 };
+/// Takes an image with good checks apart, whose vectors have P places; `None` is
+/// refusal 13.
+fn parse<const P: usize>(image: &[u8]) -> Option<Table> {
+    let edition = const { Edition::of(P) };
+    let mut blocks = BlockReader {
+        image,
+        edition: edition.number,
+        place: 0,
+    };
 
     let mut head = blocks.take(1)?;
     let (n, m, open) = (head.byte(), head.byte(), head.byte());
     head.zero_to_end()?;
     let mut table = Table::new(n.into(), m.into()).ok()?;
     let (n, m, open) = (n as usize, m as usize, open as usize);
-    if open > MAX_OPEN || image.len() != BLOCK * block_count(n, m, open) {
+    if open > MAX_OPEN || image.len() != BLOCK * edition.blocks(n, m, open) {
         return None;
     }
     for i in 0..n {
@@ -225,18 +298,18 @@ fn parse(image: &[u8]) -> Option<Table> {
             return None;
         }
         p.zero(3)?;
-        table.desks[i].applied = p.vector();
-        table.desks[i].clock = p.vector();
+        table.desks[i].applied = p.vector::<P>();
+        table.desks[i].clock = p.vector::<P>();
         p.zero_to_end()?;
     }
     for i in 0..n {
-        for group in table.desks[i].cells[..m].chunks_mut(CELLS_PER_BLOCK) {
+        for group in table.desks[i].cells[..m].chunks_mut(edition.cells_per_block) {
             let mut p = blocks.take(3)?;
             for cell in group {
                 cell.writer = p.byte();
                 cell.status = p.byte();
                 p.zero(2)?;
-                cell.vector = p.vector();
+                cell.vector = p.vector::<P>();
             }
             p.zero_to_end()?;
         }
@@ -253,18 +326,18 @@ fn parse(image: &[u8]) -> Option<Table> {
     if listed.len() != open {
         return None;
     }
-    for group in listed.chunks(OPEN_PER_BLOCK) {
+    for group in listed.chunks(edition.open_per_block) {
         let mut p = blocks.take(4)?;
         for &(u, number) in group {
             let writer = p.byte();
             let status = p.byte();
             let cell = p.byte();
             p.zero(1)?;
-            let vector = p.vector();
+            let vector = p.vector::<P>();
             if writer as usize != u + 1 || vector[u] != number {
                 return None;
             }
-            let mut marks = [0; MAX_DESKS];
+            let mut marks = [0; P];
             for mark in &mut marks {
                 *mark = p.byte();
             }
@@ -276,10 +349,11 @@ fn parse(image: &[u8]) -> Option<Table> {
                 cell,
                 left,
             });
-            for (i, &mark) in marks.iter().enumerate() {
-                let d = &mut table.desks[i];
-                let applied = i < n && number <= d.applied[u];
-                if mark > 2 || (i >= n && mark != 0) || (mark == 2) != applied {
+            if marks[n..].iter().any(|&mark| mark != 0) {
+                return None;
+            }
+            for (d, &mark) in table.desks.iter_mut().zip(&marks) {
+                if mark > 2 || (mark == 2) != (number <= d.applied[u]) {
                     return None;
                 }
                 if mark == 1 {
@@ -292,8 +366,8 @@ fn parse(image: &[u8]) -> Option<Table> {
     keeps_rules(&table).then_some(table)
 }
 
-fn put_vector(p: &mut [u8], vector: &Vector) {
-    for (bytes, place) in p.chunks_exact_mut(2).zip(vector) {
+fn put_vector<const P: usize>(p: &mut [u8], vector: &Vector) {
+    for (bytes, place) in p.chunks_exact_mut(2).zip(&vector[..P]) {
         bytes.copy_from_slice(&place.to_le_bytes());
     }
 }
@@ -301,6 +375,7 @@ fn put_vector(p: &mut [u8], vector: &Vector) {
 /// Writes blocks one behind the other into a buffer of the right length.
 struct BlockWriter<'a> {
     image: &'a mut [u8],
+    edition: u8,
     place: usize,
 }
 
@@ -308,7 +383,7 @@ impl BlockWriter<'_> {
     fn put(&mut self, kind: u8, fill: impl FnOnce(&mut [u8])) {
         let mut block = [0; BLOCK];
         block[0] = kind;
-        block[1] = EDITION;
+        block[1] = self.edition;
         block[2..PAYLOAD].copy_from_slice(&(self.place as u16).to_le_bytes());
         fill(&mut block[PAYLOAD..CHECK]);
         let check = check_of(&block);
@@ -321,6 +396,7 @@ impl BlockWriter<'_> {
 /// Hands out the payloads of the blocks in order.
 struct BlockReader<'a> {
     image: &'a [u8],
+    edition: u8,
     place: usize,
 }
 
@@ -329,7 +405,7 @@ impl<'a> BlockReader<'a> {
     fn take(&mut self, kind: u8) -> Option<Payload<'a>> {
         let block = self.image.chunks_exact(BLOCK).nth(self.place)?;
         let place = u16::from_le_bytes([block[2], block[3]]);
-        if block[0] != kind || block[1] != EDITION || usize::from(place) != self.place {
+        if block[0] != kind || block[1] != self.edition || usize::from(place) != self.place {
             return None;
         }
         self.place += 1;
@@ -347,9 +423,10 @@ impl Payload<'_> {
         byte[0]
     }
 
-    fn vector(&mut self) -> Vector {
+    /// A vector of P places; the others are zero.
+    fn vector<const P: usize>(&mut self) -> Vector {
         let mut vector = [0; MAX_DESKS];
-        for place in &mut vector {
+        for place in &mut vector[..P] {
             *place = u16::from_le_bytes([self.byte(), self.byte()]);
         }
         vector

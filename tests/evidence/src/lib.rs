@@ -1,9 +1,9 @@
-//! Independent evidence for the desk table of document 01, with T-04.
+//! Independent evidence for the desk table of document 01, with T-04 and T-06.
 //!
 //! This package is a second implementation of the step machine, its schedule
-//! text and its saved image, written from document 01, T-04 of document 02, the
-//! list of readings and sections 1 to 4.2 of source document 003 (OptP). It
-//! carries no proofs.
+//! text and its saved image, written from document 01, T-04 and T-06 of document
+//! 02, the list of readings and sections 1 to 4.2 of source document 003 (OptP).
+//! It carries no proofs.
 //! It is there to be held against a proved implementation: by comparing
 //! answers byte for byte, by comparing speed, and by a checker of causal order
 //! that uses no vectors at all.

@@ -8,7 +8,7 @@ use crate::Refusal;
 use std::fmt;
 
 /// The most desks a table can have.
-pub const MAX_DESKS: usize = 8;
+pub const MAX_DESKS: usize = 16;
 /// The most cells a table can have.
 pub const MAX_CELLS: usize = 64;
 /// The most writes that can be open at a time.
@@ -105,6 +105,14 @@ pub(crate) enum Variant {
     ReadForgets,
     /// The reads of a trip do not join the clock.
     TripForgets,
+    /// A write is ready by the first 8 places of its vector.
+    ReadyByEight,
+    /// A read joins the first 8 places alone.
+    ReadJoinsEight,
+    /// A write applied elsewhere leaves the first 8 places of its vector there.
+    AppliesEight,
+    /// The search over held writes stops at desk 8.
+    SearchesEight,
     /// A held answer names another write.
     #[cfg(test)]
     Misnames(crate::wrong::Misnamed),
@@ -187,7 +195,8 @@ impl Entry {
 pub struct Table {
     pub(crate) n: u8,
     pub(crate) m: u8,
-    pub(crate) desks: [Desk; MAX_DESKS],
+    /// n of them, made with the table.
+    pub(crate) desks: Box<[Desk]>,
     pub(crate) entries: [Entry; MAX_OPEN],
     /// Bit s says that entry s is free.
     free: u64,
@@ -206,7 +215,7 @@ fn bit(s: usize) -> u64 {
 }
 
 /// UNIT[u] has 1 at place u. Whole vectors are added and loaded at once; a
-/// store to one place and then a load of all eight would stall.
+/// store to one place and then a load of all would stall.
 const UNIT: [Vector; MAX_DESKS] = {
     let mut unit = [[0; MAX_DESKS]; MAX_DESKS];
     let mut u = 0;
@@ -237,6 +246,13 @@ fn join(a: &Vector, b: &Vector) -> Vector {
     out
 }
 
+/// What a wrong machine makes of a vector.
+fn first_eight(v: &Vector) -> Vector {
+    let mut out = *v;
+    out[8..].fill(0);
+    out
+}
+
 impl Table {
     /// A fresh table of n desks and m cells. Refusal: 11.
     pub fn new(n: u16, m: u16) -> Result<Table, Refusal> {
@@ -246,7 +262,7 @@ impl Table {
         Ok(Table {
             n: n as u8,
             m: m as u8,
-            desks: [Desk::FRESH; MAX_DESKS],
+            desks: vec![Desk::FRESH; n.into()].into(),
             entries: [Entry::FREE; MAX_OPEN],
             free: u64::MAX,
             index: [[0; MAX_OPEN]; MAX_DESKS],
@@ -261,11 +277,15 @@ impl Table {
         let i = self.desk_place(desk)?;
         let x = self.cell_place(cell)?;
         let joins = !self.is(Variant::ReadForgets);
+        let eight = self.is(Variant::ReadJoinsEight);
         let d = &mut self.desks[i];
         let c = &d.cells[x];
         if joins {
             // An unset cell's vector is zero and leaves the clock.
-            d.clock = join(&d.clock, &c.vector);
+            d.clock = match eight {
+                true => join(&d.clock, &first_eight(&c.vector)),
+                false => join(&d.clock, &c.vector),
+            };
         }
         let reading = c.reading();
         if reading.is_none() && self.is(Variant::UnsetAsZero) {
@@ -453,8 +473,7 @@ impl Table {
     /// The open writes of desk place u are those above the first number and
     /// up to the second.
     pub(crate) fn open_range(&self, u: usize) -> (u32, u32) {
-        let desks = &self.desks[..self.n as usize];
-        let low = desks.iter().map(|d| d.applied[u]).min().unwrap_or(0);
+        let low = self.desks.iter().map(|d| d.applied[u]).min().unwrap_or(0);
         (low.into(), self.desks[u].applied[u].into())
     }
 
@@ -477,6 +496,9 @@ impl Table {
         let mut have = raise(&self.desks[i].applied, u);
         if self.is(Variant::AtLeastOneAbove) {
             have[u] = u16::MAX;
+        }
+        if self.is(Variant::ReadyByEight) {
+            have[8..].fill(u16::MAX);
         }
         let lack = |t: usize| e.vector[t].saturating_sub(have[t]);
         if (0..MAX_DESKS).fold(0, |all, t| all | lack(t)) == 0 {
@@ -531,7 +553,12 @@ impl Table {
         if d.held == 0 {
             return None;
         }
-        for v in 0..self.n as usize {
+        let desks = if self.is(Variant::SearchesEight) {
+            self.n.min(8)
+        } else {
+            self.n
+        };
+        for v in 0..desks as usize {
             // Of one writer only the next number can be ready.
             let next = d.applied[v].wrapping_add(1);
             let last = if self.is(Variant::AtLeastOneAbove) {
@@ -555,6 +582,7 @@ impl Table {
     fn apply(&mut self, i: usize, s: usize) {
         let joins = self.is(Variant::JoinOnApply);
         let overtakes = self.is(Variant::AtLeastOneAbove);
+        let eight = self.is(Variant::AppliesEight);
         let was_held = self.desks[i].held & bit(s) != 0;
         let e = &self.entries[s];
         let u = e.writer as usize - 1;
@@ -565,7 +593,11 @@ impl Table {
             d.applied[u] = e.vector[u];
         }
         d.cells[e.cell as usize - 1] = Cell {
-            vector: e.vector,
+            vector: if eight {
+                first_eight(&e.vector)
+            } else {
+                e.vector
+            },
             writer: e.writer,
             status: e.status,
         };
@@ -585,7 +617,7 @@ impl Table {
             self.entries[s].writer = 0;
             self.free |= bit(s);
             if self.is(Variant::FreeWhenReceived) {
-                for d in &mut self.desks {
+                for d in self.desks.iter_mut() {
                     d.held &= !bit(s);
                 }
             }
@@ -596,7 +628,7 @@ impl Table {
         let e = &self.entries[s];
         let u = e.writer as usize - 1;
         let mut marks = [Mark::Missing; MAX_DESKS];
-        for (mark, d) in marks.iter_mut().zip(&self.desks[..self.n as usize]) {
+        for (mark, d) in marks.iter_mut().zip(self.desks.iter()) {
             if e.vector[u] <= d.applied[u] {
                 *mark = Mark::Applied;
             } else if d.held & bit(s) != 0 {
@@ -636,7 +668,7 @@ impl PartialEq for Table {
             && self
                 .desks
                 .iter()
-                .zip(&other.desks)
+                .zip(other.desks.iter())
                 .all(|(a, b)| a.applied == b.applied && a.clock == b.clock && a.cells == b.cells)
             && self.open_writes().eq(other.open_writes())
     }
@@ -649,7 +681,7 @@ impl fmt::Debug for Table {
         let n = self.n as usize;
         let mut out = f.debug_struct("Table");
         out.field("n", &self.n).field("m", &self.m);
-        for (i, d) in self.desks[..n].iter().enumerate() {
+        for (i, d) in self.desks.iter().enumerate() {
             let set: Vec<_> = (d.cells.iter().zip(1u8..))
                 .filter_map(|(c, x)| c.reading().map(|r| (x, r, &c.vector[..n])))
                 .collect();

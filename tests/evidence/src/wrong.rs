@@ -2,7 +2,7 @@
 //! check that cannot fail is ruled out.
 
 use crate::causal::{check, Fault, FaultKind};
-use crate::gen::{schedule, Kind};
+use crate::gen::{schedule, schedule_of, Kind};
 use crate::image::{keeps_rules, save};
 use crate::table::{Name, Table, Variant, MAX_DESKS};
 use crate::text::{replay, replay_in, Reader, Session};
@@ -46,7 +46,7 @@ impl Misnamed {
     }
 }
 
-const WRONG: [Variant; 14] = [
+const WRONG: [Variant; 18] = [
     Variant::JoinOnApply,
     Variant::AtLeastOneAbove,
     Variant::OneHeldAndStop,
@@ -55,6 +55,10 @@ const WRONG: [Variant; 14] = [
     Variant::FreeWhenReceived,
     Variant::ReadForgets,
     Variant::TripForgets,
+    Variant::ReadyByEight,
+    Variant::ReadJoinsEight,
+    Variant::AppliesEight,
+    Variant::SearchesEight,
     Variant::Misnames(Misnamed::VectorPlace),
     Variant::Misnames(Misnamed::Count),
     Variant::Misnames(Misnamed::NextButOne),
@@ -74,7 +78,7 @@ fn answers(schedule: &[u8], variant: Option<Variant>) -> Vec<u8> {
 /// the line and for the reason given.
 #[test]
 fn each_shortcut_is_rejected_where_it_shows() {
-    let cases: [(Variant, &str, usize, FaultKind); 8] = [
+    let cases: [(Variant, &str, usize, FaultKind); 13] = [
         // 2.1 would wait for 1.2, which desk 2 applied and did not read.
         (
             Variant::JoinOnApply,
@@ -119,6 +123,37 @@ fn each_shortcut_is_rejected_where_it_shows() {
             "N 3 2\nW 1 1 1\nD 2 1 1\nT 2 1\nW 2 2 1\nD 3 2 1\n",
             6,
             FaultKind::WriteNotEarlier,
+        ),
+        // What needs desk 9 or a larger one.
+        (
+            Variant::ReadyByEight,
+            "N 16 2\nW 16 1 1\nD 2 16 1\nR 2 1\nW 2 2 1\nD 3 2 1\n",
+            6,
+            FaultKind::WriteNotEarlier,
+        ),
+        (
+            Variant::ReadyByEight,
+            "N 9 1\nW 9 1 1\nW 9 1 2\nD 1 9 2\n",
+            4,
+            FaultKind::WriteNotEarlier,
+        ),
+        (
+            Variant::ReadJoinsEight,
+            "N 9 2\nW 9 1 1\nD 2 9 1\nR 2 1\nW 2 2 1\nD 3 2 1\n",
+            6,
+            FaultKind::WriteNotEarlier,
+        ),
+        (
+            Variant::AppliesEight,
+            "N 9 1\nW 9 1 1\nD 2 9 1\nR 2 1\n",
+            4,
+            FaultKind::Read,
+        ),
+        (
+            Variant::SearchesEight,
+            "N 10 1\nW 10 1 1\nW 10 1 2\nD 1 10 2\nD 1 10 1\n",
+            5,
+            FaultKind::HeldForNothing,
         ),
     ];
     for (variant, text, line, kind) in cases {
@@ -261,13 +296,15 @@ fn no_hold_names_a_write_that_is_applied_there() {
 #[test]
 fn random_runs_tell_right_from_wrong() {
     let mut found: BTreeMap<String, (usize, BTreeMap<String, usize>)> = BTreeMap::new();
-    for seed in 0..200 {
+    for seed in 0..400 {
         let kind = if seed % 5 == 4 {
             Kind::Full
         } else {
             Kind::Traffic
         };
-        let text = schedule(seed, kind, 150);
+        // With few desks every other time: there holds go further back.
+        let desks = (seed % 2 == 0).then_some(2 + seed as usize % 7);
+        let text = schedule_of(seed, kind, 150, desks);
         let right = answers(&text, None);
         assert_eq!(right, replay(&text));
         assert_eq!(check(&text, &right).err(), None, "seed {seed}");
@@ -293,6 +330,10 @@ fn random_runs_tell_right_from_wrong() {
         ("FreeWhenReceived", "HeldForNothing"),
         ("ReadForgets", "WriteNotEarlier"),
         ("TripForgets", "WriteNotEarlier"),
+        ("ReadyByEight", "WriteNotEarlier"),
+        ("ReadJoinsEight", "WriteNotEarlier"),
+        ("AppliesEight", "Read"),
+        ("SearchesEight", "HeldForNothing"),
         ("Misnames(VectorPlace)", "HoldNotFirst"),
         ("Misnames(Count)", "HoldApplied"),
         ("Misnames(NextButOne)", "HoldNotFirst"),
@@ -355,8 +396,8 @@ fn forged_answers_are_rejected() {
         assert_eq!(check(text, forged.as_bytes()), fault, "{from} to {to}");
     }
     // A delivery accepted twice, an unknown write, two writes let go in the
-    // wrong order, one answer too many.
-    let others: [(&str, &str, usize, FaultKind); 4] = [
+    // wrong order, one answer too many, a table of 17 desks.
+    let others: [(&str, &str, usize, FaultKind); 5] = [
         (
             "N 2 1\nW 1 1 1\nD 2 1 1\nD 2 1 1\n",
             "N\nW 1.1\nA 1.1\nA 1.1\n",
@@ -376,6 +417,7 @@ fn forged_answers_are_rejected() {
             FaultKind::CascadeOrder,
         ),
         ("N 1 1\n", "N\nN\n", 2, FaultKind::LineCount),
+        ("N 17 1\n", "N\n", 1, FaultKind::Answer),
     ];
     for (text, forged, line, kind) in others {
         let fault = Err(Fault { line, kind });
@@ -480,8 +522,8 @@ mod literal {
         let schedule = std::str::from_utf8(schedule).expect("traffic is ASCII");
         let answers = std::str::from_utf8(answers).expect("answers are ASCII");
         let mut ops: Vec<Op> = Vec::new();
-        let mut lists: Vec<Vec<usize>> = vec![Vec::new(); 9];
-        let mut received: Vec<Vec<usize>> = vec![Vec::new(); 9];
+        let mut lists: Vec<Vec<usize>> = vec![Vec::new(); 17];
+        let mut received: Vec<Vec<usize>> = vec![Vec::new(); 17];
         for (at, (line, answer)) in schedule.lines().zip(answers.lines()).enumerate() {
             let line: Vec<&str> = line.split(' ').collect();
             let answer: Vec<&str> = answer.split(' ').collect();

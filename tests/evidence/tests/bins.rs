@@ -2,7 +2,7 @@
 
 mod common;
 
-use evidence::gen::{schedule, Kind};
+use evidence::gen::{schedule, schedule_of, Kind};
 use evidence::text::replay;
 use std::io::Write;
 use std::process::{Command, Output, Stdio};
@@ -85,12 +85,21 @@ fn schedules_prints_schedules() {
         let output = run(program, &args, b"");
         assert!(output.status.success());
         assert_eq!(output.stdout, schedule(12, kind, 77));
+        if kind != Kind::Single {
+            let output = run(program, &[&args[..], &["--desks", "13"]].concat(), b"");
+            assert!(output.status.success());
+            assert_eq!(output.stdout, schedule_of(12, kind, 77, Some(13)));
+        }
     }
     for bad in [
         &["--seed", "x"][..],
         &["--kind", "none"],
         &["--lines"],
         &["--what", "1"],
+        &["--desks", "17"],
+        &["--desks", "0"],
+        &["--kind", "traffic", "--desks", "1"],
+        &["--kind", "single", "--desks", "2"],
     ] {
         let output = run(program, bad, b"");
         assert_eq!(output.status.code(), Some(2));

@@ -5,23 +5,34 @@ mod common;
 use common::{answers, last};
 use evidence::image::{image_len, load, save, to_vec, BLOCK};
 use evidence::table::{Delivery, Name, Table, Verdict};
-use evidence::text::{replay_in, Session};
+use evidence::text::{replay_in, Reader, Session};
 use evidence::Refusal;
 
 #[test]
-fn n_8_and_9_m_64_and_65() {
-    for (n, m) in [(1, 1), (8, 1), (1, 64), (8, 64)] {
+fn n_16_and_17_m_64_and_65() {
+    for (n, m) in [
+        (1, 1),
+        (8, 1),
+        (9, 1),
+        (16, 1),
+        (1, 64),
+        (8, 64),
+        (9, 64),
+        (16, 64),
+    ] {
         let t = Table::new(n, m).unwrap();
         assert_eq!((u16::from(t.desks()), u16::from(t.cells())), (n, m));
         assert_eq!(last(&format!("N {n} {m}\n")), "N");
     }
     for (n, m) in [
-        (9, 64),
-        (8, 65),
-        (9, 65),
+        (17, 64),
+        (16, 65),
+        (17, 65),
         (0, 1),
         (1, 0),
         (0, 0),
+        (256, 1),
+        (257, 1),
         (65_535, 1),
         (1, 65_535),
     ] {
@@ -29,10 +40,112 @@ fn n_8_and_9_m_64_and_65() {
         assert_eq!(last(&format!("N {n} {m}\n")), "E 11");
     }
     // The last desk and the last cell are there, the next ones are not.
-    let head = "N 8 64\nW 8 64 2\n";
-    assert_eq!(last(&format!("{head}R 8 64\n")), "R 2 8.1");
-    assert_eq!(last(&format!("{head}R 9 64\n")), "E 1");
-    assert_eq!(last(&format!("{head}R 8 65\n")), "E 2");
+    for n in [8, 9, 16] {
+        let head = format!("N {n} 64\nW {n} 64 2\n");
+        assert_eq!(last(&format!("{head}R {n} 64\n")), format!("R 2 {n}.1"));
+        assert_eq!(last(&format!("{head}R {} 64\n", n + 1)), "E 1");
+        assert_eq!(last(&format!("{head}D 1 {} 1\n", n + 1)), "E 1");
+        assert_eq!(last(&format!("{head}R {n} 65\n")), "E 2");
+    }
+}
+
+/// A write that waits for desk 16: for a write that was read, and for the
+/// writer's own.
+#[test]
+fn a_hold_names_desk_16() {
+    let head = "N 16 2\nW 16 1 1\nD 2 16 1\nR 2 1\nW 2 2 2\n";
+    assert_eq!(last(&format!("{head}D 15 2 1\n")), "H 16.1");
+    assert_eq!(last(&format!("{head}D 15 2 1\nR 15 2\n")), "R -");
+    let tail = "D 15 2 1\nD 15 16 1\n";
+    assert_eq!(last(&format!("{head}{tail}")), "A 16.1 2.1");
+    assert_eq!(last(&format!("{head}{tail}T 15 1 2\n")), "T no");
+    // Desk 16 has its own.
+    assert_eq!(last(&format!("{head}D 16 2 1\n")), "A 2.1");
+    let own = "N 16 1\nW 16 1 0\nW 16 1 1\nW 16 1 2\n";
+    assert_eq!(last(&format!("{own}D 9 16 3\n")), "H 16.1");
+    assert_eq!(last(&format!("{own}D 9 16 1\nD 9 16 3\n")), "H 16.2");
+    let all = format!("{own}D 9 16 3\nD 9 16 2\nD 9 16 1\n");
+    assert_eq!(last(&all), "A 16.1 16.2 16.3");
+    // A smaller desk that fails too is named first, of two digits as of one.
+    let both = "N 16 3\nW 16 1 1\nW 10 2 1\nD 9 16 1\nD 9 10 1\nT 9 1 2\nW 9 3 1\n";
+    assert_eq!(last(&format!("{both}D 1 9 1\n")), "H 10.1");
+    assert_eq!(last(&format!("{both}D 1 10 1\nD 1 9 1\n")), "H 16.1");
+    let freed = format!("{both}D 1 10 1\nD 1 9 1\nD 1 16 1\n");
+    assert_eq!(last(&freed), "A 16.1 9.1");
+}
+
+/// 16 desks with 64 open writes, some held: saved, loaded and gone on with.
+#[test]
+fn sixteen_desks_with_64_open_go_on_after_a_load() {
+    let mut text = "N 16 64\n".to_string();
+    for k in 0..64 {
+        text += &format!("W {} {} {}\n", k % 16 + 1, k + 1, k % 3);
+    }
+    // Desk 1 holds the later three of each desk from 2 on.
+    for desk in 2..=16 {
+        for k in (2..=4).rev() {
+            text += &format!("D 1 {desk} {k}\n");
+        }
+    }
+    assert_eq!(last(&text), "H 16.1");
+    let mut session = Session::new();
+    for line in Reader::new(text.as_bytes()) {
+        session.answer(line, &mut Vec::new());
+    }
+    let table = session.table().unwrap().clone();
+    assert_eq!(table.open_count(), 64);
+    let image = to_vec(&table).unwrap();
+    assert_eq!(image.len(), 105 * BLOCK);
+    let loaded = load(&image).unwrap();
+    assert_eq!(loaded, table);
+    let mut rest = "W 16 1 1\n".to_string();
+    for desk in (2..=16).rev() {
+        rest += &format!("D 1 {desk} 1\n");
+    }
+    for desk in 2..=16 {
+        rest += &format!("D {desk} 1 1\n");
+    }
+    rest += "W 16 1 1\nW 16 1 1\nR 16 1\nR 1 64\n";
+    let (mut whole, mut parted) = (session, Session::with_table(loaded));
+    let (mut a, mut b) = (Vec::new(), Vec::new());
+    for line in Reader::new(rest.as_bytes()) {
+        whole.answer(line, &mut a);
+        parted.answer(line, &mut b);
+    }
+    assert_eq!(a, b);
+    assert_eq!(whole.table(), parted.table());
+    let answers = String::from_utf8(a).unwrap();
+    let answers: Vec<&str> = answers.lines().collect();
+    assert_eq!(answers[..2], ["E 5", "A 16.1 16.2 16.3 16.4"]);
+    assert_eq!(answers[15], "A 2.1 2.2 2.3 2.4");
+    // 1.1 is applied everywhere now, and one more write fits.
+    assert_eq!(answers[31..], ["W 16.5", "E 5", "R 1 16.5", "R 0 16.4"]);
+}
+
+/// The longest answer line: 64 names of 9 bytes.
+#[test]
+fn the_longest_answer_line() {
+    let mut t = Table::new(16, 1).unwrap();
+    for number in 1..=65_535u16 {
+        t.write(16, 1, 0).unwrap();
+        if number <= 65_535 - 64 {
+            for desk in 1..=15 {
+                t.deliver(desk, 16, number).unwrap();
+            }
+        }
+    }
+    let first = 65_535 - 63;
+    let text: String = (first..=65_535)
+        .rev()
+        .map(|k| format!("D 1 16 {k}\n"))
+        .collect();
+    let answers = replay_in(Session::with_table(t), text.as_bytes());
+    let mut lines: Vec<&[u8]> = answers.split_inclusive(|&b| b == b'\n').collect();
+    let longest = lines.pop().unwrap();
+    let names: String = (first..=65_535).map(|k| format!(" 16.{k}")).collect();
+    assert_eq!(longest, format!("A{names}\n").as_bytes());
+    assert_eq!(longest.len(), 578);
+    assert!(lines.iter().all(|line| *line == b"H 16.65472\n"));
 }
 
 #[test]

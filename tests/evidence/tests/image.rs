@@ -3,10 +3,10 @@
 mod common;
 
 use common::rules::{broken, Rule};
-use evidence::gen::{damage, damaged_image, odd_image, schedule, schedule_from};
-use evidence::gen::{table, worn_image, Damage, Kind, Rng};
+use evidence::gen::{damage, damaged_image, in_edition, odd_image, schedule, schedule_from};
+use evidence::gen::{schedule_of, table, worn_image, Damage, Kind, Rng};
 use evidence::image::{
-    block_count, check_of, image_len, keeps_rules, load, save, to_vec, BLOCK, MAX_BLOCKS,
+    block_count, check_of, image_len, keeps_rules, load, save, to_vec, Edition, BLOCK, MAX_BLOCKS,
 };
 use evidence::table::{Mark, Table};
 use evidence::text::{replay, replay_in, Reader, Session};
@@ -46,21 +46,31 @@ fn the_largest_check() {
 
 #[test]
 fn the_largest_image() {
-    assert_eq!(block_count(8, 64, 64), MAX_BLOCKS);
-    let mut t = Table::new(8, 64).unwrap();
-    for step in 0..64 {
-        t.write(step % 8 + 1, step + 1, 2).unwrap();
+    // Edition 2; edition 1; the smallest table of edition 2.
+    for (n, blocks, cells, open) in [(16, 105, 80, 8), (8, 37, 24, 4), (9, 63, 45, 8)] {
+        assert_eq!(block_count(n, 64, 64), blocks);
+        let mut t = Table::new(n as u16, 64).unwrap();
+        for step in 0..64 {
+            t.write(step % n as u16 + 1, step + 1, 2).unwrap();
+        }
+        let image = to_vec(&t).unwrap();
+        assert_eq!(image.len(), blocks * BLOCK);
+        assert_eq!(load(&image), Ok(t));
+        // Kinds and places.
+        let kinds: Vec<u8> = image.chunks(BLOCK).map(|b| b[0]).collect();
+        let expect = [vec![1], vec![2; n], vec![3; cells], vec![4; open]].concat();
+        assert_eq!(kinds, expect);
+        let edition = if n > 8 { 2 } else { 1 };
+        for (place, block) in image.chunks(BLOCK).enumerate() {
+            assert_eq!(block[1..4], [edition, place as u8, 0]);
+        }
     }
-    let image = to_vec(&t).unwrap();
-    assert_eq!(image.len(), 37 * BLOCK);
-    assert_eq!(load(&image), Ok(t));
-    // Kinds and places.
-    let kinds: Vec<u8> = image.chunks(BLOCK).map(|b| b[0]).collect();
-    let expect = [vec![1], vec![2; 8], vec![3; 24], vec![4; 4]].concat();
-    assert_eq!(kinds, expect);
-    for (place, block) in image.chunks(BLOCK).enumerate() {
-        assert_eq!(block[1..4], [1, place as u8, 0]);
-    }
+    // None is larger.
+    let sizes = |desks: std::ops::RangeInclusive<usize>| {
+        desks.flat_map(|n| (1..=64).flat_map(move |m| (0..=64).map(move |o| block_count(n, m, o))))
+    };
+    assert_eq!(sizes(1..=16).max(), Some(MAX_BLOCKS));
+    assert_eq!(sizes(1..=8).max(), Some(37));
 }
 
 #[test]
@@ -69,13 +79,31 @@ fn block_counts_at_their_edges() {
         let t = Table::new(2, m).unwrap();
         assert_eq!(image_len(&t), (1 + 2 + 2 * per_desk) * BLOCK);
     }
-    let mut t = Table::new(2, 1).unwrap();
-    for open in 0..=64 {
-        assert_eq!(t.open_count(), open);
-        let image = to_vec(&t).unwrap();
-        assert_eq!(image.len(), (5 + open.div_ceil(18)) * BLOCK);
-        assert_eq!(load(&image), Ok(t.clone()));
-        let _ = t.write(1 + open as u16 % 2, 1, 1);
+    for (m, per_desk) in [
+        (1, 1),
+        (14, 1),
+        (15, 2),
+        (28, 2),
+        (29, 3),
+        (42, 3),
+        (43, 4),
+        (56, 4),
+        (57, 5),
+        (64, 5),
+    ] {
+        let t = Table::new(9, m).unwrap();
+        assert_eq!(image_len(&t), (1 + 9 + 9 * per_desk) * BLOCK);
+    }
+    for (n, per_block) in [(2, 18), (8, 18), (9, 9), (16, 9)] {
+        let mut t = Table::new(n, 1).unwrap();
+        for open in 0..=64 {
+            assert_eq!(t.open_count(), open);
+            let image = to_vec(&t).unwrap();
+            let blocks = 1 + 2 * usize::from(n) + open.div_ceil(per_block);
+            assert_eq!(image.len(), blocks * BLOCK);
+            assert_eq!(load(&image), Ok(t.clone()));
+            let _ = t.write(1 + open as u16 % n, 1, 1);
+        }
     }
 }
 
@@ -116,6 +144,147 @@ fn an_image_by_hand() {
     assert_eq!(payload(7, 84 + 28), open);
 }
 
+/// By hand: 16.1 is applied at desk 9 and read there, and 9.1 is held at desk 2.
+#[test]
+fn an_image_of_edition_2_by_hand() {
+    let text = b"N 16 15\nW 16 15 1\nD 9 16 1\nR 9 15\nW 9 1 2\nD 2 9 1\n";
+    let mut session = Session::new();
+    for line in Reader::new(text) {
+        session.answer(line, &mut Vec::new());
+    }
+    let image = to_vec(session.table().unwrap()).unwrap();
+    assert_eq!(image.len(), (1 + 16 + 2 * 16 + 1) * BLOCK);
+    assert!(image.chunks(BLOCK).all(|block| block[1] == 2));
+    let payload = |block: usize| &image[block * BLOCK + 4..][..504];
+    let mut head = [0; 504];
+    head[..3].copy_from_slice(&[16, 15, 2]);
+    assert_eq!(payload(0), head);
+    // Desk 9: counts and then clock, 1 at places 9 and 16 of both.
+    let mut desk = [0; 504];
+    desk[0] = 9;
+    for place in [8, 15] {
+        desk[4 + 2 * place] = 1;
+        desk[36 + 2 * place] = 1;
+    }
+    assert_eq!(payload(9), desk);
+    // Desk 2 has nothing but its number.
+    let mut desk = [0; 504];
+    desk[0] = 2;
+    assert_eq!(payload(2), desk);
+    // Desk 9: cell 1 is 2 by 9.1, cell 15, in the next block, is 1 by 16.1.
+    let first = 17 + 2 * 8;
+    let mut cells = [0; 504];
+    cells[..2].copy_from_slice(&[9, 2]);
+    cells[4 + 2 * 8] = 1;
+    cells[4 + 2 * 15] = 1;
+    assert_eq!(payload(first), cells);
+    let mut cells = [0; 504];
+    cells[..2].copy_from_slice(&[16, 1]);
+    cells[4 + 2 * 15] = 1;
+    assert_eq!(payload(first + 1), cells);
+    // Open: 9.1, held at 2, and 16.1, applied at 9.
+    let mut open = [0; 504];
+    open[..3].copy_from_slice(&[9, 2, 1]);
+    open[4 + 2 * 8] = 1;
+    open[4 + 2 * 15] = 1;
+    open[36 + 1] = 1;
+    open[36 + 8] = 2;
+    open[52..55].copy_from_slice(&[16, 1, 15]);
+    open[52 + 4 + 2 * 15] = 1;
+    open[52 + 36 + 8] = 2;
+    open[52 + 36 + 15] = 2;
+    assert_eq!(payload(49), open);
+}
+
+/// A table in any shape that is not the one its n asks for is refused with 13,
+/// whatever it holds. The generator makes the same images.
+#[test]
+fn a_wrong_shape_is_refused() {
+    use common::slow::{Shape, ONE, TWO};
+    let wrong = [
+        ("edition 1 for 9 desks and more", 9, ONE),
+        ("edition 2 for up to 8", 1, TWO),
+        ("edition 0", 1, Shape { edition: 0, ..ONE }),
+        ("edition 3 for 9 and more", 9, Shape { edition: 3, ..TWO }),
+        (
+            "the number alone, 9 and more",
+            9,
+            Shape { edition: 1, ..TWO },
+        ),
+        ("the number alone, up to 8", 1, Shape { edition: 2, ..ONE }),
+    ];
+    for (what, least, shape) in wrong {
+        for seed in 0..60 {
+            let kind = [Kind::Traffic, Kind::Full][seed as usize % 2];
+            let n = least + seed as usize % 8;
+            let desks = if n == 1 { 2 } else { n };
+            let text = schedule_of(seed, kind, 1 + seed as usize * 3, Some(desks));
+            let slow = common::slow::replay(&text).1.unwrap();
+            assert!(load(&slow.image()).is_ok(), "{what}");
+            let image = slow.image_in(shape);
+            let told = format!("{what}, seed {seed}");
+            assert_eq!(load(&image), Err(Refusal::RuleBroken), "{told}");
+            assert_ne!(broken(&image), [], "{told}");
+            let made = match (shape.edition, shape.places) {
+                (1, 8) => in_edition(&slow.image(), Edition::TWO, Edition::ONE),
+                (2, 16) => in_edition(&slow.image(), Edition::ONE, Edition::TWO),
+                _ => continue,
+            };
+            assert!(made == Some(image), "{told}");
+            assert_eq!(
+                in_edition(&slow.image()[BLOCK..], Edition::ONE, Edition::TWO),
+                None
+            );
+        }
+    }
+    // Slips in the shape of edition 2 itself, on a full table.
+    let writes = (0..64).map(|k| format!("W {} {} 2\n", k % 16 + 1, k + 1));
+    let text = format!("N 16 64\n{}", writes.collect::<String>()).into_bytes();
+    let slow = common::slow::replay(&text).1.unwrap();
+    let mut session = Session::new();
+    for line in Reader::new(&text) {
+        session.answer(line, &mut Vec::new());
+    }
+    let right = to_vec(session.table().unwrap()).unwrap();
+    assert!(right == slow.image());
+    for (what, shape) in [
+        ("vectors of 8 places", Shape { places: 8, ..TWO }),
+        ("13 cells to a block", Shape { cells: 13, ..TWO }),
+        ("15 cells to a block", Shape { cells: 15, ..TWO }),
+        ("8 open writes to a block", Shape { opens: 8, ..TWO }),
+    ] {
+        let image = slow.image_in(shape);
+        assert!(image != right, "{what}");
+        // If it is the image of a table at all, it is that of another.
+        assert!(load(&image).ok().as_ref() != session.table(), "{what}");
+    }
+}
+
+/// The two images that T-06 names: 9 desks in edition 1's shape and 8 in
+/// edition 2's. The fresh ones hold nothing that could break another rule.
+#[test]
+fn an_edition_that_does_not_fit_is_13() {
+    use common::slow::{replay, ONE, TWO};
+    for (text, right, other) in [("N 9 1\n", TWO, ONE), ("N 8 1\n", ONE, TWO)] {
+        let slow = replay(text.as_bytes()).1.unwrap();
+        let (good, bad) = (slow.image_in(right), slow.image_in(other));
+        assert!(load(&good).is_ok());
+        assert_eq!(load(&bad), Err(Refusal::RuleBroken));
+        assert_eq!(broken(&bad), [Rule::Edition]);
+        // Only the edition bytes differ, and the checks over them.
+        assert_eq!(good.len(), bad.len());
+        let differ = (0..good.len()).filter(|&at| good[at] != bad[at]);
+        assert!(differ.map(|at| at % BLOCK).all(|at| at == 1 || at >= 508));
+        // Mixed: any one block in the other edition.
+        for block in 0..good.len() / BLOCK {
+            let mut mixed = good.clone();
+            let place = block * BLOCK..(block + 1) * BLOCK;
+            mixed[place.clone()].copy_from_slice(&bad[place]);
+            assert_eq!(load(&mixed), Err(Refusal::RuleBroken), "{block}");
+        }
+    }
+}
+
 /// Hundreds of tables that schedules gave: the image is that of the slow
 /// machine, loads to the same table, and saves to the same bytes.
 #[test]
@@ -123,7 +292,7 @@ fn round_trip_and_the_slow_image() {
     let mut seen = BTreeSet::new();
     for seed in 0..400 {
         let kind = [Kind::Traffic, Kind::Full, Kind::Single, Kind::Mixed][seed as usize % 4];
-        let text = schedule(seed, kind, 20 + (seed as usize * 7) % 160);
+        let text = schedule(seed, kind, 1 + (seed as usize * 7) % 180);
         let mut session = Session::new();
         for line in Reader::new(&text) {
             session.answer(line, &mut Vec::new());
@@ -140,9 +309,12 @@ fn round_trip_and_the_slow_image() {
         assert_eq!(&back, t);
         assert!(keeps_rules(&back));
         assert_eq!(to_vec(&back).unwrap(), image);
-        seen.insert(t.open_count().div_ceil(18));
+        let edition = Edition::of(t.desks().into());
+        let blocks = t.open_count().div_ceil(edition.open_per_block);
+        seen.insert((edition.number, blocks));
     }
-    assert_eq!(seen.len(), 5, "open blocks seen: {seen:?}");
+    // From none to 4 in edition 1, and from none to 8 in edition 2.
+    assert_eq!(seen.len(), 5 + 9, "open blocks seen: {seen:?}");
 }
 
 /// Cut a schedule anywhere, save, load and go on: the same answers and the
@@ -338,7 +510,9 @@ fn each_rule_broken_alone() {
         (Damage::MarkNotApplied, Rule::MarkTwo),
         (Damage::MarkHeldReady, Rule::HeldReady),
         (Damage::KindWrong, Rule::Blocks),
-        (Damage::EditionWrong, Rule::Blocks),
+        (Damage::EditionWrong, Rule::Edition),
+        (Damage::EditionMixed, Rule::Edition),
+        (Damage::EditionUnfit, Rule::Edition),
         (Damage::PlaceWrong, Rule::Blocks),
         (Damage::BlockCut, Rule::Blocks),
         (Damage::BlockDropped, Rule::Blocks),
@@ -353,6 +527,7 @@ fn each_rule_broken_alone() {
     let goods: Vec<Vec<u8>> = (0..120).map(|seed| to_vec(&table(seed)).unwrap()).collect();
     let mut rng = Rng::new(13);
     let mut counts = BTreeMap::new();
+    let mut editions = BTreeSet::new();
     for what in Damage::ALL {
         for good in &goods {
             let Some(image) = damage(good, what, &mut rng) else {
@@ -369,6 +544,7 @@ fn each_rule_broken_alone() {
             if let Some(foretold) = what.foretold() {
                 assert_eq!(load(&image).map(drop), foretold, "{told}");
             }
+            editions.insert((format!("{what:?}"), good[1]));
             let (all, single) = counts.entry(format!("{what:?}")).or_insert((0, 0));
             *all += 1;
             *single += usize::from(rules.len() == 1 && alone.contains(&(what, rules[0])));
@@ -381,8 +557,12 @@ fn each_rule_broken_alone() {
             "{what:?}, {rule:?}: {single} of {all}"
         );
     }
+    // Each in images of both editions.
     for what in Damage::ALL {
-        assert!(counts.contains_key(&format!("{what:?}")), "{what:?}");
+        for edition in [1, 2] {
+            let met = editions.contains(&(format!("{what:?}"), edition));
+            assert!(met, "{what:?}, edition {edition}");
+        }
     }
 }
 

@@ -4,7 +4,7 @@
 mod common;
 
 use evidence::causal::{check, Report};
-use evidence::gen::{odd_image, schedule, schedule_from, worn_image, Kind};
+use evidence::gen::{odd_image, schedule, schedule_from, schedule_of, worn_image, Kind};
 use evidence::image::load;
 use evidence::table::{Mark, Table};
 use evidence::text::{replay, Reader, Session};
@@ -67,7 +67,7 @@ fn the_causal_checker_accepts() {
     assert!(sum.held > 5_000 && sum.released > 2_000, "{sum:?}");
     assert!(sum.trips > 1_000 && sum.longest >= 32, "{sum:?}");
     assert_eq!(sum.holds.rare(200), [""; 0], "{}", sum.holds);
-    assert_eq!(Report::default().holds.rare(1).len(), 6);
+    assert_eq!(Report::default().holds.rare(1).len(), 7);
 }
 
 /// The answers to a schedule take at most 5 bytes for each of its bytes, and 9
@@ -97,7 +97,7 @@ fn answers_keep_the_bound() {
     }
     // Both are met: the longest held answer, and an `A` that its line alone
     // does not pay for.
-    assert_eq!(longest[&b'H'], "H 1.65535\n".len());
+    assert_eq!(longest[&b'H'], "H 16.65535\n".len());
     assert!(longest[&b'A'] > 5 * "D 1 2 65535\n".len(), "{longest:?}");
 }
 
@@ -135,11 +135,14 @@ fn the_generator_is_deterministic() {
         }
     }
     assert_eq!(Kind::from_name("none"), None);
-    // The same bytes on every machine: one schedule by its sum.
-    let sum = schedule(1, Kind::Mixed, 300)
-        .iter()
-        .fold(0u32, |sum, &b| sum.wrapping_mul(31).wrapping_add(b.into()));
-    assert_eq!(sum, 1_390_344_009);
+    // The same bytes on every machine: two schedules by their sums. The second is
+    // what the benchmark measures, and is as it was with up to 8 desks.
+    let sum = |text: Vec<u8>| {
+        text.iter()
+            .fold(0u32, |sum, &b| sum.wrapping_mul(31).wrapping_add(b.into()))
+    };
+    assert_eq!(sum(schedule(1, Kind::Mixed, 300)), 1_390_344_009);
+    assert_eq!(sum(schedule(7, Kind::Traffic, 20_000)), 3_239_439_007);
 }
 
 /// The generator reaches every answer that text can reach, and every refusal:
@@ -172,12 +175,62 @@ fn the_generator_reaches() {
         .chain(["T yes", "T no", "T unknown"])
         .map(str::to_string)
         .collect();
-    expect.extend((1..=8).flat_map(|t| [format!("H {t}.1"), format!("H {t}.more")]));
+    expect.extend((1..=16).flat_map(|t| [format!("H {t}.1"), format!("H {t}.more")]));
     expect.extend([1, 2, 3, 5, 6, 7, 8, 9, 10, 11, 14].map(|e| format!("E {e}")));
     expect.sort();
     let keys: Vec<String> = seen.keys().cloned().collect();
     assert_eq!(keys, expect);
     assert!(seen["E 5"] > 100 && seen["E 14"] >= 3, "{seen:?}");
+}
+
+/// Schedules of every number of desks: of each kind that has several, a fair
+/// share with 9 to 16, some with just 9, 16, and a 17 that is refused.
+#[test]
+fn the_generator_reaches_sixteen_desks() {
+    for kind in Kind::ALL {
+        let mut desks = BTreeMap::new();
+        let mut refused = 0;
+        for seed in 0..120 {
+            let text = schedule(seed, kind, 60);
+            let mut session = Session::new();
+            for line in Reader::new(&text) {
+                let mut answer = Vec::new();
+                session.answer(line, &mut answer);
+                refused += usize::from(line.bytes.starts_with(b"N 17 ") && answer == b"E 11\n");
+            }
+            let n = session.table().map_or(0, Table::desks);
+            *desks.entry(n).or_insert(0) += 1;
+        }
+        let many: usize = desks.range(9..).map(|(_, count)| count).sum();
+        match kind {
+            Kind::Single => assert_eq!(desks.into_keys().collect::<Vec<_>>(), [1]),
+            _ => {
+                assert!((35..=85).contains(&many), "{kind:?}: {desks:?}");
+                assert!(desks[&9] >= 5 && desks[&16] >= 5, "{kind:?}: {desks:?}");
+                assert!(desks.range(10..16).count() >= 5, "{kind:?}: {desks:?}");
+            }
+        }
+        if matches!(kind, Kind::HalfTyped | Kind::Edges) {
+            assert!(refused >= 5, "{kind:?}: {refused}");
+        }
+    }
+}
+
+/// A number of desks that is asked for is what comes.
+#[test]
+fn schedules_of_so_many_desks() {
+    for kind in Kind::ALL.into_iter().filter(|&kind| kind != Kind::Single) {
+        for desks in [2, 8, 9, 16] {
+            let text = schedule_of(5, kind, 80, Some(desks));
+            let mut session = Session::new();
+            for line in Reader::new(&text) {
+                session.answer(line, &mut Vec::new());
+            }
+            // This seed's `Mixed` is none of one desk.
+            let found = session.table().map(|t| usize::from(t.desks()));
+            assert_eq!(found, Some(desks), "{kind:?}");
+        }
+    }
 }
 
 /// Half-typed files have long lines of just 128 and 129 bytes, CR, double

@@ -9,7 +9,7 @@ use evidence::Refusal;
 
 const N: u16 = 3;
 const M: u16 = 2;
-const DESKS: [u16; 7] = [0, 1, 2, 3, 4, 9, 65_535];
+const DESKS: [u16; 9] = [0, 1, 2, 3, 4, 9, 16, 17, 65_535];
 const CELLS: [u16; 6] = [0, 1, 2, 3, 65, 65_535];
 
 /// Desk 1 wrote twice, desk 2 once. 2 has applied 1.1 and read it; 3 holds 2.1
@@ -80,24 +80,26 @@ fn write_4_and_5_come_last() {
 
 #[test]
 fn five_counts_all_desks_and_leaves_the_table() {
-    let mut t = Table::new(8, 2).unwrap();
-    for step in 0..64 {
-        t.write(step % 8 + 1, 1, 1).unwrap();
+    for n in [8, 16] {
+        let mut t = Table::new(n, 2).unwrap();
+        for step in 0..64 {
+            t.write(step % n + 1, 1, 1).unwrap();
+        }
+        // 1.1 goes to all but one: open still.
+        for desk in 2..n {
+            t.deliver(desk, 1, 1).unwrap();
+        }
+        let before = t.clone();
+        for desk in 1..=n {
+            assert_eq!(t.write(desk, 2, 2), Err(Refusal::OpenFull));
+            assert_eq!(t, before);
+            assert_eq!(to_vec(&t), to_vec(&before));
+        }
+        t.deliver(n, 1, 1).unwrap();
+        assert_eq!(t.open_count(), 63);
+        assert_eq!(t.write(n, 2, 2).unwrap().number, 64 / n + 1);
+        assert_eq!(t.write(n, 2, 2), Err(Refusal::OpenFull));
     }
-    // 1.1 goes to all but one: open still.
-    for desk in 2..=7 {
-        t.deliver(desk, 1, 1).unwrap();
-    }
-    let before = t.clone();
-    for desk in 1..=8 {
-        assert_eq!(t.write(desk, 2, 2), Err(Refusal::OpenFull));
-        assert_eq!(t, before);
-        assert_eq!(to_vec(&t), to_vec(&before));
-    }
-    t.deliver(8, 1, 1).unwrap();
-    assert_eq!(t.open_count(), 63);
-    assert_eq!(t.write(8, 2, 2).unwrap().number, 9);
-    assert_eq!(t.write(8, 2, 2), Err(Refusal::OpenFull));
 }
 
 #[test]
@@ -290,9 +292,9 @@ fn the_search_begins_again() {
 
 #[test]
 fn eleven_in_its_condition() {
-    for n in 0..=10 {
+    for n in 0..=18 {
         for m in 0..=66 {
-            let good = (1..=8).contains(&n) && (1..=64).contains(&m);
+            let good = (1..=16).contains(&n) && (1..=64).contains(&m);
             let expect = if good { None } else { Some(Refusal::TableSize) };
             assert_eq!(Table::new(n, m).err(), expect);
         }

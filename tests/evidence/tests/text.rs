@@ -211,7 +211,7 @@ fn before_and_after_n() {
         assert_eq!(last(&format!("N 0 1\n{line}\n")), "E 10", "{line}");
     }
     assert_eq!(
-        answers("N 9 1\nR 1 1\nN 1 65\nN 2 2\nN 2 2\nN 9 9\nN 0 0\nN x\nR 2 2\n"),
+        answers("N 17 1\nR 1 1\nN 1 65\nN 2 2\nN 2 2\nN 17 9\nN 0 0\nN x\nR 2 2\n"),
         ["E 11", "E 10", "E 11", "N", "E 10", "E 10", "E 10", "E 10", "R -"]
     );
 }
@@ -298,7 +298,7 @@ fn a_refused_line_counts_as_read_and_changes_nothing() {
 
 #[test]
 fn steps_of_the_parser() {
-    assert_eq!(parse(b"N 8 64"), Ok(Step::New { n: 8, m: 64 }));
+    assert_eq!(parse(b"N 16 64"), Ok(Step::New { n: 16, m: 64 }));
     assert_eq!(
         parse(b"R 0 65535"),
         Ok(Step::Read {

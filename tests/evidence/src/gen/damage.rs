@@ -1,9 +1,8 @@
 //! Damaged images: each written rule broken, in a field of its own.
 
 use super::Rng;
-use crate::image::{
-    self, check_of, BLOCK, CELLS_PER_BLOCK, CELL_BYTES, CHECK, OPEN_BYTES, OPEN_PER_BLOCK, PAYLOAD,
-};
+use crate::image::{self, check_of, Edition, BLOCK, CHECK, PAYLOAD};
+use crate::table::MAX_DESKS;
 use crate::Refusal;
 
 /// A way to damage an image.
@@ -31,8 +30,14 @@ pub enum Damage {
     // The blocks: refusal 13 from here on.
     /// A block's kind is another.
     KindWrong,
-    /// A block's edition is not 1.
+    /// The edition of one block, or of all, is neither 1 nor 2.
     EditionWrong,
+    /// The edition of one block, or of all but one, is the other.
+    EditionMixed,
+    /// The edition of all blocks is the other.
+    EditionUnfit,
+    /// All of it in the other edition: of 9 desks and more, as far as that goes.
+    EditionOther,
     /// A block's place is another.
     PlaceWrong,
     /// The last block is missing.
@@ -49,8 +54,10 @@ pub enum Damage {
     PlacesSwapped,
 
     // Kind 1.
-    /// n is not 1 to 8.
+    /// n is not 1 to 16.
     DesksRange,
+    /// n is one that the edition is not for.
+    DesksUnfit,
     /// m is not 1 to 64.
     CellsRange,
     /// The open count is not that of the list.
@@ -119,7 +126,7 @@ pub enum Damage {
     OpenClosed,
     /// Two neighbours exchanged.
     OpenOrder,
-    /// A byte behind the last open write is not zero.
+    /// A byte behind the last open write of a block is not zero.
     OpenPastCount,
     /// A mark above 2.
     MarkRange,
@@ -140,11 +147,14 @@ pub enum Damage {
     Scribble,
     /// Two blocks of a kind exchanged, the places put right.
     SameKindSwapped,
+    /// The blocks of the other edition under the number of its own. Where all
+    /// that differs is zero they are the same.
+    BlocksOther,
 }
 
 impl Damage {
     /// All ways.
-    pub const ALL: [Damage; 57] = [
+    pub const ALL: [Damage; 62] = [
         Damage::Empty,
         Damage::CutBytes,
         Damage::ExtraBytes,
@@ -154,6 +164,9 @@ impl Damage {
         Damage::CheckBeforeRule,
         Damage::KindWrong,
         Damage::EditionWrong,
+        Damage::EditionMixed,
+        Damage::EditionUnfit,
+        Damage::EditionOther,
         Damage::PlaceWrong,
         Damage::BlockCut,
         Damage::BlockDropped,
@@ -162,6 +175,7 @@ impl Damage {
         Damage::KindsSwapped,
         Damage::PlacesSwapped,
         Damage::DesksRange,
+        Damage::DesksUnfit,
         Damage::CellsRange,
         Damage::OpenCountWrong,
         Damage::HeadByte,
@@ -202,13 +216,14 @@ impl Damage {
         Damage::Allowed,
         Damage::Scribble,
         Damage::SameKindSwapped,
+        Damage::BlocksOther,
     ];
 
     /// What a load of an image so damaged has to answer; `None` if it depends
     /// on the bytes.
     pub fn foretold(self) -> Option<Result<(), Refusal>> {
         match self {
-            Damage::Scribble | Damage::SameKindSwapped => None,
+            Damage::Scribble | Damage::SameKindSwapped | Damage::BlocksOther => None,
             Damage::Allowed => Some(Ok(())),
             Damage::Empty
             | Damage::CutBytes
@@ -271,7 +286,7 @@ pub fn damage(good: &[u8], what: Damage, rng: &mut Rng) -> Option<Vec<u8>> {
         }
         Damage::CheckBeforeRule => {
             // A rule broken in the first block, a check wrong in the last.
-            f.image[PAYLOAD] = 9;
+            f.image[PAYLOAD] = 17;
             f.put_checks_right();
             f.image[good.len() - BLOCK + CHECK] ^= 1;
             return Some(f.image);
@@ -281,7 +296,21 @@ pub fn damage(good: &[u8], what: Damage, rng: &mut Rng) -> Option<Vec<u8>> {
             let byte = &mut f.image[block * BLOCK];
             *byte = other(*byte, &[0, 1, 2, 3, 4, 5, 255], rng);
         }
-        Damage::EditionWrong => f.image[block * BLOCK + 1] = *rng.pick(&[0, 2, 255]),
+        Damage::EditionWrong => {
+            let (edition, all) = (*rng.pick(&[0, 3, 255]), rng.chance(1, 3));
+            f.set_editions(|at| all || at == block, edition);
+        }
+        Damage::EditionMixed => {
+            // The first block, as often as all others together.
+            let (one, rest) = (*rng.pick(&[0, block]), rng.chance(1, 3));
+            f.set_editions(|at| (at == one) != rest, f.other_edition().number);
+        }
+        Damage::EditionUnfit => f.set_editions(|_| true, f.other_edition().number),
+        Damage::EditionOther => {
+            let edition = f.other_edition();
+            f.image = f.in_edition(edition, edition.number);
+        }
+        Damage::BlocksOther => f.image = f.in_edition(f.other_edition(), f.edition.number),
         Damage::PlaceWrong => {
             let at = block * BLOCK + rng.range(2, 3);
             f.image[at] = f.image[at].wrapping_add(1 + rng.below(255) as u8);
@@ -304,7 +333,7 @@ pub fn damage(good: &[u8], what: Damage, rng: &mut Rng) -> Option<Vec<u8>> {
             f.image.resize(good.len() + BLOCK, 0);
             if rng.chance(1, 2) {
                 f.image[good.len()] = 4;
-                f.image[good.len() + 1] = 1;
+                f.image[good.len() + 1] = f.edition.number;
                 f.put_places_right();
             }
         }
@@ -324,7 +353,13 @@ pub fn damage(good: &[u8], what: Damage, rng: &mut Rng) -> Option<Vec<u8>> {
             f.swap_blocks(block, with);
         }
 
-        Damage::DesksRange => f.image[PAYLOAD] = *rng.pick(&[0, 9, 255]),
+        Damage::DesksRange => f.image[PAYLOAD] = *rng.pick(&[0, 17, 255]),
+        Damage::DesksUnfit => {
+            f.image[PAYLOAD] = match n {
+                1..=8 => rng.range(9, 16) as u8,
+                _ => rng.range(1, 8) as u8,
+            }
+        }
         Damage::CellsRange => f.image[PAYLOAD + 1] = *rng.pick(&[0, 65, 255]),
         Damage::OpenCountWrong => {
             let count = [open.wrapping_sub(1) as u8, open as u8 + 1, 65, 255];
@@ -334,7 +369,7 @@ pub fn damage(good: &[u8], what: Damage, rng: &mut Rng) -> Option<Vec<u8>> {
 
         Damage::DeskNumber => {
             let at = f.desk(rng.below(n));
-            f.image[at] = other(f.image[at], &[0, 1, 2, 8, 9, 255], rng);
+            f.image[at] = other(f.image[at], &[0, 1, 2, 8, 9, 16, 17, 255], rng);
         }
         Damage::DesksSwapped => {
             let (a, b) = (rng.below(n), rng.below(n));
@@ -345,7 +380,8 @@ pub fn damage(good: &[u8], what: Damage, rng: &mut Rng) -> Option<Vec<u8>> {
             f.put_places_right();
         }
         Damage::DeskByte => {
-            let (before, behind) = (rng.range(1, 3), rng.range(36, CHECK - PAYLOAD - 1));
+            let end = f.edition.clock() + 2 * f.edition.places;
+            let (before, behind) = (rng.range(1, 3), rng.range(end, CHECK - PAYLOAD - 1));
             let at = f.desk(rng.below(n)) + rng.pick(&[before, behind]);
             f.image[at] = nonzero(rng);
         }
@@ -374,7 +410,7 @@ pub fn damage(good: &[u8], what: Damage, rng: &mut Rng) -> Option<Vec<u8>> {
 
         Damage::CellWriter => {
             let at = f.set_cell(rng)?.2;
-            f.image[at] = *rng.pick(&[n as u8 + 1, 9, 255]);
+            f.image[at] = *rng.pick(&[n as u8 + 1, f.edition.places as u8 + 1, 255]);
         }
         Damage::CellStatus => {
             let at = f.set_cell(rng)?.2;
@@ -383,26 +419,37 @@ pub fn damage(good: &[u8], what: Damage, rng: &mut Rng) -> Option<Vec<u8>> {
         Damage::CellByte => {
             let (i, x) = (rng.below(n), rng.below(m));
             let inside = f.cell(i, x) + rng.range(2, 3);
-            let tail = f.cell(i, x) / BLOCK * BLOCK + rng.range(CHECK - 4, CHECK - 1);
-            f.image[*rng.pick(&[inside, tail])] = nonzero(rng);
+            // Behind the cells that a block has room for; edition 2 fills it.
+            let tail = f.cell(i, x) / BLOCK * BLOCK + CHECK - 1 - rng.below(f.spare().max(1));
+            let places = if f.spare() > 0 {
+                &[inside, tail][..]
+            } else {
+                &[inside]
+            };
+            f.image[*rng.pick(places)] = nonzero(rng);
         }
         Damage::CellPlacePastN => {
             let at = f.set_cell(rng)?.2;
             f.set_past_n(at + 4, rng)?;
         }
         Damage::CellPastM => {
-            if m % CELLS_PER_BLOCK == 0 {
+            let Edition {
+                cell_bytes,
+                cells_per_block,
+                ..
+            } = f.edition;
+            if m % cells_per_block == 0 {
                 return None;
             }
             let (i, x, from) = f.set_cell(rng)?;
-            let past = rng.range(m, m.next_multiple_of(CELLS_PER_BLOCK) - 1);
+            let past = rng.range(m, m.next_multiple_of(cells_per_block) - 1);
             let to = f.cell(i, past);
             if rng.chance(1, 2) {
                 // A whole cell that would be a good one.
-                let cell = good[from..][..CELL_BYTES].to_vec();
-                f.image[to..][..CELL_BYTES].copy_from_slice(&cell);
+                let cell = good[from..][..cell_bytes].to_vec();
+                f.image[to..][..cell_bytes].copy_from_slice(&cell);
             } else {
-                f.image[to + rng.below(CELL_BYTES)] = nonzero(rng);
+                f.image[to + rng.below(cell_bytes)] = nonzero(rng);
             }
             debug_assert!(x < m);
         }
@@ -439,7 +486,7 @@ pub fn damage(good: &[u8], what: Damage, rng: &mut Rng) -> Option<Vec<u8>> {
 
         Damage::OpenWriter => {
             let at = f.open_write(rng)?;
-            f.image[at] = other(f.image[at], &[0, 1, 2, n as u8 + 1, 9, 255], rng);
+            f.image[at] = other(f.image[at], &[0, 1, 2, n as u8 + 1, 17, 255], rng);
         }
         Damage::OpenStatus => {
             let at = f.open_write(rng)?;
@@ -473,7 +520,7 @@ pub fn damage(good: &[u8], what: Damage, rng: &mut Rng) -> Option<Vec<u8>> {
             for j in 0..open {
                 let at = f.open_at(j);
                 let u = f.image[at] as usize - 1;
-                for i in (0..n).filter(|&i| f.image[at + 20 + i] == 2) {
+                for i in (0..n).filter(|&i| f.image[f.mark(at, i)] == 2) {
                     for t in (0..n).filter(|&t| t != u) {
                         if f.get(f.applied(i, t)) < f.own(t) {
                             places.push((i, t, at));
@@ -506,7 +553,7 @@ pub fn damage(good: &[u8], what: Damage, rng: &mut Rng) -> Option<Vec<u8>> {
                 return None;
             }
             let j = rng.below(open);
-            list.insert(j, list[j]);
+            list.insert(j, list[j].clone());
             f.set_open_list(&list);
         }
         Damage::OpenClosed => {
@@ -521,11 +568,11 @@ pub fn damage(good: &[u8], what: Damage, rng: &mut Rng) -> Option<Vec<u8>> {
                 })
                 .collect();
             let (u, number) = choose(&closed, rng)?;
-            let mut write = [0; OPEN_BYTES];
+            let mut write = vec![0; f.edition.open_bytes];
             write[0] = u as u8 + 1;
             write[2] = 1;
             write[4 + 2 * u..][..2].copy_from_slice(&number.to_le_bytes());
-            write[20..20 + n].fill(2);
+            write[f.edition.marks()..][..n].fill(2);
             let mut list = f.open_list();
             let at = list.iter().take_while(|w| w[0] < write[0]).count();
             list.insert(at, write);
@@ -541,23 +588,27 @@ pub fn damage(good: &[u8], what: Damage, rng: &mut Rng) -> Option<Vec<u8>> {
             f.set_open_list(&list);
         }
         Damage::OpenPastCount => {
-            // Something behind the last open write, in its block.
-            if open % OPEN_PER_BLOCK == 0 {
-                return None;
-            }
-            let j = rng.range(open, open.next_multiple_of(OPEN_PER_BLOCK) - 1);
-            let at = f.open_at(j) + rng.below(OPEN_BYTES);
-            f.image[at] = nonzero(rng);
+            // Behind the last open write of a block.
+            let per_block = f.edition.open_per_block;
+            let mut tails: Vec<(usize, usize)> = (0..open)
+                .filter(|j| j % per_block == per_block - 1 || j + 1 == open)
+                .map(|j| f.open_at(j) + f.edition.open_bytes)
+                .map(|end| (end, end / BLOCK * BLOCK + CHECK))
+                .collect();
+            tails.retain(|(from, to)| from < to);
+            let (from, to) = choose(&tails, rng)?;
+            f.image[rng.range(from, to - 1)] = nonzero(rng);
         }
         Damage::MarkRange => {
-            let at = f.open_write(rng)? + 20 + rng.below(n);
+            let at = f.mark(f.open_write(rng)?, rng.below(n));
             f.image[at] = *rng.pick(&[3, 4, 255]);
         }
         Damage::MarkPastN => {
-            if n == 8 {
+            let places = f.edition.places;
+            if n == places {
                 return None;
             }
-            let at = f.open_write(rng)? + 20 + rng.range(n, 7);
+            let at = f.mark(f.open_write(rng)?, rng.range(n, places - 1));
             f.image[at] = *rng.pick(&[1, 2]);
         }
         Damage::MarkAppliedTooSoon => {
@@ -605,7 +656,7 @@ pub fn damage(good: &[u8], what: Damage, rng: &mut Rng) -> Option<Vec<u8>> {
 
 /// A good image with the numbers of desk u moved up by `up[u]` in all counts,
 /// clocks and vectors.
-pub(super) fn raised(good: Vec<u8>, up: &[u16; 8]) -> Vec<u8> {
+pub(super) fn raised(good: Vec<u8>, up: &[u16; MAX_DESKS]) -> Vec<u8> {
     let mut f = Fields::of(&good);
     let mut vectors = Vec::new();
     for i in 0..f.n {
@@ -640,6 +691,19 @@ pub(super) fn changed(good: Vec<u8>, rng: &mut Rng) -> Vec<u8> {
     f.image
 }
 
+/// An image in the blocks of one edition, in those of another: places and marks
+/// that it has no room for are lost. `None` if it has not the blocks of the first.
+pub fn in_edition(image: &[u8], from: Edition, to: Edition) -> Option<Vec<u8>> {
+    let mut f = Fields::of(image);
+    f.edition = from;
+    if image.len() != from.blocks(f.n, f.m, f.open) * BLOCK {
+        return None;
+    }
+    f.image = f.in_edition(to, to.number);
+    f.put_checks_right();
+    Some(f.image)
+}
+
 fn choose<T: Copy>(list: &[T], rng: &mut Rng) -> Option<T> {
     (!list.is_empty()).then(|| *rng.pick(list))
 }
@@ -658,6 +722,7 @@ fn nonzero(rng: &mut Rng) -> u8 {
 /// 0 here.
 struct Fields {
     image: Vec<u8>,
+    edition: Edition,
     n: usize,
     m: usize,
     open: usize,
@@ -667,6 +732,7 @@ impl Fields {
     fn of(good: &[u8]) -> Fields {
         Fields {
             image: good.to_vec(),
+            edition: Edition::of(good[PAYLOAD].into()),
             n: good[PAYLOAD].into(),
             m: good[PAYLOAD + 1].into(),
             open: good[PAYLOAD + 2].into(),
@@ -691,7 +757,7 @@ impl Fields {
     }
 
     fn clock(&self, i: usize, u: usize) -> usize {
-        self.desk(i) + 20 + 2 * u
+        self.desk(i) + self.edition.clock() + 2 * u
     }
 
     fn own(&self, u: usize) -> u16 {
@@ -699,13 +765,82 @@ impl Fields {
     }
 
     fn cell(&self, i: usize, x: usize) -> usize {
-        let block = 1 + self.n + i * self.m.div_ceil(CELLS_PER_BLOCK) + x / CELLS_PER_BLOCK;
-        block * BLOCK + PAYLOAD + x % CELLS_PER_BLOCK * CELL_BYTES
+        let per_block = self.edition.cells_per_block;
+        let block = 1 + self.n + i * self.m.div_ceil(per_block) + x / per_block;
+        block * BLOCK + PAYLOAD + x % per_block * self.edition.cell_bytes
     }
 
     fn open_at(&self, j: usize) -> usize {
-        let block = image::block_count(self.n, self.m, 0) + j / OPEN_PER_BLOCK;
-        block * BLOCK + PAYLOAD + j % OPEN_PER_BLOCK * OPEN_BYTES
+        let per_block = self.edition.open_per_block;
+        let block = self.edition.blocks(self.n, self.m, 0) + j / per_block;
+        block * BLOCK + PAYLOAD + j % per_block * self.edition.open_bytes
+    }
+
+    /// The mark of desk i of the open write at `write`.
+    fn mark(&self, write: usize, i: usize) -> usize {
+        write + self.edition.marks() + i
+    }
+
+    /// The payload bytes of a block of cells that no cell takes.
+    fn spare(&self) -> usize {
+        CHECK - PAYLOAD - self.edition.cells_per_block * self.edition.cell_bytes
+    }
+
+    fn other_edition(&self) -> Edition {
+        match self.edition {
+            Edition::ONE => Edition::TWO,
+            _ => Edition::ONE,
+        }
+    }
+
+    fn set_editions(&mut self, which: impl Fn(usize) -> bool, edition: u8) {
+        for (at, block) in self.image.chunks_exact_mut(BLOCK).enumerate() {
+            if which(at) {
+                block[1] = edition;
+            }
+        }
+    }
+
+    /// The table in the blocks of an edition, each with this number: places and
+    /// marks that it has no room for are lost. Checks are not put right.
+    fn in_edition(&self, edition: Edition, number: u8) -> Vec<u8> {
+        let (n, m, open) = (self.n, self.m, self.open);
+        let mut to = Fields {
+            image: vec![0; edition.blocks(n, m, open) * BLOCK],
+            edition,
+            ..*self
+        };
+        let kinds = [1, n, edition.blocks(n, m, 0) - 1 - n];
+        let ends = kinds.iter().scan(0, |end, count| {
+            *end += count;
+            Some(*end)
+        });
+        let ends: Vec<usize> = ends.collect();
+        for (at, block) in to.image.chunks_exact_mut(BLOCK).enumerate() {
+            block[0] = 1 + ends.iter().filter(|&&end| at >= end).count() as u8;
+            block[1] = number;
+        }
+        to.put_places_right();
+        to.image[PAYLOAD..CHECK].copy_from_slice(&self.image[PAYLOAD..CHECK]);
+        let vector = 2 * edition.places.min(self.edition.places);
+        for i in 0..n {
+            to.copy(self, to.desk(i), self.desk(i), 4);
+            to.copy(self, to.applied(i, 0), self.applied(i, 0), vector);
+            to.copy(self, to.clock(i, 0), self.clock(i, 0), vector);
+            for x in 0..m {
+                to.copy(self, to.cell(i, x), self.cell(i, x), 4 + vector);
+            }
+        }
+        for j in 0..open {
+            let (at, from) = (to.open_at(j), self.open_at(j));
+            to.copy(self, at, from, 4 + vector);
+            to.copy(self, to.mark(at, 0), self.mark(from, 0), vector / 2);
+        }
+        to.image
+    }
+
+    fn copy(&mut self, of: &Fields, at: usize, from: usize, count: usize) {
+        self.image[at..][..count].copy_from_slice(&of.image[from..][..count]);
     }
 
     /// Pairs of desks.
@@ -724,7 +859,7 @@ impl Fields {
     /// All marks: open write, desk, where.
     fn marks(&self) -> Vec<(usize, usize, usize)> {
         (0..self.open)
-            .flat_map(|j| (0..self.n).map(move |i| (j, i, self.open_at(j) + 20 + i)))
+            .flat_map(|j| (0..self.n).map(move |i| (j, i, self.mark(self.open_at(j), i))))
             .collect()
     }
 
@@ -740,41 +875,38 @@ impl Fields {
         (self.open > 0).then(|| self.open_at(rng.below(self.open)))
     }
 
-    fn open_list(&self) -> Vec<[u8; OPEN_BYTES]> {
+    fn open_list(&self) -> Vec<Vec<u8>> {
         (0..self.open)
-            .map(|j| {
-                let mut write = [0; OPEN_BYTES];
-                write.copy_from_slice(&self.image[self.open_at(j)..][..OPEN_BYTES]);
-                write
-            })
+            .map(|j| self.image[self.open_at(j)..][..self.edition.open_bytes].to_vec())
             .collect()
     }
 
     /// Writes the kind 4 blocks and the open count anew.
-    fn set_open_list(&mut self, list: &[[u8; OPEN_BYTES]]) {
+    fn set_open_list(&mut self, list: &[Vec<u8>]) {
         self.open = list.len();
         self.image[PAYLOAD + 2] = self.open as u8;
-        let before = image::block_count(self.n, self.m, 0);
+        let before = self.edition.blocks(self.n, self.m, 0);
         self.image.truncate(before * BLOCK);
-        let blocks = image::block_count(self.n, self.m, self.open);
+        let blocks = self.edition.blocks(self.n, self.m, self.open);
         self.image.resize(blocks * BLOCK, 0);
         for block in before..blocks {
             self.image[block * BLOCK] = 4;
-            self.image[block * BLOCK + 1] = 1;
+            self.image[block * BLOCK + 1] = self.edition.number;
         }
         for (j, write) in list.iter().enumerate() {
             let at = self.open_at(j);
-            self.image[at..at + OPEN_BYTES].copy_from_slice(write);
+            self.image[at..][..write.len()].copy_from_slice(write);
         }
         self.put_places_right();
     }
 
     /// Makes a place past n of the vector at `at` nonzero.
     fn set_past_n(&mut self, at: usize, rng: &mut Rng) -> Option<()> {
-        if self.n == 8 {
+        let places = self.edition.places;
+        if self.n == places {
             return None;
         }
-        let u = rng.range(self.n, 7);
+        let u = rng.range(self.n, places - 1);
         self.set(at + 2 * u, *rng.pick(&[1, 256, 65_535]));
         Some(())
     }
@@ -818,7 +950,7 @@ impl Fields {
                 // A cell set anew, or made unset.
                 let (i, x, u) = (rng.below(n), rng.below(self.m), rng.below(n));
                 let at = self.cell(i, x);
-                self.image[at..][..CELL_BYTES].fill(0);
+                self.image[at..][..self.edition.cell_bytes].fill(0);
                 if self.get(self.applied(i, u)) > 0 {
                     self.image[at] = u as u8 + 1;
                     self.image[at + 1] = rng.below(3) as u8;
@@ -846,15 +978,16 @@ impl Fields {
                 let t = rng.below(n);
                 if t + 1 != self.image[at].into() {
                     let most = (0..n)
-                        .filter(|&i| self.image[at + 20 + i] == 2)
+                        .filter(|&i| self.image[self.mark(at, i)] == 2)
                         .map(|i| self.get(self.applied(i, t)))
                         .min()?;
                     let value = any(rng, 0, most);
                     self.set(at + 4 + 2 * t, value);
                 }
                 for i in 0..n {
-                    if self.image[at + 20 + i] == 1 && self.ready(at, i) {
-                        self.image[at + 20 + i] = 0;
+                    let mark = self.mark(at, i);
+                    if self.image[mark] == 1 && self.ready(at, i) {
+                        self.image[mark] = 0;
                     }
                 }
             }
@@ -875,14 +1008,14 @@ impl Fields {
     fn interesting_byte(&self, rng: &mut Rng) -> usize {
         let i = rng.below(self.n);
         match rng.below(6) {
-            0 => self.desk(i) + 4 + rng.below(32),
-            1 => self.cell(i, rng.below(self.m)) + rng.below(CELL_BYTES),
+            0 => self.desk(i) + 4 + rng.below(4 * self.edition.places),
+            1 => self.cell(i, rng.below(self.m)) + rng.below(self.edition.cell_bytes),
             2 => match self.set_cell(rng) {
                 Some((_, _, at)) => at + rng.below(6),
                 None => self.clock(i, i),
             },
             3 | 4 => match self.open_write(rng) {
-                Some(at) => at + rng.below(OPEN_BYTES),
+                Some(at) => at + rng.below(self.edition.open_bytes),
                 None => self.applied(i, i),
             },
             _ => rng.below(self.image.len() / BLOCK) * BLOCK + rng.below(CHECK),

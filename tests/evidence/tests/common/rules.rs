@@ -9,6 +9,8 @@ pub enum Rule {
     HeadRange,
     /// Not the blocks that n, m and the open count ask for.
     Blocks,
+    /// They are, but not all in the edition that n asks for.
+    Edition,
     /// A byte that is not named is not zero (cells past m are such bytes).
     UnnamedByte,
     DeskNumber,
@@ -39,10 +41,10 @@ pub enum Rule {
     HeldReady,
 }
 
-type Vector = [u32; 8];
-
-fn vector(bytes: &[u8]) -> Vector {
-    std::array::from_fn(|t| u32::from(bytes[2 * t]) + 256 * u32::from(bytes[2 * t + 1]))
+fn vector(bytes: &[u8], places: usize) -> Vec<u32> {
+    (0..places)
+        .map(|t| u32::from(bytes[2 * t]) + 256 * u32::from(bytes[2 * t + 1]))
+        .collect()
 }
 
 /// All rules that the image breaks; those about blocks come alone.
@@ -58,22 +60,29 @@ pub fn broken(image: &[u8]) -> Vec<Rule> {
         }
     }
     let (n, m, open) = (image[4] as usize, image[5] as usize, image[6] as usize);
-    if n == 0 || n > 8 || m == 0 || m > 64 || open > 64 {
+    if n == 0 || n > 16 || m == 0 || m > 64 || open > 64 {
         return vec![Rule::HeadRange];
     }
+    // Edition, places, bytes of a cell and of an open write, and how many of
+    // each to a block.
+    let (edition, places, cell, open_write, cells, opens) = match n {
+        1..=8 => (1, 8, 20, 28, 25, 18),
+        _ => (2, 16, 36, 52, 14, 9),
+    };
     // Which block has to be of which kind.
-    let per_desk = m.div_ceil(25);
+    let per_desk = m.div_ceil(cells);
     let mut kinds = vec![1];
     kinds.extend(vec![2; n]);
     kinds.extend(vec![3; n * per_desk]);
-    kinds.extend(vec![4; open.div_ceil(18)]);
-    if image.len() != 512 * kinds.len() {
+    kinds.extend(vec![4; open.div_ceil(opens)]);
+    let fits = |(place, block): (usize, &[u8])| {
+        [block[0], block[2], block[3]] == [kinds[place], place as u8, 0]
+    };
+    if image.len() != 512 * kinds.len() || !image.chunks(512).enumerate().all(fits) {
         return vec![Rule::Blocks];
     }
-    for (place, block) in image.chunks(512).enumerate() {
-        if block[..4] != [kinds[place], 1, place as u8, 0] {
-            return vec![Rule::Blocks];
-        }
+    if image.chunks(512).any(|block| block[1] != edition) {
+        return vec![Rule::Edition];
     }
 
     let mut found = Vec::new();
@@ -81,19 +90,25 @@ pub fn broken(image: &[u8]) -> Vec<Rule> {
     let mut name = |from: usize, count: usize| named[from..from + count].fill(true);
     name(4, 3);
     let desk_at = |i: usize| 512 * (1 + i) + 4;
-    let cell_at = |i: usize, x: usize| 512 * (1 + n + i * per_desk + x / 25) + 4 + 20 * (x % 25);
-    let open_at = |j: usize| 512 * (1 + n + n * per_desk + j / 18) + 4 + 28 * (j % 18);
+    let cell_at =
+        |i: usize, x: usize| 512 * (1 + n + i * per_desk + x / cells) + 4 + cell * (x % cells);
+    let open_at =
+        |j: usize| 512 * (1 + n + n * per_desk + j / opens) + 4 + open_write * (j % opens);
 
-    let counts: Vec<Vector> = (0..n).map(|i| vector(&image[desk_at(i) + 4..])).collect();
-    let clocks: Vec<Vector> = (0..n).map(|i| vector(&image[desk_at(i) + 20..])).collect();
+    let vectors = |from: usize| -> Vec<Vec<u32>> {
+        (0..n)
+            .map(|i| vector(&image[desk_at(i) + from..], places))
+            .collect()
+    };
+    let (counts, clocks) = (vectors(4), vectors(4 + 2 * places));
     let own: Vec<u32> = (0..n).map(|u| counts[u][u]).collect();
     for i in 0..n {
         name(desk_at(i), 1);
-        name(desk_at(i) + 4, 32);
+        name(desk_at(i) + 4, 4 * places);
         if usize::from(image[desk_at(i)]) != i + 1 {
             found.push(Rule::DeskNumber);
         }
-        if (n..8).any(|t| counts[i][t] > 0 || clocks[i][t] > 0) {
+        if (n..places).any(|t| counts[i][t] > 0 || clocks[i][t] > 0) {
             found.push(Rule::DeskPastN);
         }
         if (0..n).any(|u| counts[i][u] > own[u]) {
@@ -106,10 +121,10 @@ pub fn broken(image: &[u8]) -> Vec<Rule> {
             found.push(Rule::ClockOwnPlace);
         }
         for x in 0..m {
-            let cell = &image[cell_at(i, x)..][..20];
+            let cell = &image[cell_at(i, x)..][..cell];
             name(cell_at(i, x), 2);
-            name(cell_at(i, x) + 4, 16);
-            let (writer, v) = (cell[0] as usize, vector(&cell[4..]));
+            name(cell_at(i, x) + 4, 2 * places);
+            let (writer, v) = (cell[0] as usize, vector(&cell[4..], places));
             if writer == 0 {
                 if cell[1] > 0 || v.iter().any(|&p| p > 0) {
                     found.push(Rule::UnsetNotZero);
@@ -119,7 +134,7 @@ pub fn broken(image: &[u8]) -> Vec<Rule> {
             if cell[1] > 2 {
                 found.push(Rule::CellStatus);
             }
-            if (n..8).any(|t| v[t] > 0) {
+            if (n..places).any(|t| v[t] > 0) {
                 found.push(Rule::VectorPastN);
             }
             if (0..n).any(|t| v[t] > counts[i][t]) {
@@ -140,16 +155,17 @@ pub fn broken(image: &[u8]) -> Vec<Rule> {
     for j in 0..open {
         let at = open_at(j);
         name(at, 3);
-        name(at + 4, 24);
-        let write = &image[at..at + 28];
-        let (writer, v, marks) = (write[0] as usize, vector(&write[4..]), &write[20..]);
+        name(at + 4, 3 * places);
+        let write = &image[at..at + open_write];
+        let (writer, v) = (write[0] as usize, vector(&write[4..], places));
+        let marks = &write[4 + 2 * places..];
         if write[1] > 2 {
             found.push(Rule::OpenStatus);
         }
         if write[2] == 0 || write[2] as usize > m {
             found.push(Rule::OpenCell);
         }
-        if (n..8).any(|t| v[t] > 0) {
+        if (n..places).any(|t| v[t] > 0) {
             found.push(Rule::VectorPastN);
         }
         if (0..n).any(|t| v[t] > own[t]) {

@@ -9,26 +9,64 @@ enum Place {
     Applied,
 }
 
+/// An edition as the documents have it, number by number.
+#[derive(Clone, Copy)]
+pub struct Shape {
+    pub edition: u8,
+    pub places: usize,
+    pub cell: usize,
+    pub cells: usize,
+    pub open: usize,
+    pub opens: usize,
+}
+
+pub const ONE: Shape = Shape {
+    edition: 1,
+    places: 8,
+    cell: 20,
+    cells: 25,
+    open: 28,
+    opens: 18,
+};
+
+pub const TWO: Shape = Shape {
+    edition: 2,
+    places: 16,
+    cell: 36,
+    cells: 14,
+    open: 52,
+    opens: 9,
+};
+
+/// The shape of the image of a table of n desks.
+pub fn shape(n: usize) -> Shape {
+    if n > 8 {
+        TWO
+    } else {
+        ONE
+    }
+}
+
 #[derive(Clone)]
 struct Write {
     desk: usize,
     number: usize,
     cell: usize,
     status: usize,
-    vector: [usize; 9],
+    vector: [usize; 17],
 }
 
 /// Desks and cells count from 1, as in the document; place 0 is unused.
 pub struct Slow {
     n: usize,
     m: usize,
-    clock: Vec<[usize; 9]>,
-    applied: Vec<[usize; 9]>,
+    clock: Vec<[usize; 17]>,
+    applied: Vec<[usize; 17]>,
     cells: Vec<Vec<Option<Write>>>,
     /// All writes since the N, or since the load.
     writes: Vec<Write>,
     /// Up to this number a desk's writes were closed when the table was loaded.
-    closed: [usize; 9],
+    closed: [usize; 17],
     /// Where write w stands at desk i.
     places: HashMap<(usize, usize), Place>,
 }
@@ -204,11 +242,11 @@ impl Slow {
         Slow {
             n,
             m,
-            clock: vec![[0; 9]; n + 1],
-            applied: vec![[0; 9]; n + 1],
+            clock: vec![[0; 17]; n + 1],
+            applied: vec![[0; 17]; n + 1],
             cells: vec![vec![None; m + 1]; n + 1],
             writes: Vec::new(),
-            closed: [0; 9],
+            closed: [0; 17],
             places: HashMap::new(),
         }
     }
@@ -216,9 +254,11 @@ impl Slow {
     /// The table of an image that keeps the rules.
     pub fn load(image: &[u8]) -> Slow {
         let (n, m, open) = (image[4] as usize, image[5] as usize, image[6] as usize);
-        let vector = |at: usize| -> [usize; 9] {
+        let shape = shape(n);
+        let vector = |at: usize| -> [usize; 17] {
             std::array::from_fn(|t| match t {
                 0 => 0,
+                _ if t > shape.places => 0,
                 _ => image[at + 2 * t - 2] as usize + 256 * image[at + 2 * t - 1] as usize,
             })
         };
@@ -233,25 +273,26 @@ impl Slow {
         let mut block = 1;
         for i in 1..=n {
             slow.applied[i] = vector(512 * block + 8);
-            slow.clock[i] = vector(512 * block + 24);
+            slow.clock[i] = vector(512 * block + 8 + 2 * shape.places);
             block += 1;
         }
         for i in 1..=n {
             for x in 1..=m {
-                let at = 512 * (block + (x - 1) / 25) + 4 + 20 * ((x - 1) % 25);
+                let (over, rest) = ((x - 1) / shape.cells, (x - 1) % shape.cells);
+                let at = 512 * (block + over) + 4 + shape.cell * rest;
                 if image[at] > 0 {
                     slow.cells[i][x] = Some(write(at, x));
                 }
             }
-            block += m.div_ceil(25);
+            block += m.div_ceil(shape.cells);
         }
         for w in 0..open {
-            let at = 512 * (block + w / 18) + 4 + 28 * (w % 18);
+            let at = 512 * (block + w / shape.opens) + 4 + shape.open * (w % shape.opens);
             slow.writes.push(write(at, image[at + 2] as usize));
             for i in 1..=n {
                 let place = [Place::Missing, Place::Held, Place::Applied];
                 slow.places
-                    .insert((i, w), place[image[at + 19 + i] as usize]);
+                    .insert((i, w), place[image[at + 3 + 2 * shape.places + i] as usize]);
             }
         }
         for u in 1..=n {
@@ -260,13 +301,18 @@ impl Slow {
         slow
     }
 
-    /// The image, written by hand from "Saved image".
+    /// The image, written by hand from "Saved image" and T-06.
     pub fn image(&self) -> Vec<u8> {
+        self.image_in(shape(self.n))
+    }
+
+    /// The table in any shape; what it has no room for is left out.
+    pub fn image_in(&self, shape: Shape) -> Vec<u8> {
         let mut payloads: Vec<(u8, Vec<u8>)> = Vec::new();
         let mut open = self.open();
         open.sort_by_key(|&w| (self.writes[w].desk, self.writes[w].number));
-        let places = |v: &[usize; 9]| -> Vec<u8> {
-            (v[1..].iter())
+        let places = |v: &[usize; 17]| -> Vec<u8> {
+            (v[1..=shape.places].iter())
                 .flat_map(|&p| [(p % 256) as u8, (p / 256) as u8])
                 .collect()
         };
@@ -279,7 +325,7 @@ impl Slow {
         }
         for i in 1..=self.n {
             for x in 1..=self.m {
-                if x % 25 == 1 {
+                if (x - 1) % shape.cells == 0 {
                     payloads.push((3, Vec::new()));
                 }
                 let p = &mut payloads.last_mut().unwrap().1;
@@ -288,19 +334,19 @@ impl Slow {
                         p.extend([w.desk as u8, w.status as u8, 0, 0]);
                         p.extend(places(&w.vector));
                     }
-                    None => p.extend([0; 20]),
+                    None => p.extend(vec![0; shape.cell]),
                 }
             }
         }
         for (at, &w) in open.iter().enumerate() {
-            if at % 18 == 0 {
+            if at % shape.opens == 0 {
                 payloads.push((4, Vec::new()));
             }
             let p = &mut payloads.last_mut().unwrap().1;
             let write = &self.writes[w];
             p.extend([write.desk as u8, write.status as u8, write.cell as u8, 0]);
             p.extend(places(&write.vector));
-            for i in 1..=8 {
+            for i in 1..=shape.places {
                 p.push(match self.place(i, w) {
                     Place::Missing => 0,
                     Place::Held => 1,
@@ -310,7 +356,12 @@ impl Slow {
         }
         let mut image = Vec::new();
         for (place, (kind, payload)) in payloads.iter().enumerate() {
-            let mut block = vec![*kind, 1, (place % 256) as u8, (place / 256) as u8];
+            let mut block = vec![
+                *kind,
+                shape.edition,
+                (place % 256) as u8,
+                (place / 256) as u8,
+            ];
             block.extend(payload);
             block.resize(508, 0);
             let mut check = 1u64;
@@ -374,7 +425,7 @@ fn answer(line: &[u8], table: &mut Option<Slow>) -> Result<String, usize> {
         return table.step(letter, &fields);
     }
     let (n, m) = (fields[0], fields[1]);
-    if n == 0 || n > 8 || m == 0 || m > 64 {
+    if n == 0 || n > 16 || m == 0 || m > 64 {
         return Err(11);
     }
     *table = Some(Slow::fresh(n, m));

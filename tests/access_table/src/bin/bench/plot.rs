@@ -10,8 +10,8 @@ const BOTTOM: f64 = 45.0;
 const TOP: f64 = 40.0;
 const RIGHT: f64 = 20.0;
 
-/// Titles of the panels, in their order; the last shows two lines of figures.
-const PANELS: [(&str, &str, &[&str]); 4] = [
+/// Titles of the panels, in their order, and the figures that each shows.
+const PANELS: [(&str, &str, &[&str]); 5] = [
     (
         "A run, by its lines",
         "lines (8 desks, 64 cells)",
@@ -24,9 +24,14 @@ const PANELS: [(&str, &str, &[&str]); 4] = [
         &["open", "open+load"],
     ),
     (
-        "The largest table loaded and saved",
+        "The largest table of 8 desks loaded and saved",
         "open writes (8 desks, 64 cells); dashed: load alone",
         &["load", "load+save"],
+    ),
+    (
+        "The largest table of 16 desks loaded and saved",
+        "open writes (16 desks, 64 cells); dashed: load alone",
+        &["load16", "load16+save"],
     ),
 ];
 
@@ -56,7 +61,8 @@ fn figures(text: &str) -> Result<Figures, String> {
 }
 
 fn picture(all: &Figures, unit: &str) -> Result<String, String> {
-    let (w, h) = (2.0 * WIDTH, 2.0 * HEIGHT + 30.0);
+    let rows = PANELS.len().div_ceil(2) as f64;
+    let (w, h) = (2.0 * WIDTH, rows * HEIGHT + 30.0);
     let mut out = format!(
         "<svg xmlns=\"http://www.w3.org/2000/svg\" viewBox=\"0 0 {w} {h}\" font-family=\"sans-serif\" font-size=\"12\">\n<rect width=\"{w}\" height=\"{h}\" fill=\"white\"/>\n"
     );
@@ -158,7 +164,7 @@ fn one(
         );
     }
     for ((what, side), list) in &shown {
-        let dash = if matches!(what.as_str(), "load" | "open+load") {
+        let dash = if matches!(what.as_str(), "load" | "load16" | "open+load") {
             " stroke-dasharray=\"5 3\""
         } else {
             ""

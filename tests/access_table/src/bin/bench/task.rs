@@ -30,13 +30,15 @@ impl Side {
 
 /// What grows, and the sizes at which it is measured.
 pub fn points() -> Vec<(&'static str, usize)> {
-    let sizes: [(&'static str, &[usize]); 6] = [
+    let sizes: [(&'static str, &[usize]); 8] = [
         ("lines", &[0, 500, 1000, 2000, 3000, 4000, 5000, 6000]),
-        ("desks", &[1, 2, 3, 4, 5, 6, 7, 8]),
+        ("desks", &[1, 2, 3, 4, 5, 6, 7, 8, 9, 10, 12, 14, 16]),
         ("open", &[0, 8, 16, 24, 32, 40, 48, 56, 63]),
         ("open+load", &[0, 8, 16, 24, 32, 40, 48, 56, 63]),
         ("load", &[0, 16, 32, 48, 64]),
         ("load+save", &[0, 16, 32, 48, 64]),
+        ("load16", &[0, 16, 32, 48, 64]),
+        ("load16+save", &[0, 16, 32, 48, 64]),
     ];
     let each = |(what, sizes): (&'static str, &'static [usize])| {
         sizes.iter().map(move |size| (what, *size))
@@ -60,7 +62,8 @@ impl Task {
             "desks" => (Vec::new(), traffic(size, 2000)),
             "open" => (Vec::new(), [undelivered(size), delivered(size)].concat()),
             "open+load" => (saved(&undelivered(size)), delivered(size)),
-            "load" | "load+save" => (largest(size), Vec::new()),
+            "load" | "load+save" => (largest(8, size), Vec::new()),
+            "load16" | "load16+save" => (largest(16, size), Vec::new()),
             _ => return None,
         };
         assert!(
@@ -70,7 +73,7 @@ impl Task {
         Some(Task {
             answers: vec![0; answers_bound(schedule.len())],
             image_out: vec![0; MAX_IMAGE],
-            only_load: what == "load",
+            only_load: matches!(what, "load" | "load16"),
             image,
             schedule,
         })
@@ -153,20 +156,18 @@ fn saved(text: &[u8]) -> Vec<u8> {
     image::to_vec(table).expect("an image")
 }
 
-/// The image of a table of 8 desks and 64 cells, each set at each desk, and so many open writes.
-fn largest(open: usize) -> Vec<u8> {
-    let mut table = Table::new(8, 64).expect("a table");
+/// The image of a table of so many desks and 64 cells, each set at each desk, and so many open writes.
+fn largest(desks: u16, open: usize) -> Vec<u8> {
+    let mut table = Table::new(desks, 64).expect("a table");
     for cell in 1..=64 {
         let name = table.write(1, cell, 1).expect("a write");
-        for desk in 2..=8 {
+        for desk in 2..=desks {
             table.deliver(desk, 1, name.number).expect("a delivery");
             table.read(desk, cell).expect("a read");
         }
     }
-    for k in 0..open {
-        table
-            .write(1 + (k % 8) as u16, 1 + (k % 64) as u16, 2)
-            .expect("a write");
+    for k in 0..open as u16 {
+        table.write(1 + k % desks, 1 + k % 64, 2).expect("a write");
     }
     image::to_vec(&table).expect("an image")
 }

@@ -55,6 +55,11 @@ pub struct Counts {
     pub full_carried: usize,
     /// Writes that were held in an image and applied in the piece behind it.
     pub released: usize,
+    /// Schedules that made a table of 9 to 16 desks; pieces that began from one,
+    /// and those of them with 64 open writes.
+    pub many: usize,
+    pub many_carried: usize,
+    pub many_full: usize,
     /// Pieces of 65,536 bytes, of 65,537, and longer ones.
     pub longest: usize,
     pub one_over: usize,
@@ -65,6 +70,10 @@ pub struct Counts {
     pub broken: usize,
     pub accepted: usize,
     pub empty: usize,
+    /// Accepted images of edition 2, and refused ones with a block whose edition
+    /// is not that of their n.
+    pub second: usize,
+    pub unfit: usize,
     /// Damaged images whose checks are all right.
     pub checks_right: usize,
     /// Images of each way.
@@ -111,6 +120,9 @@ impl Counts {
             ("a held write carried over a reload", self.held_carried),
             ("a held write applied after a reload", self.released),
             ("64 open writes carried over a reload", self.full_carried),
+            ("a run with 9 to 16 desks", self.many),
+            ("9 to 16 desks carried over a reload", self.many_carried),
+            ("64 open writes of 9 to 16 desks carried", self.many_full),
             ("a schedule of 65,536 bytes", self.longest),
             ("a schedule of 65,537 bytes", self.one_over),
             ("a longer schedule", self.over),
@@ -118,6 +130,8 @@ impl Counts {
             ("an image refused with 12", self.damaged),
             ("an image refused with 13", self.broken),
             ("an accepted image", self.accepted),
+            ("an accepted image of edition 2", self.second),
+            ("an image refused for its edition", self.unfit),
             ("an image of no bytes", self.empty),
             ("room to the byte", self.calls.exact),
             ("answers one short", self.calls.short_answers),
@@ -148,6 +162,7 @@ impl Counts {
              answers: {}\n\
              causal order: {}\n\
              reloads: {} pieces from no table, {} from an image; {} images with a held write, {} such writes applied behind it, {} images with 64 open\n\
+             9 to 16 desks: {} schedules, {} pieces from an image, {} of them with 64 open; {} images of edition 2 accepted, {} refused for an edition\n\
              sizes: {} pieces of 65,536 bytes, {} of 65,537, {} longer\n\
              calls: {}; {} with room to the byte, {} longer, one short: {} answers, {} image_out, {} lengths\n\
              images: {} damaged with checks right; {} ways, fewest {} ({})",
@@ -159,6 +174,11 @@ impl Counts {
             self.held_carried,
             self.released,
             self.full_carried,
+            self.many,
+            self.many_carried,
+            self.many_full,
+            self.second,
+            self.unfit,
             self.longest,
             self.one_over,
             self.over,
@@ -211,7 +231,7 @@ fn class(line: &[u8]) -> Option<usize> {
 /// The class of a held answer, by the number of the write that it names.
 fn hold(name: &[u8]) -> Option<&'static str> {
     let (desk, number) = std::str::from_utf8(name).ok()?.split_once('.')?;
-    let (1.., number) = (desk.parse::<u8>().ok()?, number.parse::<u16>().ok()?) else {
+    let (1..=16, number) = (desk.parse::<u8>().ok()?, number.parse::<u16>().ok()?) else {
         return None;
     };
     match number {
@@ -228,11 +248,11 @@ mod tests {
 
     #[test]
     fn a_line_that_is_no_answer_is_a_fault() {
-        for good in ["H 1.1\n", "H 8.65535\n", "H 2.17\nE 8\n"] {
+        for good in ["H 1.1\n", "H 16.65535\n", "H 2.17\nE 8\n"] {
             assert_eq!(Counts::default().answers(good.as_bytes()), Ok(()));
         }
         for bad in [
-            "H", "H 1", "H 1.", "H .1", "H 0.1", "H 1.0", "H 1.1.1", "E 12",
+            "H", "H 1", "H 1.", "H .1", "H 0.1", "H 17.1", "H 1.0", "H 1.1.1", "E 12",
         ] {
             let line = format!("{bad}\n");
             assert!(Counts::default().answers(line.as_bytes()).is_err(), "{bad}");

@@ -4,7 +4,7 @@ use crate::calls::{Call, Expect, Held};
 use crate::counts::Counts;
 use crate::pieces::{self, image_of, Case};
 use evidence::gen::{damage, odd_image, schedule_from, table, worn_image, Damage, Rng};
-use evidence::image::{self, check_of, BLOCK, CHECK};
+use evidence::image::{self, check_of, Edition, BLOCK, CHECK, PAYLOAD};
 use evidence::text::MAX_INPUT;
 use evidence::Refusal;
 use std::fmt;
@@ -163,9 +163,15 @@ impl Sample {
         *counts.ways.entry(self.way.to_string()).or_default() += 1;
         match verdict(&self.image) {
             Err(Refusal::ImageDamaged) => counts.damaged += 1,
-            Err(_) => counts.broken += 1,
+            Err(_) => {
+                counts.broken += 1;
+                counts.unfit += usize::from(editions(&self.image).any(|fits| !fits));
+            }
             Ok(()) if self.image.is_empty() => counts.empty += 1,
-            Ok(()) => counts.accepted += 1,
+            Ok(()) => {
+                counts.accepted += 1;
+                counts.second += usize::from(self.image[1] == 2);
+            }
         }
         let checks_right = !matches!(image::load(&self.image), Err(Refusal::ImageDamaged));
         let damaged = matches!(self.way, Way::Damaged(_));
@@ -205,6 +211,14 @@ pub fn hold(call: Call, image: &[u8], counts: &mut Counts) -> Result<(), String>
         held(&long).refused([700, 0, 2], number)?;
     }
     Ok(())
+}
+
+/// Of each block, whether its edition is that of the image's n.
+fn editions(image: &[u8]) -> impl Iterator<Item = bool> + '_ {
+    let edition = Edition::of(image[PAYLOAD].into()).number;
+    image
+        .chunks_exact(BLOCK)
+        .map(move |block| block[1] == edition)
 }
 
 fn check_right(block: &[u8]) -> bool {

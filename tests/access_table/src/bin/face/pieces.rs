@@ -200,6 +200,7 @@ pub fn hold(call: Call, case: &Case, depth: Depth, counts: &mut Counts) -> Resul
         }
     }
     if case.start.is_empty() {
+        counts.many += usize::from(session.table().is_some_and(many));
         whole(&ran, &answered, counts)?;
     }
     Ok(())
@@ -265,7 +266,10 @@ fn count_piece(
     if at == 0 || piece.is_empty() {
         return;
     }
-    counts.full_carried += usize::from(before.open_count() == 64);
+    let full = before.open_count() == 64;
+    counts.full_carried += usize::from(full);
+    counts.many_carried += usize::from(many(before));
+    counts.many_full += usize::from(full && many(before));
     let held = held_writes(before);
     counts.held_carried += usize::from(!held.is_empty());
     let applied = |(desk, writer, number): &(u16, u8, u16)| {
@@ -273,6 +277,11 @@ fn count_piece(
         counts.is_some_and(|c| c[usize::from(*writer) - 1] >= *number)
     };
     counts.released += held.iter().filter(|h| applied(h)).count();
+}
+
+/// Whether a table is one of edition 2.
+fn many(table: &Table) -> bool {
+    table.desks() > 8
 }
 
 /// The held writes of a table: desk, writer, number.

@@ -6,7 +6,8 @@ use crate::counts::Counts;
 use crate::images::put_checks_right;
 use crate::pieces::expected;
 use crate::{all, Library};
-use evidence::image::{self, block_count, BLOCK, OPEN_BYTES, OPEN_PER_BLOCK, PAYLOAD};
+use evidence::gen::in_edition;
+use evidence::image::{self, block_count, Edition, BLOCK, PAYLOAD};
 use evidence::table::Table;
 use evidence::text::{Session, MAX_INPUT};
 use evidence::Refusal;
@@ -49,6 +50,24 @@ enum Wrong {
     HeldReady,
     OneBlockMore,
     Refuses65535,
+    // Sixteen desks.
+    EightDesks,
+    SeventeenDesks,
+    DeskOneByte,
+    NumberOneAlways,
+    EditionOneAlways,
+    EditionTwoAlways,
+    EditionInHead,
+    PlacesLost,
+    ClocksPlacesLost,
+    MarksLost,
+    LastCellLost,
+    LastOpenLost,
+    ThirtySevenBlocks,
+    AnyEdition,
+    HeadEdition,
+    OtherEdition,
+    PlacesPastN,
 }
 
 /// `access_run` over the independent implementation, wrong in one way.
@@ -84,12 +103,50 @@ fn run(
         (Wrong::NoLfIsRun, Some(last)) if *last != b'\n' => [text, b"\n"].concat(),
         _ => text.to_vec(),
     };
+    let text = match wrong {
+        Wrong::EightDesks => eight(&text),
+        _ => text,
+    };
     let (mut found, mut after) = match expected(&mut session, &text) {
         Expect::Refused(number) => return number,
         Expect::Done { answers, image } => (answers, image),
     };
+    if wrong == Wrong::SeventeenDesks {
+        found = seventeen(&text, &found);
+    }
     spoil(wrong, &mut found, &mut after);
     write(wrong, &found, &after, [answers, image_out], lengths)
+}
+
+/// A schedule where a table of more than 8 desks is one of 17.
+fn eight(text: &[u8]) -> Vec<u8> {
+    let lines = text.split_inclusive(|&b| b == b'\n').map(|line| {
+        let line = String::from_utf8_lossy(line);
+        let n = line
+            .strip_prefix("N ")
+            .and_then(|rest| rest.split_once(' '));
+        match n {
+            Some((n, rest)) if (9..=16).any(|many| n == many.to_string()) => {
+                format!("N 17 {rest}").into_bytes()
+            }
+            _ => line.into_owned().into_bytes(),
+        }
+    });
+    lines.collect::<Vec<_>>().concat()
+}
+
+/// The answers to a schedule where 17 desks are taken too.
+fn seventeen(text: &[u8], answers: &[u8]) -> Vec<u8> {
+    let lines = |text: &[u8]| -> Vec<Vec<u8>> {
+        let lines = text.split_inclusive(|&b| b == b'\n');
+        lines.map(<[u8]>::to_vec).collect()
+    };
+    let pairs = lines(text).into_iter().zip(lines(answers));
+    let answers = pairs.map(|(line, answer)| match line.starts_with(b"N 17 ") {
+        true if answer == b"E 11\n" => b"N\n".to_vec(),
+        _ => answer,
+    });
+    answers.collect::<Vec<_>>().concat()
 }
 
 /// The session that an image gives.
@@ -97,7 +154,11 @@ fn start(wrong: Wrong, image: &[u8]) -> Result<Session, u64> {
     if image.is_empty() {
         return Ok(Session::new());
     }
+    if wrong == Wrong::ThirtySevenBlocks && image.len() > 37 * BLOCK {
+        return Err(13);
+    }
     let table = match (image::load(image), wrong) {
+        (Ok(table), Wrong::EightDesks) if table.desks() > 8 => return Err(13),
         (Ok(table), Wrong::Refuses65535) if spent(&table) => return Err(13),
         (Ok(table), _) => table,
         (Err(Refusal::ImageDamaged), Wrong::Always13) => return Err(13),
@@ -135,6 +196,9 @@ fn spoil(wrong: Wrong, answers: &mut Vec<u8>, image: &mut Vec<u8>) {
         if line[0] == b'H' {
             misname(wrong, line);
         }
+        if wrong == Wrong::DeskOneByte && b"RWHA".contains(&line[0]) {
+            *line = one_byte(line);
+        }
     }
     *answers = lines.concat();
     if image.is_empty() {
@@ -144,25 +208,105 @@ fn spoil(wrong: Wrong, answers: &mut Vec<u8>, image: &mut Vec<u8>) {
         return;
     }
     let n = usize::from(image[PAYLOAD]);
+    let edition = Edition::of(n);
     match wrong {
         Wrong::HeldLost => {
             for at in open_writes(image) {
-                for mark in &mut image[at + 20..at + 28] {
+                for mark in &mut image[at + edition.marks()..at + edition.open_bytes] {
                     *mark &= 2;
                 }
             }
         }
         Wrong::ClockLost => {
             for desk in 0..n {
-                let at = (1 + desk) * BLOCK + PAYLOAD + 20;
+                let at = (1 + desk) * BLOCK + PAYLOAD + edition.clock();
                 let own = [image[at + 2 * desk], image[at + 2 * desk + 1]];
-                image[at..at + 16].fill(0);
+                image[at..at + 2 * edition.places].fill(0);
                 image[at + 2 * desk..][..2].copy_from_slice(&own);
+            }
+        }
+        _ if n > 8 => spoil_many(wrong, image),
+        Wrong::EditionTwoAlways => {
+            *image = in_edition(image, Edition::ONE, Edition::TWO).unwrap();
+        }
+        _ => return,
+    }
+    put_checks_right(image);
+}
+
+/// Wrong images of 9 to 16 desks.
+fn spoil_many(wrong: Wrong, image: &mut Vec<u8>) {
+    let Edition {
+        cell_bytes,
+        cells_per_block,
+        open_bytes,
+        open_per_block,
+        ..
+    } = Edition::TWO;
+    let opens = open_writes(image);
+    let blocks = || (0..image.len()).step_by(BLOCK);
+    let cells: Vec<usize> = blocks()
+        .filter(|&at| image[at] == 3)
+        .flat_map(|at| (0..cells_per_block).map(move |x| at + PAYLOAD + x * cell_bytes))
+        .collect();
+    match wrong {
+        Wrong::NumberOneAlways => image.chunks_mut(BLOCK).for_each(|block| block[1] = 1),
+        Wrong::EditionOneAlways => {
+            *image = in_edition(image, Edition::TWO, Edition::ONE).unwrap();
+        }
+        Wrong::EditionInHead => image
+            .chunks_mut(BLOCK)
+            .skip(1)
+            .for_each(|block| block[1] = 1),
+        Wrong::PlacesLost => {
+            for at in cells.into_iter().chain(opens) {
+                image[at + 4 + 16..at + 4 + 32].fill(0);
+            }
+        }
+        Wrong::ClocksPlacesLost => {
+            let clocks: Vec<usize> = blocks().filter(|&at| image[at] == 2).collect();
+            for at in clocks {
+                image[at + PAYLOAD + 36 + 16..at + PAYLOAD + 36 + 32].fill(0);
+            }
+        }
+        Wrong::MarksLost => {
+            for at in opens {
+                image[at + 36 + 8..at + 36 + 16].fill(0);
+            }
+        }
+        Wrong::LastCellLost => {
+            for at in cells
+                .into_iter()
+                .skip(cells_per_block - 1)
+                .step_by(cells_per_block)
+            {
+                image[at..at + cell_bytes].fill(0);
+            }
+        }
+        Wrong::LastOpenLost => {
+            for at in opens
+                .into_iter()
+                .skip(open_per_block - 1)
+                .step_by(open_per_block)
+            {
+                image[at..at + open_bytes].fill(0);
             }
         }
         _ => return,
     }
     put_checks_right(image);
+}
+
+/// A line with each desk of two digits as one byte behind `9`.
+fn one_byte(line: &[u8]) -> Vec<u8> {
+    let text = String::from_utf8_lossy(line).into_owned();
+    let text = (10..=16u8).fold(text, |text, desk| {
+        text.replace(
+            &format!(" {desk}."),
+            &format!(" {}.", char::from(b'0' + desk)),
+        )
+    });
+    text.into_bytes()
 }
 
 /// A held answer that names another write, or none.
@@ -225,9 +369,10 @@ fn open_writes(image: &[u8]) -> Vec<usize> {
     if image.len() != block_count(n, m, open) * BLOCK {
         return Vec::new();
     }
+    let edition = Edition::of(n);
     let place = |j: usize| {
-        let block = first + j / OPEN_PER_BLOCK;
-        block * BLOCK + PAYLOAD + j % OPEN_PER_BLOCK * OPEN_BYTES
+        let block = first + j / edition.open_per_block;
+        block * BLOCK + PAYLOAD + j % edition.open_per_block * edition.open_bytes
     };
     (0..open).map(place).collect()
 }
@@ -242,22 +387,25 @@ fn mend(wrong: Wrong, image: &[u8]) -> Option<Vec<u8>> {
     }
     let mut image = image.to_vec();
     let opens = open_writes(&image);
+    let n = usize::from(image[PAYLOAD]);
+    let edition = Edition::of(n);
+    let open_bytes = edition.open_bytes;
     match wrong {
         Wrong::OpenOrder => {
-            let write = |&at: &usize| image[at..at + OPEN_BYTES].to_vec();
+            let write = |&at: &usize| image[at..at + open_bytes].to_vec();
             let mut list: Vec<Vec<u8>> = opens.iter().map(write).collect();
             list.sort_by_key(|write| {
-                let own = 4 + 2 * usize::from(write[0].clamp(1, 8) - 1);
+                let own = 4 + 2 * usize::from(write[0].clamp(1, edition.places as u8) - 1);
                 (write[0], u16::from_le_bytes([write[own], write[own + 1]]))
             });
             for (at, write) in opens.into_iter().zip(list) {
-                image[at..at + OPEN_BYTES].copy_from_slice(&write);
+                image[at..at + open_bytes].copy_from_slice(&write);
             }
         }
         Wrong::HeadByte => image[PAYLOAD + 3..508].fill(0),
         Wrong::HeldReady => {
             for at in opens {
-                for mark in 20..28 {
+                for mark in edition.marks()..open_bytes {
                     let mut without = image.clone();
                     without[at + mark] &= 2;
                     put_checks_right(&mut without);
@@ -270,6 +418,23 @@ fn mend(wrong: Wrong, image: &[u8]) -> Option<Vec<u8>> {
         Wrong::OneBlockMore => {
             let [n, m, open] = [4, 5, 6].map(|at| usize::from(image[at]));
             image.truncate(block_count(n, m, open) * BLOCK);
+        }
+        Wrong::AnyEdition => {
+            let blocks = image.chunks_mut(BLOCK);
+            blocks.for_each(|block| block[1] = edition.number);
+        }
+        Wrong::HeadEdition if image[1] == edition.number => {
+            let blocks = image.chunks_mut(BLOCK);
+            blocks.for_each(|block| block[1] = edition.number);
+        }
+        Wrong::OtherEdition if n <= 8 && image.chunks(BLOCK).all(|block| block[1] == 2) => {
+            image = in_edition(&image, Edition::TWO, Edition::ONE)?;
+        }
+        Wrong::PlacesPastN if n > 8 => {
+            for at in opens {
+                image[at + 4 + 2 * n..at + edition.marks()].fill(0);
+                image[at + edition.marks() + n..at + open_bytes].fill(0);
+            }
         }
         _ => return None,
     }
@@ -312,6 +477,11 @@ fn every_wrong_library_is_caught_and_shown_in_short() {
         LastNameMissing texts; HoldWithoutNumber texts; HoldNextButOne texts; NoLfIsRun texts;
         HeldLost texts; ClockLost texts; NoTableKept texts; Always13 images; OpenOrder images;
         HeadByte images; HeldReady images; OneBlockMore images; Refuses65535 images;
+        EightDesks texts; SeventeenDesks texts; DeskOneByte texts; NumberOneAlways texts;
+        EditionOneAlways texts; EditionTwoAlways texts; EditionInHead texts; PlacesLost texts;
+        ClocksPlacesLost texts; MarksLost texts; LastCellLost texts; LastOpenLost texts;
+        ThirtySevenBlocks texts; AnyEdition images; HeadEdition images; OtherEdition images;
+        PlacesPastN images;
     ];
     for (wrong, library, sizes) in libraries {
         let Err(report) = all(library, sizes, 1, &mut Counts::default()) else {
@@ -322,6 +492,8 @@ fn every_wrong_library_is_caught_and_shown_in_short() {
         let most = match wrong {
             // Nothing shorter than the limit shows these.
             Wrong::OneByteLess | Wrong::OneByteMore => usize::MAX,
+            // Every block is another.
+            Wrong::OtherEdition => usize::MAX,
             _ => 12,
         };
         assert!(lines <= most, "{wrong:?} takes {lines} lines:\n{report}");
