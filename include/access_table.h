@@ -34,19 +34,19 @@ extern "C" {
 /* The longest schedule, in bytes. A longer one is refused with 14. */
 #define ACCESS_MAX_SCHEDULE 65536
 
-/* The largest image: 37 blocks of 512 bytes. An image_out of this length is
- * never too short. */
-#define ACCESS_MAX_IMAGE 18944
+/* The largest image: 105 blocks of 512 bytes (37 where the table has at most 8
+ * desks). An image_out of this length is never too short. */
+#define ACCESS_MAX_IMAGE 53760
 
 /* The answers to a schedule of S bytes are never longer than this: 5 bytes for
  * each byte (an empty line is 1 byte, and its answer 5), and 9 for the name of
- * each write that came held with the image, at most 64 at each of 7 desks.
+ * each write that came held with the image, at most 64 at each of 15 desks.
  * Proved: the law enough in crates/capi/specs/Enough.antt says that with such
  * an `answers` and an image_out of ACCESS_MAX_IMAGE no schedule that is not too
  * long is refused with 14, and rests on answers-fit in
  * crates/session/specs/AnswersBound.antt. (The proof is of that formula; nothing
  * holds this line against it.) */
-#define ACCESS_ANSWERS_BOUND(S) (5 * (S) + 9 * 64 * 7)
+#define ACCESS_ANSWERS_BOUND(S) (5 * (S) + 9 * 64 * 15)
 
 /* The numbers that access_run returns. */
 #define ACCESS_DONE 0

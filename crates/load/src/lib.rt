@@ -194,12 +194,12 @@ fn field_place(n: usize, k: usize, q: usize, r: usize) -> usize
 }
 
 // What every field's place takes: the places of a vector, the sizes, and the blocks to a desk's cells.
-pub struct Sizes {
-    pub p: usize,
-    pub n: usize,
-    pub m: usize,
-    pub count: usize,
-    pub c: usize,
+struct Sizes {
+    p: usize,
+    n: usize,
+    m: usize,
+    count: usize,
+    c: usize,
 }
 
 // Row s of the cells, one of the n desks'.
