@@ -4,3 +4,4 @@ pub mod ArrayLimits
 pub mod FewEntries
 pub mod Gap
 pub mod CodeLaws
+pub mod PartsAreAll

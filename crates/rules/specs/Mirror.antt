@@ -1,1 +1,2 @@
 pub mod Test
+pub mod Parts

@@ -12,8 +12,10 @@ ghost use Rattle.table.specs.Value.{entries, openAt};
 ghost use Rattle.table.specs.EntryNames.{entryNumber};
 ghost use Rattle.table.specs.Sound.{SoundTable};
 ghost use Rattle.table.specs.Model.{tableWith};
-ghost use Rattle.rules.specs.Mirror.Test.{has, owns, gapOf, gaps, lastOf, nought, rangesTest, dueTest, usedTest, entryTest, allEntries, liveTest, countsTest, setCell, blankCell, cellTest, allCells, waitsTest, liveMark, markTest, allMarks, deskTest, allDesks, ownTest};
+ghost use Rattle.rules.specs.Mirror.Test.{has, owns, gapOf, gaps, lastOf, nought, rangesTest, dueTest, usedTest, entryTest, allEntries, liveTest, countsTest, setCell, blankCell, cellTest, allCells, waitsTest, liveMark, allDesks, ownTest};
+ghost use Rattle.rules.specs.Mirror.Parts.{markOf, usedMark, usedMarks, mostAt, mostMarks, limitTest, allLimits, zerosTest, usedDesk, usedDesks};
 use clock::PLACES;
+use table::CELL;
 use table::CELLS;
 use table::Cell;
 use table::Cells;
@@ -154,8 +156,10 @@ fn due_ok(n: usize, own: [u16; PLACES], opens: &Opens, e: usize, o: Open, k: u16
     ensures { λ r. ⌜ r ≡ dueTest n own o .passes ⌝ }
 {
     let v = o.vector;
-    let open = both(clock::covers(own, v), !table::all_applied(opens, e, n));
-    both(le(1, table::wide(k)), open)
+    if !clock::covers(own, v) {
+        return false;
+    }
+    both(le(1, table::wide(k)), !table::all_applied(opens, e, n))
 }
 
 fn used_ok(n: usize, m: usize, own: [u16; PLACES], opens: &Opens, e: usize, o: Open) -> bool
@@ -218,11 +222,13 @@ fn counts_ok(n: usize, own: [u16; PLACES], gap: [u16; PLACES], i: usize, d: Desk
     let a = d.applied;
     let clock = d.clock;
     let k = clock.at;
-    let below = both(
-        clock::covers(a, k),
-        both(same(k[i], a[i]), live_ok(n, a, gap, i)),
-    );
-    both(clock::covers(own, a), below)
+    if !clock::covers(own, a) {
+        return false;
+    }
+    if !clock::covers(a, k) {
+        return false;
+    }
+    both(same(k[i], a[i]), live_ok(n, a, gap, i))
 }
 
 // Cell x, from 0, of a desk with the counts a.
@@ -247,8 +253,11 @@ fn set_ok(m: usize, a: [u16; PLACES], x: usize, c: Cell) -> bool
 fn blank_ok(c: Cell) -> bool
     ensures { λ r. ⌜ r ≡ blankCell c .passes ⌝ }
 {
+    if !same(c.status, 0) {
+        return false;
+    }
     let v = c.vector;
-    both(same(c.status, 0), zero(v))
+    zero(v)
 }
 
 fn cell_ok(m: usize, a: [u16; PLACES], x: usize, c: Cell) -> bool
@@ -301,29 +310,36 @@ fn mark_live(a: [u16; PLACES], p: u16, o: Open) -> bool
     }
 }
 
-fn mark_ok(n: usize, a: [u16; PLACES], i: usize, o: Open) -> bool
-    requires { ⌜ i < places ⌝ }
-    ensures { λ r. ⌜ r ≡ markTest n a i o .passes ⌝ }
+// An entry in use: its mark at desk i, from 0, with the counts a.
+fn used_mark_ok(a: [u16; PLACES], i: usize, opens: &Opens, e: usize) -> bool
+    requires { ⌜ (i < places) × (e < entries) ⌝ }
+    ensures { λ r. ⌜ r ≡ markOf a i (openAt (now (opens .entry)) e) .passes ⌝ }
 {
-    let p = o.marks[i];
-    if same(o.writer, 0) {
-        return true;
-    }
-    if lt(i, n) {
-        mark_live(a, p, o)
-    } else {
-        same(p, 0)
-    }
+    let o = table::open_at(opens, e);
+    let p = table::mark_at(opens, e, i);
+    mark_live(a, p, o)
 }
 
-fn marks_ok(n: usize, a: [u16; PLACES], i: usize, opens: &Opens) -> bool
+// (Of a free entry nothing but the writer is read.)
+fn mark_ok(a: [u16; PLACES], i: usize, opens: &Opens, e: usize) -> bool
+    requires { ⌜ (i < places) × (e < entries) ⌝ }
+    ensures { λ r. ⌜ r ≡ usedMark a i (openAt (now (opens .entry)) e) .passes ⌝ }
+{
+    let o = table::open_at(opens, e);
+    let w = o.writer;
+    if same(w, 0) {
+        return true;
+    }
+    used_mark_ok(a, i, opens, e)
+}
+
+fn marks_ok(a: [u16; PLACES], i: usize, opens: &Opens) -> bool
     requires { ⌜ i < places ⌝ }
-    ensures { λ r. ⌜ r ≡ allMarks n a i (now (opens .entry)) .passes ⌝ }
+    ensures { λ r. ⌜ r ≡ usedMarks a i (now (opens .entry)) .passes ⌝ }
 {
     let mut e = 0;
     while e < OPENS {
-        let o = table::open_at(opens, e);
-        if !mark_ok(n, a, i, o) {
+        if !mark_ok(a, i, opens, e) {
             return false;
         }
         e += 1;
@@ -331,6 +347,64 @@ fn marks_ok(n: usize, a: [u16; PLACES], i: usize, opens: &Opens) -> bool
     true
 }
 
+// The largest mark at desk t, from 0: none past n.
+fn most_mark(n: usize, t: usize) -> u16
+    ensures { λ r. ⌜ r ≡ mostAt n t ⌝ }
+{
+    if lt(t, n) { DONE } else { 0 }
+}
+
+fn most_marks(n: usize) -> [u16; PLACES]
+    ensures { λ r. ⌜ r ≡ mostMarks n ⌝ }
+{
+    let mut v = [0u16; PLACES];
+    let mut t = 0;
+    while t < PLACES {
+        v[t] = most_mark(n, t);
+        t += 1;
+    }
+    v
+}
+
+fn limit_ok(most: [u16; PLACES], o: Open) -> bool
+    ensures { λ r. ⌜ r ≡ limitTest most o .passes ⌝ }
+{
+    if same(o.writer, 0) {
+        return true;
+    }
+    let k = o.marks;
+    clock::covers(most, k)
+}
+
+fn limits_ok(most: [u16; PLACES], opens: &Opens) -> bool
+    ensures { λ r. ⌜ r ≡ allLimits most (now (opens .entry)) .passes ⌝ }
+{
+    let mut e = 0;
+    while e < OPENS {
+        let o = table::open_at(opens, e);
+        if !limit_ok(most, o) {
+            return false;
+        }
+        e += 1;
+    }
+    true
+}
+
+// Are the numbers from a place on zero?
+fn zeros_from(l: &[u16], at: usize) -> bool
+    ensures { λ r. ⌜ r ≡ zerosTest (now (l .entry)) at .passes ⌝ }
+{
+    // No way out in the middle: the compiler then takes many numbers at a time.
+    let mut some = 0u16;
+    let mut k = at;
+    while k < l.len() {
+        some = some | l[k];
+        k += 1;
+    }
+    some == 0
+}
+
+// Desk i: its counts, and its cells and marks where it is in use.
 fn desk_ok(
     n: usize,
     m: usize,
@@ -342,16 +416,21 @@ fn desk_ok(
     opens: &Opens,
 ) -> bool
     requires { ⌜ i < places ⌝ }
-    ensures { λ r. ⌜ r ≡ deskTest n m own gap (now (cells .entry)) (now (opens .entry)) i d .passes ⌝ }
+    ensures { λ r. ⌜ r ≡ usedDesk n m own gap (now (cells .entry)) (now (opens .entry)) i d .passes ⌝ }
 {
     let a = d.applied;
-    both(
-        counts_ok(n, own, gap, i, d),
-        both(cells_ok(m, a, i, cells), marks_ok(n, a, i, opens)),
-    )
+    let counts = counts_ok(n, own, gap, i, d);
+    if lt(i, n) {
+        both(
+            counts,
+            both(cells_ok(m, a, i, cells), marks_ok(a, i, opens)),
+        )
+    } else {
+        counts
+    }
 }
 
-fn desks_ok(
+fn used_desks_ok(
     n: usize,
     m: usize,
     own: [u16; PLACES],
@@ -360,7 +439,7 @@ fn desks_ok(
     cells: &Cells,
     opens: &Opens,
 ) -> bool
-    ensures { λ r. ⌜ r ≡ allDesks n m own gap (now (cells .entry)) (now (opens .entry)) desks .passes ⌝ }
+    ensures { λ r. ⌜ r ≡ usedDesks n m own gap (now (cells .entry)) (now (opens .entry)) desks .passes ⌝ }
 {
     let mut i = 0;
     while i < PLACES {
@@ -371,6 +450,26 @@ fn desks_ok(
         i += 1;
     }
     true
+}
+
+// All desks. Past n the cells are one run of zeros, and no mark stands.
+fn desks_ok(
+    n: usize,
+    m: usize,
+    own: [u16; PLACES],
+    gap: [u16; PLACES],
+    desks: [Desk; PLACES],
+    cells: &Cells,
+    opens: &Opens,
+) -> bool
+    requires { ⌜ n ≤ places ⌝ }
+    ensures { λ r. ⌜ r ≡ allDesks n m own gap (now (cells .entry)) (now (opens .entry)) desks .passes ⌝ }
+{
+    table::cells_size(cells);
+    let used = used_desks_ok(n, m, own, gap, desks, cells, opens);
+    let unset = zeros_from(cells, n * CELLS * CELL);
+    let most = most_marks(n);
+    both(both(used, unset), limits_ok(most, opens))
 }
 
 fn passes(

@@ -1,32 +1,17 @@
-use Rattle.laws.specs.{Kit.{sym, _∙_, _-_, not-true, not-false, getD, needs}, All.{Rest, rest-fails, rest-next, rest-end}}
-use Rattle.table.specs.Value.{desk0}
-use Rattle.clock.specs.Vectors.{places}
-use Rattle.rules.specs.Mirror.Test.{deskTest, allDesks}
+use Rattle.laws.specs.Kit.{_∙_, needs}
+use Rattle.rules.specs.Link.{CodeLaws.{and-is}, PartsAreAll.{parts-are-all}}
 use Rattle.rules.proofs.desks_ok.Statement.{statement}
 use Rattle.rules.proofs.desks_ok.Tie as tie
 
-abbrev Inv-loop : tie.InvT-loop
-Inv-loop n m own gap cells opens desks i₀ i =
-    Rest (λ j. deskTest n m own gap cells opens j (getD desks j desk0) .passes) places (allDesks n m own gap cells opens desks .passes) i
-
-abbrev μ-loop : tie.MeasureT-loop
-μ-loop n m own gap cells opens desks i₀ i = places - i
-
-loop-holds : tie.Need-loop-holds Inv-loop μ-loop
-unfolding allDesks
-loop-holds c = search needs
-
-returns : tie.Need-returns Inv-loop μ-loop
-returns c = rest-fails (c .before .before .before .before .loop .inv) (search needs)
-    (sym (c .before .desk-ok .ensures) ∙ not-true _ (c .if1 .taken))
-
-loop-again : tie.Need-loop-again Inv-loop μ-loop
-loop-again c = rest-next (c .before .before .before .before .loop .inv) (search needs)
-    (sym (c .before .desk-ok .ensures) ∙ not-false _ (c .if1 .left))
-
-returns-2 : tie.Need-returns-2 Inv-loop μ-loop
-returns-2 c = rest-end (c .before .loop .inv) (search needs)
+returns : tie.Need-returns
+returns c = let z = c .before .before .before .before in
+    let u = z .before .before in
+    let g = u .before .before .args in
+    and-is (c .both2 .ensures)
+    (and-is (c .before .before .both .ensures) (u .used-desks-ok .ensures) (z .zeros-from .ensures))
+    (rw (c .before .before .before .most-marks .ensures) at (c .before .limits-ok .ensures))
+    ∙ parts-are-all (g .n) (g .m) (g .own) (g .gap) (g .cells .now) (g .opens .now) (g .desks) (u .before .cells-size .ensures)
 
 pub desks-ok-spec : {M : Type 1} → statement M
-desks-ok-spec = tie.close (tie.spec Inv-loop μ-loop loop-holds (λ c. search needs) (λ c. search needs) (λ c κs. search needs) returns
-    (λ c. search needs) (λ c. search needs) loop-again returns-2)
+desks-ok-spec = tie.close (tie.spec (λ c κs. search needs) (λ c κs. search needs) (λ c. search needs) (λ c. search needs) (λ c κs. search needs) (λ c κs. search needs)
+    (λ c κs. search needs) (λ c κs. search needs) (λ c κs. search needs) returns)

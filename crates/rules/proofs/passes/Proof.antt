@@ -11,6 +11,9 @@ returns : tie.Need-returns
 unfolding ownTest
 returns c = rw (sym (c .before .begins .ensures) ∙ not-true _ (c .if1 .taken))
 
+desks-ok-requires : tie.Need-desks-ok-requires
+desks-ok-requires c κs = let d = c .before in desks-within (d .before .before .args .n) (d .before .before .args .m) (begun d)
+
 entries-ok-requires : tie.Need-entries-ok-requires
 entries-ok-requires c κs = let d = c .before .before in desks-within (d .before .before .args .n) (d .before .before .args .m) (begun d)
 
@@ -20,5 +23,5 @@ returns-2 c = rw (begun (c .before .before .before .before), ← c .before .befo
     (cc)
 
 pub passes-spec : {M : Type 1} → statement M
-passes-spec = tie.close (tie.spec (λ c κs. search needs) returns (λ c κs. search needs) (λ c κs. search needs) entries-ok-requires
+passes-spec = tie.close (tie.spec (λ c κs. search needs) returns (λ c κs. search needs) desks-ok-requires entries-ok-requires
     (λ c κs. search needs) returns-2)
