@@ -6,19 +6,27 @@ ghost use lib.ListN.{length, take};
 ghost use Rattle.session.specs.Holds.{SomeSession};
 ghost use Rattle.session.specs.Transcript.{most-text};
 ghost use Rattle.capi.specs.Access.{left, accessRun};
-ghost use Rattle.capi.specs.Mirror.AccessParts.{most-part, RoomFor, Lined, SomeCore, ImageSize, ImageRoom, ImageSaved, BothPut, Finishes, RunsFrom, ImageStarts};
-use load::Loading;
+ghost use Rattle.capi.specs.Mirror.AccessParts.{most-kept, most-part, RoomFor, Lined, SomeCore, ImageSize, ImageRoom, ImageSaved};
+ghost use Rattle.capi.specs.Mirror.AccessParts.{BothPut, Finishes, Ends, RunsFrom, ImageStarts};
+use clock::PLACES;
 use load::Outcome;
+use load::Taken;
+use table::CELL;
+use table::CELLS;
 use table::Cells;
 use table::Core;
+use table::OPEN;
+use table::OPENS;
 use table::Opens;
+ghost use Rattle.table.specs.Beginning.{freshTable};
 ghost use Rattle.table.specs.Model.{tableWith};
 
 // The most bytes of a schedule.
 const LONGEST_TEXT: usize = 65536;
 
-// The answers that are kept while it is not known yet whether all fit: what comes behind them is counted first, and made again.
-const KEPT: usize = 131072;
+// The answers that are kept while it is not known yet whether all fit: what comes behind them is counted first, and made again. Each call
+// clears as many bytes.
+const KEPT: usize = 65536;
 
 // The answers of one run behind those.
 const PART: usize = 16384;
@@ -31,7 +39,7 @@ struct Ended {
 
 // Zeros, of which the contract tells the number alone.
 fn kept_room() -> [u8; KEPT]
-    ensures { λ r. ⌜ length r ≡ 131072 ⌝ }
+    ensures { λ r. ⌜ length r ≡ most-kept ⌝ }
 {
     [0u8; KEPT]
 }
@@ -167,38 +175,44 @@ fn finish(
     0
 }
 
-// From a session.
-fn run_from(
+fn copy_numbers(from: &[u16], to: &mut [u16])
+    requires { ⌜ length (now from) ≡ length (now to) ⌝ }
+    ensures { λ _. ⌜ now (to .exit) ≡ now (from .entry) ⌝ }
+{
+    let mut j = 0;
+    while j < to.len() {
+        to[j] = from[j];
+        j += 1;
+    }
+}
+
+// finish where the arrays are lent: copies of them, since the lines are run twice.
+fn finish_copied(
+    first: &[u8],
+    len: usize,
     core: Core,
-    first_cells: Cells,
-    first_opens: Opens,
+    cells: &Cells,
+    opens: &Opens,
     text: &[u8],
+    at: usize,
     answers: &mut [u8],
     image_out: &mut [u8],
     lengths: &mut [u64],
 ) -> u64
-    requires { ⌜ SomeSession (tableWith core «first_cells» «first_opens») ⌝ }
-    ensures { λ r. ⌜ RunsFrom (tableWith core «first_cells» «first_opens») (now (text .entry)) (now (answers .entry)) (now («image_out» .entry)) (now (lengths .entry)) (left r (now (answers .exit)) (now («image_out» .exit)) (now (lengths .exit))) ⌝ }
+    requires { ⌜ SomeSession (tableWith core (now cells) (now opens)) ⌝ }
+    requires { ⌜ (length (now text) ≤ most-text) × ((len ≤ length (now first)) × (2 ≤ length (now lengths))) ⌝ }
+    ensures { λ r. ⌜ Finishes (tableWith core (now (cells .entry)) (now (opens .entry))) (now (text .entry)) at (take len (now (first .entry))) (now (answers .entry)) (now («image_out» .entry)) (now (lengths .entry)) (left r (now (answers .exit)) (now («image_out» .exit)) (now (lengths .exit))) ⌝ }
 {
-    if LONGEST_TEXT < text.len() {
-        return 14;
-    }
-    if lengths.len() < 2 {
-        return 14;
-    }
-    let mut cells = first_cells;
-    let mut opens = first_opens;
-    let mut kept = kept_room();
-    let p = session::run(core, &mut cells, &mut opens, text, 0, &mut kept);
-    let middle = p.core;
-    let at = p.at;
-    let len = p.len;
+    let mut own_cells = [0u16; PLACES * CELLS * CELL];
+    let mut own_opens = [0u16; OPENS * OPEN];
+    copy_numbers(cells, &mut own_cells);
+    copy_numbers(opens, &mut own_opens);
     finish(
-        &kept,
+        first,
         len,
-        middle,
-        cells,
-        opens,
+        core,
+        own_cells,
+        own_opens,
         text,
         at,
         answers,
@@ -207,19 +221,97 @@ fn run_from(
     )
 }
 
-// The table in an image; from an empty one there is none yet, and nothing but zeros.
-fn start(image: &[u8]) -> Loading
-    ensures { λ r. ⌜ ImageStarts (now (image .entry)) (r .answer) (r .table) ⌝ }
+// finish where no line is left: the first answers are all of them, and the arrays need no copy.
+fn end(
+    first: &[u8],
+    len: usize,
+    core: Core,
+    cells: &Cells,
+    opens: &Opens,
+    answers: &mut [u8],
+    image_out: &mut [u8],
+    lengths: &mut [u64],
+) -> u64
+    requires { ⌜ SomeSession (tableWith core (now cells) (now opens)) ⌝ }
+    requires { ⌜ (len ≤ length (now first)) × (2 ≤ length (now lengths)) ⌝ }
+    ensures { λ r. ⌜ Ends (tableWith core (now (cells .entry)) (now (opens .entry))) (take len (now (first .entry))) (now (answers .entry)) (now («image_out» .entry)) (now (lengths .entry)) (left r (now (answers .exit)) (now («image_out» .exit)) (now (lengths .exit))) ⌝ }
+{
+    if answers.len() < len {
+        return 14;
+    }
+    if image_out.len() < image_size(core) {
+        return 14;
+    }
+    image::copy(first, len, answers, 0);
+    let size = save_image(core, cells, opens, image_out);
+    lengths[0] = len as u64;
+    lengths[1] = size as u64;
+    0
+}
+
+// From a session. What the lent arrays hold after it is nobody's.
+fn run_from(
+    core: Core,
+    cells: &mut Cells,
+    opens: &mut Opens,
+    text: &[u8],
+    answers: &mut [u8],
+    image_out: &mut [u8],
+    lengths: &mut [u64],
+) -> u64
+    requires { ⌜ SomeSession (tableWith core (now cells) (now opens)) ⌝ }
+    ensures { λ r. ⌜ RunsFrom (tableWith core (now (cells .entry)) (now (opens .entry))) (now (text .entry)) (now (answers .entry)) (now («image_out» .entry)) (now (lengths .entry)) (left r (now (answers .exit)) (now («image_out» .exit)) (now (lengths .exit))) ⌝ }
+{
+    if LONGEST_TEXT < text.len() {
+        return 14;
+    }
+    if lengths.len() < 2 {
+        return 14;
+    }
+    let mut kept = kept_room();
+    let p = session::run(core, cells, opens, text, 0, &mut kept);
+    let middle = p.core;
+    let at = p.at;
+    let len = p.len;
+    if at < text.len() {
+        return finish_copied(
+            &kept,
+            len,
+            middle,
+            cells,
+            opens,
+            text,
+            at,
+            answers,
+            image_out,
+            lengths,
+        );
+    }
+    end(
+        &kept,
+        len,
+        middle,
+        cells,
+        opens,
+        answers,
+        image_out,
+        lengths,
+    )
+}
+
+// The table in an image, into arrays of zeros; from an empty one there is none yet, and they stay so.
+fn start(image: &[u8], cells: &mut Cells, opens: &mut Opens) -> Taken
+    requires { ⌜ (now cells ≡ freshTable 0 0 .cells) × (now opens ≡ freshTable 0 0 .opens) ⌝ }
+    ensures { λ r. ⌜ ImageStarts (now (image .entry)) (r .answer) (tableWith (r .core) (now (cells .exit)) (now (opens .exit))) ⌝ }
 {
     if image.len() == 0 {
-        let none = table::begin(0, 0);
-        let t = none.table;
-        return Loading {
+        let none = table::fresh_core(0, 0);
+        return Taken {
             answer: Outcome::Accepted,
-            table: t,
+            core: none,
         };
     }
-    load::load(image)
+    load::load_into(image, cells, opens)
 }
 
 // Nothing is kept between two calls: what goes on is the image.
@@ -233,17 +325,22 @@ pub extern "C" fn access_run(
 ) -> u64
     ensures { λ r. ⌜ left r (now (answers .exit)) (now («image_out» .exit)) (now (lengths .exit)) ≡ accessRun (now (image .entry)) (now (schedule .entry)) (now (answers .entry)) (now («image_out» .entry)) (now (lengths .entry)) ⌝ }
 {
-    let l = start(image);
+    let mut cells = [0u16; PLACES * CELLS * CELL];
+    let mut opens = [0u16; OPENS * OPEN];
+    let l = start(image, &mut cells, &mut opens);
     let o = l.answer;
-    let t = l.table;
+    let core = l.core;
     match o {
         Outcome::Damaged => 12,
         Outcome::Broken => 13,
-        Outcome::Accepted => {
-            let core = t.core;
-            let cells = t.cells;
-            let opens = t.opens;
-            run_from(core, cells, opens, schedule, answers, image_out, lengths)
-        }
+        Outcome::Accepted => run_from(
+            core,
+            &mut cells,
+            &mut opens,
+            schedule,
+            answers,
+            image_out,
+            lengths,
+        ),
     }
 }

@@ -1,9 +1,9 @@
 -- A call from a session: refused where something is too long or too short, else its answers are those of the first run and of the lines behind it.
-use Rattle.laws.specs.Kit.{_≡_, sym, ap, _∙_, List, [], _∷_, _++_, Bool, _&&_, ℕ, _+_, _*_, _^_, _<_, _≤_, arith, leb, length, take}
+use Rattle.laws.specs.Kit.{_≡_, sym, ap, _∙_, List, [], _∷_, _++_, append-nil, Bool, _&&_, ℕ, _+_, _*_, _^_, _<_, _≤_, arith, leb, length, take}
 use Rattle.laws.specs.{Kit.{length-append, sets, length-take-le}, Loop.{cases}, Says.{Says, says-leb, says-both}, Stores.{sets-append}}
 use Rattle.table.specs.declared.Table.{Table}
-use Rattle.session.specs.{Session.{Session}, Transcript.{transcriptFrom, sessionFrom, most-text}, Holds.{Holds}, Run.{Ran, ran-rest}}
-use Rattle.session.specs.Run.{ran-leaves, ran-part}
+use Rattle.session.specs.{Session.{Session}, Transcript.{transcriptFrom, sessionFrom, most-text}, TranscriptLaws.{from-end, left-end}}
+use Rattle.session.specs.{Holds.{Holds}, Run.{Ran, ran-rest, ran-leaves, ran-part}}
 use Rattle.capi.specs.{Access.{left, imageOf, fits, runFrom}, Mirror.AccessParts.{LinedFrom, Behind}}
 
 -- what has to fit
@@ -68,6 +68,14 @@ module _ {z w : Session} {text : List ℕ} {at : ℕ} {first : List ℕ} (b : Be
 
   pub all-put : (out : List ℕ) {out₁ out₂ : List ℕ} → out₁ ≡ out → out₂ ≡ sets out₁ 0 (first ++ transcriptFrom w text at) → out₂ ≡ sets out 0 (transcriptFrom z text 0)
   all-put out d e = e ∙ rw (d, b .rest)
+
+  -- no line is left: the first answers are all
+  module _ (h : length text ≤ at) where
+    pub first-all : transcriptFrom z text 0 ≡ first
+    first-all = b .rest ∙ ap (λ (x : List ℕ). first ++ x) (from-end w text at h) ∙ append-nil first
+
+    pub first-left : (t : Table) → Holds t w → Holds t (sessionFrom z text 0)
+    first-left t g = rw (b .leaves ∙ left-end w text at h) g
 
 pub no-image-room : {z : Session} {text answers image lengths : List ℕ} {size : ℕ} → size ≡ length (imageOf (sessionFrom z text 0)) → length image < size → CallRoom z text answers image lengths → ⊥
 no-image-room e h m = omega (arith, m .image-room)

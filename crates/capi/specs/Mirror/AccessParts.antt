@@ -6,6 +6,10 @@ use Rattle.load.specs.{declared.Outcome.{Outcome}, declared.Outcome.the-variant
 use Rattle.session.specs.{Session.{Session}, Transcript.{transcriptFrom, sessionFrom, most-text}, Holds.{Holds}}
 use Rattle.capi.specs.Access.{Left, imageOf, refuse, begin, startOf, runFrom}
 
+-- the bytes of answers that are kept
+abbrev pub most-kept : ℕ
+most-kept = 65536
+
 -- the bytes that the answers of one run take at most
 abbrev pub most-part : ℕ
 most-part = 16384
@@ -54,6 +58,11 @@ BothPut t text at first out out′ = (w : Session) → Holds t w → out′ ≡ 
 abbrev pub Finishes : Table → (text : List ℕ) (at : ℕ) (first answers image lengths : List ℕ) → Left → Type 0
 Finishes t text at first answers image lengths l =
     (z w : Session) → Holds t w → Behind z w text at first → l ≡ runFrom z text answers image lengths
+
+-- where no line is left
+abbrev pub Ends : Table → (first answers image lengths : List ℕ) → Left → Type 0
+Ends t first answers image lengths l =
+    (text : List ℕ) (at : ℕ) → length text ≤ most-text → length text ≤ at → Finishes t text at first answers image lengths l
 
 abbrev pub RunsFrom : Table → (text answers image lengths : List ℕ) → Left → Type 0
 RunsFrom t text answers image lengths l = (z : Session) → Holds t z → l ≡ runFrom z text answers image lengths
