@@ -41,7 +41,7 @@ extern "C" {
 /* The answers to a schedule of S bytes are never longer than this: 5 bytes for
  * each byte (an empty line is 1 byte, and its answer 5), and 9 for the name of
  * each write that came held with the image, at most 64 at each of 15 desks.
- * Proved: the law enough in crates/capi/specs/Enough.antt says that with such
+ * Proved: the law enough in crates/capi/specs/BuffersEnough.antt says that with such
  * an `answers` and an image_out of ACCESS_MAX_IMAGE no schedule that is not too
  * long is refused with 14, and rests on answers-fit in
  * crates/session/specs/AnswersBound.antt. (The proof is of that formula; nothing

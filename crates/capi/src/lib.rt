@@ -26,7 +26,7 @@ const LONGEST_TEXT: usize = 65536;
 
 // The answers that are kept while it is not known yet whether all fit: what comes behind them is counted first, and made again. Each call
 // clears as many bytes.
-const KEPT: usize = 65536;
+const KEPT: usize = 81920;
 
 // The answers of one run behind those.
 const PART: usize = 16384;

@@ -9,9 +9,8 @@ use Rattle.image.specs.{OpenNames.{names, no-name, length-names, OpenNam
 use Rattle.image.specs.Encode.{cellBytes, openBytes, block, openNamed, cellPart, openPart, perDesk, encodeAt, encode}
 use Rattle.image.specs.Fields.{vecOf, cellRead, openRead, writerIn, numberIn, vec-words, cell-set, cell-blank, open-back, writer-back}
 use Rattle.image.specs.{Fields.{number-back, length-words, vector-part, rest-part}, Link.FieldPlaces.{part-2, part-3, part-4}}
-use Rattle.image.specs.Limits.{Wide, wide, some-cells, some-opens, block-of, block-bytes, payload-at, vector-at, vector-bytes}
-use Rattle.image.specs.Limits.{after-vector, desk-bytes, cell-bytes, open-bytes, cells-in, opens-in, placesFor, places-most}
-use Rattle.image.specs.Limits.{desks-placed}
+use Rattle.image.specs.Limits.{Wide, wide-for, some-cells, some-opens, block-of, block-bytes, payload-at, vector-at, vector-bytes}
+use Rattle.image.specs.Limits.{after-vector, desk-bytes, cell-bytes, open-bytes, cells-in, opens-in, placesFor, desks-placed}
 
 -- n, m and the open count of the block of kind 1
 abbrev pub nIn : List ℕ → ℕ
@@ -222,7 +221,7 @@ decode b = decodeAt (placesIn b) b
 pub decode-encode : (s : State) → Rules s → decode (encode s) ≡ s
 decode-encode s ok =
     let n = s .setup .desks in
-    rw (n-back (placesFor n) s) (read-back (placesFor n) (wide (placesFor n) (places-most n)) s ok (desks-placed n (ok .frame .ranges .desks .1)))
+    rw (n-back (placesFor n) s) (read-back (placesFor n) (wide-for n) s ok (desks-placed n (ok .frame .ranges .desks .1)))
 
 -- two tables that keep the rules and have one image are the same
 pub one-table : (s t : State) → Rules s → Rules t → encode s ≡ encode t → s ≡ t

@@ -5,7 +5,7 @@ use Rattle.machine.specs.{Table.{State}, Answer.{broken}, Rules.{Rules}}
 use Rattle.image.specs.{Check.{Bytes}, Encode.{block, blocks, encodeAt, encode}, Decode.{nIn, n-back}, ImageSize.{most-blocks}}
 use Rattle.image.specs.{ImageSize.{bytes-encode}, Damage.{blockIn, Undamaged}, Load.{image-sound, refused, loaded, load, load-13, load-is}}
 use Rattle.image.specs.{Load.{encode-load}, Link.FieldPlaces.{length-encode, block-at, every-block}, Limits.{narrow, broad, placesFor}}
-use Rattle.image.specs.Limits.{editionOf, edition-1, edition-2, desks-placed, places-most, one-edition, Wide, wide, image-bytes}
+use Rattle.image.specs.Limits.{editionOf, edition-1, edition-2, desks-placed, one-edition, Wide, wide, wide-for, image-bytes}
 use Rattle.image.specs.Limits.{block-bytes}
 
 -- "Tables with n up to 8 save in edition 1, byte for byte as today. Larger ones save in edition 2"
@@ -37,7 +37,7 @@ module _ (s : State) where
   width = placesFor (s .setup .desks)
 
   wide-enough : Wide width
-  wide-enough = wide width (places-most (s .setup .desks))
+  wide-enough = wide-for (s .setup .desks)
 
   placed : Rules s → s .setup .desks ≤ width
   placed ok = desks-placed (s .setup .desks) (ok .frame .ranges .desks .1)

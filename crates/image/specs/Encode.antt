@@ -95,8 +95,12 @@ module _ (p : ℕ) where
   unfoldable pub encodeAt : State → List ℕ
   encodeAt s = block1 s ++ (kind2 s ++ (kind3 s ++ kind4 s))
 
+  -- of n desks, m cells and so many open writes
+  abbrev pub blocksOf : ℕ → ℕ → ℕ → ℕ
+  blocksOf n m opens = 1 + n + perDesk m * n + blocks-for (opens-in p) opens
+
   abbrev pub blocks : State → ℕ
-  blocks s = 1 + s .setup .desks + perDesk (s .setup .cells) * s .setup .desks + openBlocks s
+  blocks s = blocksOf (s .setup .desks) (s .setup .cells) (openCount s)
 
 -- "Tables with n up to 8 save in edition 1, byte for byte as today. Larger ones save in edition 2": the edition and its places follow from n
 abbrev pub encode : State → List ℕ

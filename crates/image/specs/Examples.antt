@@ -1,7 +1,8 @@
 -- The document's numbers, computed.
-use Rattle.laws.specs.{Kit.{_*_, _≡_, refl, true, false, none, [], _∷_, _++_, length, replicate}, Update.{upd, upd2}, Sum.{sum}}
+use Rattle.laws.specs.{Kit.{_*_, _≡_, refl, true, false, none, [], _∷_, _++_, map, length, replicate}, Update.{upd, upd2}, Sum.{sum}}
 use Rattle.laws.specs.{Loop.{scan, turns}, All.{all}, Tab.{tab, tabFrom}, Cat.{cat, part}}
-use Rattle.machine.specs.{Table.{zeros, sized, State, fresh}, Answer.{damaged}, Steps.{openCount, everywhere, failing, write}}
+use Rattle.machine.specs.{Table.{zeros, sized, State, fresh}, Answer.{damaged}, Steps.{openCount, everywhere, failing, write, step, Write, Deliver, settle, firstDue}}
+use Rattle.machine.specs.History.{run, take-step}
 use Rattle.machine.specs.RulesTest.{keeps}
 use Rattle.image.specs.{OpenNames.{names, namesOfDesk}, Check.{checkOf}, Encode.{vectorWords, markBytes, deskBytes, cellBytes}}
 use Rattle.image.specs.{Encode.{openBytes, block, cellPart, openPart, encodeAt, encode}, Damage.{checkIn, sound}}
@@ -39,11 +40,35 @@ pub broad-entry : part (19 * block-bytes) 60 (encode ninth-write-table)
 unfolding placesFor editionOf encodeAt block cat vectorWords markBytes deskBytes cellBytes cellPart openBytes openPart names namesOfDesk openCount sum checkOf part upd upd2 everywhere all scan turns tab tabFrom
 broad-entry = refl
 
--- the block of desk 9 before it: its counts, and from byte 40 its clock
-pub broad-desk : part (9 * block-bytes) 76 (encode ninth-write-table)
-    ≡ 2 ∷ 2 ∷ 9 ∷ 0 ∷ 9 ∷ 0 ∷ 0 ∷ 0 ∷ (replicate 16 0 ++ 1 ∷ 0 ∷ (replicate 14 0 ++ (replicate 16 0 ++ 1 ∷ 0 ∷ (replicate 14 0 ++ replicate 4 0))))
-unfolding placesFor editionOf encodeAt block cat vectorWords markBytes deskBytes cellBytes cellPart openBytes openPart names namesOfDesk openCount sum checkOf part upd upd2 everywhere all scan turns tab tabFrom
+-- delivered to desk 1 it is applied there, and the clock stays: its counts, and from byte 40 its clock
+pub broad-desk : part block-bytes 76 (encode (step ninth-write-table (Deliver 1 9 1) .state))
+    ≡ 2 ∷ 2 ∷ 1 ∷ 0 ∷ 1 ∷ 0 ∷ 0 ∷ 0 ∷ (replicate 16 0 ++ 1 ∷ 0 ∷ (replicate 14 0 ++ replicate 36 0))
+unfolding placesFor editionOf encodeAt block cat vectorWords markBytes deskBytes cellBytes cellPart openBytes openPart names namesOfDesk openCount sum checkOf part upd upd2 everywhere all scan turns tab tabFrom step failing settle firstDue
 broad-desk = refl
+
+-- of 15 cells the last stands in a desk's second block; n, m and the open count in the first of all
+abbrev pub fifteenth-cell-table : State
+fifteenth-cell-table = write (fresh 9 15) 9 15 2
+
+pub broad-head : part 0 8 (encode fifteenth-cell-table) ≡ 1 ∷ 2 ∷ 0 ∷ 0 ∷ 9 ∷ 15 ∷ 1 ∷ 0 ∷ []
+unfolding placesFor editionOf encodeAt block cat vectorWords markBytes deskBytes cellBytes cellPart openBytes openPart names namesOfDesk openCount sum checkOf part upd upd2 everywhere all scan turns tab tabFrom
+broad-head = refl
+
+pub broad-cell : part (27 * block-bytes) 44 (encode fifteenth-cell-table)
+    ≡ 3 ∷ 2 ∷ 27 ∷ 0 ∷ 9 ∷ 2 ∷ 0 ∷ 0 ∷ (replicate 16 0 ++ 1 ∷ 0 ∷ (replicate 14 0 ++ replicate 4 0))
+unfolding placesFor editionOf encodeAt block cat vectorWords markBytes deskBytes cellBytes cellPart openBytes openPart names namesOfDesk openCount sum checkOf part upd upd2 everywhere all scan turns tab tabFrom
+broad-cell = refl
+
+-- in edition 1 the cell of desk 1, at place 3
+pub narrow-cell : part (3 * block-bytes) 28 (encode one-write-table) ≡ 3 ∷ 1 ∷ 3 ∷ 0 ∷ 1 ∷ 2 ∷ 0 ∷ 0 ∷ 1 ∷ 0 ∷ (replicate 14 0 ++ replicate 4 0)
+unfolding placesFor editionOf encodeAt block cat vectorWords markBytes deskBytes cellBytes cellPart openBytes openPart names namesOfDesk openCount sum checkOf part upd upd2 everywhere all scan turns tab tabFrom
+narrow-cell = refl
+
+-- of ten open writes the last stands in a second block
+pub broad-tenth : part (20 * block-bytes) 26 (encode (run (λ s. s) (fresh 9 1) (map take-step (replicate 10 (Write 9 1 2)))))
+    ≡ 4 ∷ 2 ∷ 20 ∷ 0 ∷ 9 ∷ 2 ∷ 1 ∷ 0 ∷ (replicate 16 0 ++ 10 ∷ 0 ∷ [])
+unfolding placesFor editionOf encodeAt block cat vectorWords markBytes deskBytes cellBytes cellPart openBytes openPart names namesOfDesk openCount sum checkOf part upd upd2 everywhere all scan turns tab tabFrom run step failing settle firstDue
+broad-tenth = refl
 
 -- the rules hold of one-write-table; of the same with the clocks or the open write lost they do not
 pub one-write-keeps : keeps one-write-table ≡ true

@@ -167,3 +167,6 @@ wide p h =
     let rows : rows-most p ≤ most-cells * broad = mul-le-mul (few-for (cells-in p) most-cells (one-fits (cell-bytes p) (omega arith) (omega arith))) h in
     let opens = few-for (opens-in p) most-open (one-fits (open-bytes p) (omega arith) (omega arith)) in
     record { desk = omega arith; few = omega (arith, rows, opens) }
+
+pub wide-for : (n : ℕ) → Wide (placesFor n)
+wide-for n = wide (placesFor n) (places-most n)

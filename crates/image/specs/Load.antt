@@ -4,7 +4,7 @@ use Rattle.laws.specs.Tests.{same, says-same}
 use Rattle.machine.specs.{Table.{State}, Answer.{Refusal, damaged, broken}, Rules.{Rules}, RulesTest.{keeps}}
 use Rattle.machine.specs.Proofs.RulesTestTells.{says-rules}
 use Rattle.image.specs.{Encode.{encode}, Decode.{decode, decode-encode}, Damage.{Undamaged, Damaged, sound, says-sound, sound-encode}}
-use Rattle.image.specs.{Decode.{nIn, placesIn}, Link.ReadShape.{shaped}, Limits.{placesFor, places-most, wide}}
+use Rattle.image.specs.{Decode.{nIn, placesIn}, Link.ReadShape.{shaped}, Limits.{placesFor, places-most, wide-for}}
 
 pub data Loaded : Type 0 where
   refused : Refusal → Loaded
@@ -25,7 +25,7 @@ pub data Loads (b : List ℕ) : Loaded → Type 0 where
 
 -- an image is not damaged
 pub image-sound : (s : State) → Undamaged (encode s)
-image-sound s = let n = s .setup .desks in sound-encode (placesFor n) (wide (placesFor n) (places-most n)) s
+image-sound s = let n = s .setup .desks in sound-encode (placesFor n) (wide-for n) s
 
 -- Any reader loads right that reads images right: what it reads has its rules tested, is saved again and compared.
 module _ (b : List ℕ) (c : State) (reads : (s : State) → Rules s → encode s ≡ b → c ≡ s) where

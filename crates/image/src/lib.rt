@@ -8,9 +8,9 @@ ghost use lib.Seq.{sets};
 ghost use Rattle.laws.specs.Cat.{cat};
 ghost use Rattle.laws.specs.Says.{Says};
 ghost use Rattle.clock.specs.Vectors.{places, place};
-ghost use Rattle.image.specs.Limits.{placesFor, editionOf, block-bytes, check-at, payload-bytes, vector-bytes, after-vector, cell-bytes, open-bytes, cells-in, opens-in, blocks-for, row-most, opens-most};
+ghost use Rattle.image.specs.Limits.{broad, image-bytes, placesFor, editionOf, block-bytes, check-at, payload-bytes, vector-bytes, after-vector, cell-bytes, open-bytes, cells-in, opens-in, blocks-for, row-most, opens-most};
 ghost use Rattle.image.specs.Check.{checkOf};
-ghost use Rattle.image.specs.Encode.{word, long, vectorWords, markBytes, deskBytes, blockOf, perDesk, encode};
+ghost use Rattle.image.specs.Encode.{word, long, vectorWords, markBytes, deskBytes, blockOf, perDesk, blocksOf, encode};
 ghost use Rattle.image.specs.Damage.{rightCheck, sound};
 ghost use Rattle.image.specs.Mirror.Block.{head, openRaw, SmallOpen};
 ghost use Rattle.image.specs.Mirror.TableBytes.{CellsFit, cellPiece, OrderFits, openPiece};
@@ -76,6 +76,13 @@ pub const IMAGE: usize = BLOCK
         + BROAD
         + (CELLS + BROAD_CELLS - 1) / BROAD_CELLS * BROAD
         + (OPENS + BROAD_OPENS - 1) / BROAD_OPENS);
+
+// Room for any image: zeros, of which the contract tells the number alone.
+pub fn room() -> [u8; IMAGE]
+    ensures { λ r. ⌜ length r ≡ image-bytes broad ⌝ }
+{
+    [0u8; IMAGE]
+}
 
 // The layout --
 
@@ -604,7 +611,7 @@ fn cells_end(n: usize, c: usize) -> usize
 
 pub fn length_of(n: usize, m: usize, count: usize) -> usize
     requires { ⌜ (n ≤ places) × ((m ≤ desk-cells) × (count ≤ places * (most-writes + 1))) ⌝ }
-    ensures { λ r. ⌜ r ≡ block-bytes * (1 + n + perDesk (placesFor n) m * n + blocks-for (opens-in (placesFor n)) count) ⌝ }
+    ensures { λ r. ⌜ r ≡ block-bytes * blocksOf (placesFor n) n m count ⌝ }
 {
     let p = places_for(n);
     let c = per_desk(p, m);
@@ -615,7 +622,7 @@ pub fn length_of(n: usize, m: usize, count: usize) -> usize
 // How long the image of a table is that keeps the rules: the counts tell.
 pub fn image_length(core: Core) -> usize
     requires { ⌜ (core .n ≤ places) × (core .m ≤ desk-cells) ⌝ }
-    ensures { λ r. ⌜ r ≡ block-bytes * (1 + core .n + perDesk (placesFor (core .n)) (core .m) * core .n + blocks-for (opens-in (placesFor (core .n))) (length (counted (core .n) (appliedM (core .desks))))) ⌝ }
+    ensures { λ r. ⌜ r ≡ block-bytes * blocksOf (placesFor (core .n)) (core .n) (core .m) (length (counted (core .n) (appliedM (core .desks)))) ⌝ }
 {
     let n = core.n;
     let m = core.m;

@@ -82,7 +82,7 @@ fn step(t: Table, line: &[u8]) -> Said
 
 // A table saved; no bytes where that is refused.
 fn saved(t: Table) -> Image {
-    let mut b = [0u8; IMAGE];
+    let mut b = image::room();
     let s = image::save(t, &mut b);
     let Saving::Length(len) = s else {
         return Image { bytes: b, len: 0 };

@@ -166,7 +166,7 @@ fn replay(text: &[u8]) -> Table {
 
 fn save(good: &mut [u8; IMAGE], schedule: &[u8]) {
     let t = replay(schedule);
-    let mut b = [0u8; IMAGE];
+    let mut b = image::room();
     let s = image::save(t, &mut b);
     let Saving::Length(len) = s else {
         say(b"not saved\n");
@@ -200,7 +200,7 @@ fn one(good: &mut [u8; IMAGE], text: &[u8], from: usize, at: usize, line: &[u8])
 }
 
 fn run(text: &[u8]) {
-    let mut good = [0u8; IMAGE];
+    let mut good = image::room();
     let mut from = 0;
     let mut at = 0;
     while at < text.len() {

@@ -261,7 +261,7 @@ fn number_of(o: Open) -> u16 {
     v[w - 1]
 }
 
-// Each goes into the entry where a search for it begins, or a free one behind that.
+// Each goes into the entry where a search for it begins, or a free one behind that (any free one would do).
 fn read_opens(b: &[u8], z: Sizes, opens: &mut Opens)
     requires { ⌜ Sized (now b) z × (now opens ≡ freshTable 0 0 .opens) ⌝ }
     ensures { λ _. ⌜ OpensRead (z .p) (now (b .entry)) (z .n) (z .m) (z .count) (now (opens .exit)) ⌝ }

@@ -27,7 +27,7 @@ pub edges : map transcript (
 unfolding transcript transcriptFrom linesOf answersOf printed lineOf words number numbers readOn form bind isDigit turns scan all upd upd2 sum begin step failing everywhere openCount firstDue settle reads any every verdict digits decimal nameBytes namesBytes
 edges = refl
 
--- desk numbers of two digits: a write that waits for desk 16
+-- desk numbers of two digits: a write that waits for the last desk
 pub sixteen-desks : transcript (text "N 16 1\nW 16 1 1\nD 1 16 1\nR 1 1\nW 1 1 2\nD 2 1 1\nD 2 16 1\nD 17 1 1\n")
     ≡ text "N\nW 16.1\nA 16.1\nR 1 16.1\nW 1.1\nH 16.1\nA 16.1 1.1\nE 1\n"
 unfolding transcript transcriptFrom linesOf answersOf printed lineOf words number numbers readOn form bind isDigit turns scan all upd upd2 sum begin step failing everywhere openCount firstDue settle reads any every verdict digits decimal nameBytes namesBytes

@@ -1,5 +1,6 @@
 -- The longest line of an answer follows from the limits: `A`, a name for each write that may be open, and the LF.
-use Rattle.laws.specs.Kit.{ℕ, suc, _+_, _*_, _≤_, _≡_, refl, Option, none, some, arith, length, replicate, length-append}
+use Rattle.laws.specs.Kit.{ℕ, suc, _+_, _-_, _*_, _≤_, _≡_, refl, Option, none, some, arith, length, length-append}
+use Rattle.laws.specs.Tab.{tab, tabFrom}
 use Rattle.text.specs.Number.{digits, decimal}
 use Rattle.machine.specs.{Table.{most-desks, most-writes, most-open, name, State}, Answer.{Answer, began, shows, wrote, holds, applies, judged}}
 use Rattle.machine.specs.{Answer.{refused, unset, shown, Yes, No, Unknown, no-size, no-step}, Steps.{step}, Rules.{Rules}}
@@ -18,12 +19,12 @@ each-name-is = refl
 abbrev pub longest-line : ℕ
 longest-line = 1 + each-name * most-open + 1
 
--- 578 bytes; so long is the answer that names 64 writes of desk 16, each with five digits
+-- 578 bytes; so long is the answer that names the last 64 writes of the last desk
 pub longest-line-is : longest-line ≡ 578
 longest-line-is = refl
 
-pub longest-line-met : length (answerLine (applies (replicate most-open (name most-desks most-writes)))) ≡ longest-line
-unfolding namesBytes nameBytes decimal digits
+pub longest-line-met : length (answerLine (applies (tab most-open (λ j. name most-desks (most-writes - j))))) ≡ longest-line
+unfolding namesBytes nameBytes decimal digits tab tabFrom
 longest-line-met = refl
 
 answer-most : {s s′ : State} → Rules s → Rules s′ → (a : Answer) → HeldCounted s a s′ → ((l : _) → a ≡ applies l → length l ≤ most-open)
@@ -40,7 +41,7 @@ answer-most r r′ (judged No) c few = omega arith
 answer-most r r′ (judged Unknown) c few = omega arith
 answer-most r r′ (refused e) c few = omega (arith, refused-bytes e)
 
--- no line of any schedule is answered by a longer one
+-- no line is answered by a longer one: of a session that keeps the rules, as every text leaves it (session-kept)
 pub line-most : (z : Session) (o : Option Line) → SessionKept z → length (answerLine (turn z o .answer)) ≤ longest-line
 line-most z none k = omega (arith, refused-bytes no-step)
 line-most none (some (begin-line n m)) k =

@@ -64,7 +64,7 @@ pub const MAX_IMAGE: usize = 105 * BLOCK;
 /// Five bytes for each byte (an empty line is 1 byte, and its answer, `E 10`
 /// and LF, is 5), and 9 for the name of each write that came held with the
 /// image, at most 64 at each of 15 desks. The formula is proved: `enough` in
-/// `crates/capi/specs/Enough.antt`, from `answers-fit` in
+/// `crates/capi/specs/BuffersEnough.antt`, from `answers-fit` in
 /// `crates/session/specs/AnswersBound.antt`.
 pub const fn answers_bound(schedule: usize) -> usize {
     5 * schedule + 9 * 64 * 15

@@ -2,8 +2,7 @@
 use Rattle.laws.specs.Kit.{_≡_, refl, sym, ap, _∙_, [], none, some, _+_, _*_, _≤_, arith, length}
 use Rattle.clock.specs.Vectors.{places}
 use Rattle.table.specs.{declared.Table.{Table}, Value.{desk-cells}, Model.{modelOf, appliedM}, Sound.{SoundTable}}
-use Rattle.image.specs.{Link.OrderFromCounts.{counted}, Encode.{perDesk, encode}, Link.SavedIsImage.{length-is}, Limits.{placesFor, block-bytes}}
-use Rattle.image.specs.Limits.{opens-in, blocks-for}
+use Rattle.image.specs.{Link.OrderFromCounts.{counted}, Encode.{blocksOf, encode}, Link.SavedIsImage.{length-is}, Limits.{placesFor, block-bytes}}
 use Rattle.session.specs.{Session.{Session}, Holds.{Holds}}
 use Rattle.capi.specs.Access.{imageOf}
 
@@ -23,5 +22,5 @@ module _ (t : Table) where
 
   -- its length, by the counts alone
   pub image-long : (f : t .core .n ≡ 0 → ⊥) (z : Session) (h : Holds t z)
-      → block-bytes * (1 + t .core .n + perDesk (placesFor (t .core .n)) (t .core .m) * t .core .n + blocks-for (opens-in (placesFor (t .core .n))) (length (counted (t .core .n) (appliedM (t .core .desks))))) ≡ length (imageOf z)
+      → block-bytes * blocksOf (placesFor (t .core .n)) (t .core .n) (t .core .m) (length (counted (t .core .n) (appliedM (t .core .desks)))) ≡ length (imageOf z)
   image-long f z h = let i = image-is f z h in length-is (i .0) ∙ ap length (sym (i .1))

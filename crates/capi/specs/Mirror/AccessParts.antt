@@ -8,7 +8,7 @@ use Rattle.capi.specs.Access.{Left, imageOf, refuse, begin, startOf, run
 
 -- the bytes of answers that are kept
 abbrev pub most-kept : ℕ
-most-kept = 65536
+most-kept = 81920
 
 -- the bytes that the answers of one run take at most
 abbrev pub most-part : ℕ

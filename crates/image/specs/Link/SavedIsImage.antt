@@ -10,7 +10,7 @@ use Rattle.table.specs.{Value.{openAt}, EntryNames.{named-is}, Model.{modelOf, 
 use Rattle.table.specs.{Model.{cell-in}, Link.OpensModel.{opens-at}, Sound.{SoundTable, AllZero}}
 use Rattle.image.specs.{OpenNames.{names, no-name, length-names, OpenName, names-open}, Link.OrderFromCounts.{low, counted}}
 use Rattle.image.specs.{Link.OrderFromCounts.{names-counted, open-low}, Encode.{vectorWords, cellBytes, openBytes, deskBytes, blockOf}}
-use Rattle.image.specs.{Encode.{blocks, openNamed, cellPart, openPart, perDesk, encodeAt, encode}, Damage.{blockIn}, ImageSize.{most-blocks}}
+use Rattle.image.specs.{Encode.{blocks, blocksOf, openNamed, cellPart, openPart, perDesk, encodeAt, encode}, Damage.{blockIn}, ImageSize.{most-blocks}}
 use Rattle.image.specs.{declared.Plan.{Plan}, Link.FieldPlaces.{blockAt, encode-is, length-encode, block-at}, Link.BlockFill.{cat-parts}, Mirror.Block.{cellRaw, openRaw}}
 use Rattle.image.specs.Mirror.TableBytes.{CellsFit, cellPiece, OrderFits, openOr, openPiece}
 use Rattle.image.specs.{Mirror.EntryOrder.{HoldsWrite, InOrder, Known}, Limits.{Wide, some-cells, some-opens, block-of, blocks-mono}}
@@ -49,9 +49,9 @@ pub record Planned (t : Table) (order : List ℕ) (plan : Plan) : Type 0 where
   pub order-fits : OrderFits (t .opens) order (plan .count)
   pub piece : (p : ℕ) → openOr (plan .p) (t .opens) order (plan .count) p ≡ getD (map (openNamed (plan .p) (modelOf t)) (names (modelOf t))) p (replicate (open-bytes (plan .p)) 0)
 
-module _ (ps : ℕ) (narrow-enough : ps ≤ places) {t : Table} (ok : SoundTable t) (fits : t .core .n ≤ ps) where
+module _ (ps : ℕ) (most : ps ≤ places) {t : Table} (ok : SoundTable t) (fits : t .core .n ≤ ps) where
   wd : Wide ps
-  wd = wide ps narrow-enough
+  wd = wide ps most
 
   abbrev st : State
   st = modelOf t
@@ -155,7 +155,7 @@ module _ (ps : ℕ) (narrow-enough : ps ≤ places) {t : Table} (ok : SoundTable
         let all : e + d ≡ blocks ps st = rw (ee, ec, ed, ord .size ∙ counted-is) in
         record {
           p-is = ep;
-          most = narrow-enough;
+          most = most;
           desks = few-desks;
           cells = r .frame .ranges .cells .1;
           few = all-order-fits .few;
@@ -172,12 +172,12 @@ module _ (ps : ℕ) (narrow-enough : ps ≤ places) {t : Table} (ok : SoundTable
           piece = piece-at;
         }
 
-  length-by : block-bytes * (1 + n + perDesk ps (t .core .m) * n + blocks-for (opens-in ps) (length (counted n (appliedM (t .core .desks))))) ≡ length (encodeAt ps st)
+  length-by : block-bytes * blocksOf ps n (t .core .m) (length (counted n (appliedM (t .core .desks)))) ≡ length (encodeAt ps st)
   length-by = rw counted-is (sym (length-encode ps wd st))
 
 -- the length, by the counts alone
 pub length-is : {t : Table} → SoundTable t
-    → (let n = t .core .n in block-bytes * (1 + n + perDesk (placesFor n) (t .core .m) * n + blocks-for (opens-in (placesFor n)) (length (counted n (appliedM (t .core .desks))))) ≡ length (encode (modelOf t)))
+    → (let n = t .core .n in block-bytes * blocksOf (placesFor n) n (t .core .m) (length (counted n (appliedM (t .core .desks)))) ≡ length (encode (modelOf t)))
 length-is {t} ok = let n = t .core .n in length-by (placesFor n) (places-most n) ok (desks-placed n (ok .rules .frame .ranges .desks .1))
 
 -- the block of the code at place k, by its kind

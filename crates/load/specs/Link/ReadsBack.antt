@@ -15,7 +15,7 @@ use Rattle.image.specs.{OpenNames.{names, no-name, length-names, OpenName, name
 use Rattle.image.specs.{Encode.{cellPart, cellBytes, encodeAt, encode}, Link.FieldPlaces.{length-encode, part-3}, Fields.{zero-words}}
 use Rattle.image.specs.{Fields.{vec-words, vecOf, cellRead, writerIn, numberIn}, Decode.{nIn, mIn, countIn, deskPlace, cellPlace}}
 use Rattle.image.specs.Decode.{openPlace, deskIn, cellIn, n-back, m-back, count-back, applied-back, clock-back, cell-back, shows-at}
-use Rattle.image.specs.{Decode.{open-name, placesIn}, Limits.{placesFor, places-most, desks-placed, Wide, some-cells, block-of, wide, vector-at, vector-bytes, after-vector, cell-bytes}}
+use Rattle.image.specs.{Decode.{open-name, placesIn}, Limits.{placesFor, wide-for, desks-placed, Wide, some-cells, block-of, vector-at, vector-bytes, after-vector, cell-bytes}}
 use Rattle.image.specs.{Limits.{open-bytes, cells-in}, Link.BlockFill.{drop-replicate}}
 use Rattle.load.specs.{Link.EntryEach.{Spread, OpensRead}, Mirror.ImageRead.{cellFrom, openFrom, deskFrom, noDesk, deskFor, cellFor}}
 use Rattle.load.specs.Mirror.ImageRead.{Fits, CellsRead, for-cases, getD-part, part-of-part, place-words, cell-read, open-read}
@@ -235,7 +235,7 @@ module _ (ps : ℕ) where
 
   pub read-image : (wd : Wide ps) (s : State) → Rules s → s .setup .desks ≤ ps → (t : Table) → ReadAs (encodeAt ps s) t → (modelOf t ≡ s) × SoundTable t
   read-image wd s ok few t h =
-      let n8 = ok .frame .ranges .desks .1 in
+      let few-desks = ok .frame .ranges .desks .1 in
       let m64 = ok .frame .ranges .cells .1 in
       let en : t .core .n ≡ s .setup .desks = h .n-is ∙ n-back ps s in
       let em : t .core .m ≡ s .setup .cells = h .m-is ∙ m-back ps s in
@@ -243,9 +243,9 @@ module _ (ps : ℕ) where
       let rc : CellsRead ps (encodeAt ps s) (s .setup .desks) (s .setup .cells) (t .cells) = rw (n-back ps s, m-back ps s) at (h .cells) in
       let ro : OpensRead ps (encodeAt ps s) (s .setup .desks) (s .setup .cells) (openCount s) (t .opens) = rw (n-back ps s, m-back ps s, count-back ps s) at (h .opens) in
       let e : modelOf t ≡ s = state-path (modelOf t) s (λ j. machine.sized (en j) (em j))
-      (ap appliedM ed ∙ applied-read (encodeAt ps s) (s .setup .desks) n8 ∙ applied-back ps wd s ok few)
-      (ap clockM ed ∙ clock-read (encodeAt ps s) (s .setup .desks) n8 ∙ clock-back ps wd s ok few)
-      (cells-read (encodeAt ps s) (s .setup .desks) (s .setup .cells) n8 m64 (t .cells) rc ∙ cell-back ps wd s ok few)
+      (ap appliedM ed ∙ applied-read (encodeAt ps s) (s .setup .desks) few-desks ∙ applied-back ps wd s ok few)
+      (ap clockM ed ∙ clock-read (encodeAt ps s) (s .setup .desks) few-desks ∙ clock-back ps wd s ok few)
+      (cells-read (encodeAt ps s) (s .setup .desks) (s .setup .cells) few-desks m64 (t .cells) rc ∙ cell-back ps wd s ok few)
       (opens-read wd s ok few (t .opens) ro) in
       (e, record { rules = rw e ok; blanks = blanks-read wd s ok few (t .cells) rc; unique = unique-read wd s ok few (t .opens) ro })
 
@@ -259,7 +259,7 @@ module _ (b : List ℕ) (s : State) (ok : Rules s) (e : encode s ≡ b) where
   width = placesFor (s .setup .desks)
 
   wide-enough : Wide width
-  wide-enough = wide width (places-most (s .setup .desks))
+  wide-enough = wide-for (s .setup .desks)
 
   placed : s .setup .desks ≤ width
   placed = desks-placed (s .setup .desks) (ok .frame .ranges .desks .1)

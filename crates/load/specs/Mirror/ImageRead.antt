@@ -9,7 +9,7 @@ use Rattle.clock.specs.Vectors.{places, place, clockOf}
 use Rattle.load.specs.declared.Sizes.{Sizes}
 use Rattle.table.specs.{declared.Cell.{Cell}, declared.Desk.{Desk}, declared.Open.{Open}, Value.{desk-cells, all-cells, cellAt, cellAt-put}}
 use Rattle.table.specs.{Value.{cellAt-other, cellOf, cell-width, entries, CellPut}, Model.{cellM, openM}}
-use Rattle.image.specs.{Encode.{perDesk}, Link.BlockFill.{drop-replicate}, Fields.{vecOf, marksOf, cellRead, openRead}, Decode.{nIn, mIn, countIn, deskPlace, cellPlace}}
+use Rattle.image.specs.{Encode.{perDesk, blocksOf}, Link.BlockFill.{drop-replicate}, Fields.{vecOf, marksOf, cellRead, openRead}, Decode.{nIn, mIn, countIn, deskPlace, cellPlace}}
 use Rattle.image.specs.{Decode.{placesIn, openPlace}, Limits.{Wide, wide, fit, some-cells, some-opens, block-of, few-for, block-bytes}}
 use Rattle.image.specs.Limits.{payload-at, payload-bytes, vector-at, vector-bytes, after-vector, cell-bytes, open-bytes, cells-in, opens-in, blocks-for}
 
@@ -115,7 +115,7 @@ module _ (ps : ℕ) where
     pub desks : (1 ≤ nIn b) × (nIn b ≤ ps)
     pub cells : (1 ≤ mIn b) × (mIn b ≤ desk-cells)
     pub few : countIn b ≤ entries
-    pub size : length b ≡ block-bytes * (1 + nIn b + perDesk ps (mIn b) * nIn b + blocks-for (opens-in ps) (countIn b))
+    pub size : length b ≡ block-bytes * blocksOf ps (nIn b) (mIn b) (countIn b)
 
   -- the rows that were read
   abbrev pub CellsRead : List ℕ → ℕ → ℕ → List ℕ → Type 0
