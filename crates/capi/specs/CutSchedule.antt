@@ -2,8 +2,8 @@
 use Rattle.laws.specs.Kit.{_≡_, refl, sym, ap, _∙_, List, [], _∷_, _++_, none, some, ℕ, arith}
 use Rattle.image.specs.{Encode.{encode}, Load.{image-sound, load-encode}}
 use Rattle.schedule.specs.Lines.{LF}
-use Rattle.session.specs.{Session.{Session}, Transcript.{linesOf, transcriptFrom, sessionFrom}}
-use Rattle.session.specs.Link.SessionRules.{SessionKept, session-kept}
+use Rattle.session.specs.{Session.{Session}, Transcript.{linesOf, transcriptFrom, sessionFrom}, Link.SessionRules.{SessionKept}}
+use Rattle.session.specs.Link.SessionRules.{session-kept}
 use Rattle.capi.specs.{Access.{begin, started, imageOf, startOf, accessRun}, Link.CutText.{lines-cut, session-append, bytes-append}}
 use Rattle.capi.specs.{Link.ImageStart.{start-load}, Link.CallWrote.{answersIn, imageIn, began, wrote}}
 

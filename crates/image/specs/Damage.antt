@@ -4,7 +4,8 @@ use Rattle.laws.specs.{Kit.{length, getD, getD-append-add}, Loop.{cases}, All.{
 use Rattle.laws.specs.{Says.{says-both}, Cat.{part}}
 use Rattle.machine.specs.Table.{State}
 use Rattle.image.specs.{Check.{checkOf, check-first}, Encode.{long, body, block, encodeAt}, Link.FieldPlaces.{length-encode}}
-use Rattle.image.specs.{Link.FieldPlaces.{length-body, block-at, every-block}, Limits.{Wide, editionOf, block-bytes, check-at, payload-bytes}}
+use Rattle.image.specs.{Link.FieldPlaces.{length-body, block-at, every-block}, Limits.{Wide, editionOf, block-bytes, check-at}}
+use Rattle.image.specs.Limits.{payload-bytes}
 
 -- bytes 508-511 of a block
 unfoldable pub checkIn : List ℕ → ℕ

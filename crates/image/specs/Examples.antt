@@ -1,12 +1,11 @@
 -- The document's numbers, computed.
 use Rattle.laws.specs.{Kit.{_*_, _≡_, refl, true, false, none, [], _∷_, _++_, map, length, replicate}, Update.{upd, upd2}, Sum.{sum}}
 use Rattle.laws.specs.{Loop.{scan, turns}, All.{all}, Tab.{tab, tabFrom}, Cat.{cat, part}}
-use Rattle.machine.specs.{Table.{zeros, sized, State, fresh}, Answer.{damaged}, Steps.{openCount, everywhere, failing, write, step, Write, Deliver, settle, firstDue}}
-use Rattle.machine.specs.History.{run, take-step}
-use Rattle.machine.specs.RulesTest.{keeps}
+use Rattle.machine.specs.{Table.{zeros, sized, State, fresh}, Answer.{damaged}, Steps.{openCount, everywhere, failing, write, step, Write}}
+use Rattle.machine.specs.{Steps.{Deliver, settle, firstDue}, History.{run, take-step}, RulesTest.{keeps}}
 use Rattle.image.specs.{OpenNames.{names, namesOfDesk}, Check.{checkOf}, Encode.{vectorWords, markBytes, deskBytes, cellBytes}}
-use Rattle.image.specs.{Encode.{openBytes, block, cellPart, openPart, encodeAt, encode}, Damage.{checkIn, sound}}
-use Rattle.image.specs.{Load.{refused, load}, Limits.{placesFor, editionOf, block-bytes, check-at}}
+use Rattle.image.specs.{Encode.{openBytes, block, cellPart, openPart, encodeAt, encode}, Damage.{checkIn, sound}, Load.{refused}}
+use Rattle.image.specs.{Load.{load}, Limits.{placesFor, editionOf, block-bytes, check-at}}
 
 -- "A fresh table of n = 1, m = 1 is 3 blocks, and its first check is 15."
 pub fresh-blocks : length (encode (fresh 1 1)) ≡ 3 * block-bytes

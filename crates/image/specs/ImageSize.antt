@@ -2,8 +2,8 @@
 use Rattle.laws.specs.Kit.{ℕ, suc, _+_, _-_, _*_, _/_, _%_, _<_, _≤_, _≡_, refl, List, [], _∷_, _++_, map, Option, none, some, arith}
 use Rattle.laws.specs.{Kit.{mul-le-mul, add-le-add, le-refl, length, replicate, eqb, leb, ltb, leb-true}, Each.{no, and, each-at}}
 use Rattle.laws.specs.{Each.{each-append, each-replicate, each-cat, each-tab, each-map}, Loop.{cases}}
-use Rattle.machine.specs.{Table.{most-cells, most-open, most-writes, Vec, Cell, blank, set, Open, State}, Steps.{openCount}}
-use Rattle.machine.specs.Rules.{Issued, Rules}
+use Rattle.machine.specs.{Table.{most-cells, most-open, most-writes, Vec, Cell, blank, set, Open, State}, Steps.{openCount}, Rules.{Issued}}
+use Rattle.machine.specs.Rules.{Rules}
 use Rattle.image.specs.{OpenNames.{names, OpenName, names-open}, Check.{Byte, Bytes, checkOf, check-most}, Encode.{word, vectorWords}}
 use Rattle.image.specs.Encode.{markBytes, deskBytes, cellBytes, openBytes, long, body, block, openNamed, blocks, cellPart, openPart}
 use Rattle.image.specs.{Encode.{perDesk, openBlocks, encodeAt}, Link.FieldPlaces.{pick-has, blockAt, encode-is}, Limits.{Wide}}

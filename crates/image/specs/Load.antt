@@ -1,10 +1,10 @@
 -- Loading: what an image is accepted as, and which number refuses it.
-use Rattle.laws.specs.{Kit.{ℕ, _≡_, refl, sym, ap, _∙_, _↔_, Bool, true, List, arith}, Loop.{pick, cases}, Says.{Says, apart}}
-use Rattle.laws.specs.Tests.{same, says-same}
+use Rattle.laws.specs.{Kit.{ℕ, _≡_, refl, sym, ap, _∙_, _↔_, Bool, true, List}, Loop.{pick, cases}, Says.{Says, apart}, Tests.{same}}
+use Rattle.laws.specs.Tests.{says-same}
 use Rattle.machine.specs.{Table.{State}, Answer.{Refusal, damaged, broken}, Rules.{Rules}, RulesTest.{keeps}}
 use Rattle.machine.specs.Proofs.RulesTestTells.{says-rules}
-use Rattle.image.specs.{Encode.{encode}, Decode.{decode, decode-encode}, Damage.{Undamaged, Damaged, sound, says-sound, sound-encode}}
-use Rattle.image.specs.{Decode.{nIn, placesIn}, Link.ReadShape.{shaped}, Limits.{placesFor, places-most, wide-for}}
+use Rattle.image.specs.{Encode.{encode}, Decode.{decode, decode-encode, nIn, placesIn}, Damage.{Undamaged, Damaged, sound}}
+use Rattle.image.specs.{Damage.{says-sound, sound-encode}, Link.ReadShape.{shaped}, Limits.{placesFor, places-most, wide-for}}
 
 pub data Loaded : Type 0 where
   refused : Refusal → Loaded

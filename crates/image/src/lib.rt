@@ -3,7 +3,7 @@ ghost use mathlib.Core.Path.{_≡_};
 ghost use mathlib.Core.List.{[], _∷_};
 ghost use mathlib.Core.Option.{none};
 ghost use Prim.Native.Nat.{ℕ, suc, _+_, _-_, _*_, _/_, _<_, _≤_, min};
-ghost use lib.ListN.{getD, length, take};
+ghost use lib.ListN.{getD, length, replicate, take};
 ghost use lib.Seq.{sets};
 ghost use Rattle.laws.specs.Cat.{cat};
 ghost use Rattle.laws.specs.Says.{Says};
@@ -77,9 +77,9 @@ pub const IMAGE: usize = BLOCK
         + (CELLS + BROAD_CELLS - 1) / BROAD_CELLS * BROAD
         + (OPENS + BROAD_OPENS - 1) / BROAD_OPENS);
 
-// Room for any image: zeros, of which the contract tells the number alone.
+// Room for any image.
 pub fn room() -> [u8; IMAGE]
-    ensures { λ r. ⌜ length r ≡ image-bytes broad ⌝ }
+    ensures { λ r. ⌜ r ≡ replicate (image-bytes broad) 0 ⌝ }
 {
     [0u8; IMAGE]
 }

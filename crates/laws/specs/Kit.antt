@@ -6,6 +6,7 @@ pub use borrow.Author.Count.{below-more}
 pub use borrow.Author.Needs.{needs}
 pub use borrow.Author.Tests.{eq-eqb, eqb-false, eqb-true, le-leb, le-ltb, leb-false, leb-true, lt-leb, lt-ltb, ltb-false, ltb-true, ne-eqb}
 pub use borrow.Author.Tests.{not-false, not-true}
+pub use lib.Bits.{and-le-l, and-le-r, bitAnd, bitOr, or-add-and}
 pub use lib.Dec.{eqb, leb, lit<, ltb}
 pub use lib.ListN.{List·getD-append, List·getD-eq-default, drop, drop-of-length-le, getD, getElem?, length, length-append, length-drop}
 pub use lib.ListN.{length-map, length-replicate, length-set, length-take, replicate, replicate-append-replicate, set, take}

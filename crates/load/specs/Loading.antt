@@ -1,9 +1,9 @@
 -- The answer to a load: document 01's number and values for every case of it.
-use Rattle.laws.specs.Kit.{ℕ, _+_, _*_, _≤_, _≡_, ap, _∙_, true, false, List, zero-add, length, replicate, take, drop, sets, sets-eq, take-append-seam}
-use Rattle.laws.specs.Says.{apart}
+use Rattle.laws.specs.Kit.{ℕ, _+_, _*_, _≤_, _≡_, ap, _∙_, true, false, List, zero-add, length, replicate, take, drop, sets, sets-eq}
+use Rattle.laws.specs.{Kit.{take-append-seam}, Says.{apart}}
 use Rattle.machine.specs.{Table.{State}, Answer.{damaged, broken}, Rules.{Rules}}
-use Rattle.table.specs.{declared.Core.{Core}, declared.Table.{Table}, Beginning.{freshTable}, Model.{modelOf, tableWith}, Sound.{SoundTable}}
-use Rattle.table.specs.Value.{all-cells, cell-width, entries, open-width}
+use Rattle.table.specs.{declared.Core.{Core}, declared.Table.{Table}, Beginning.{freshTable}, Model.{modelOf, tableWith}}
+use Rattle.table.specs.{Sound.{SoundTable}, Value.{all-cells, cell-width, entries, open-width}}
 use Rattle.image.specs.{Encode.{encode}, Load.{Loaded, refused, loaded, Loads, by-damage, by-rule, as-saved}}
 use Rattle.image.specs.Damage as whole
 use Rattle.load.specs.{declared.Outcome.{Outcome}, Link.ReadsBack.{ReadsRight}}

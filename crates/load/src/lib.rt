@@ -12,7 +12,7 @@ ghost use Rattle.table.specs.Beginning.{freshTable};
 ghost use Rattle.image.specs.Limits.{block-bytes, payload-at, payload-bytes, vector-bytes, cell-bytes, open-bytes};
 ghost use Rattle.image.specs.Encode.{encode};
 ghost use Rattle.image.specs.Decode.{placesIn, openPlace};
-ghost use Rattle.load.specs.Mirror.ImageRead.{wordAt, wordsFrom, bytesFrom, cellFrom, openFrom, deskFrom, deskFor, cellFor, Fits, Sized, CellsRead};
+ghost use Rattle.load.specs.Mirror.ImageRead.{wordAt, wordsFrom, bytesFrom, cellFrom, openFrom, deskFrom, deskFor, cellFor, Fits, SizesOf, CellsRead};
 ghost use Rattle.load.specs.Link.EntryEach.{OpensRead};
 ghost use Rattle.load.specs.Link.ReadsBack.{ReadAs};
 ghost use Rattle.load.specs.Loading.{Answers};
@@ -204,7 +204,7 @@ struct Sizes {
 
 // Row s of the cells, one of the n desks'.
 fn cell_or(b: &[u8], z: Sizes, s: usize) -> Cell
-    requires { ⌜ Sized (now b) z × (s < z .n * desk-cells) ⌝ }
+    requires { ⌜ SizesOf (now b) z × (s < z .n * desk-cells) ⌝ }
     ensures { λ r. ⌜ r ≡ cellFor (z .p) (now (b .entry)) (z .n) (z .m) s ⌝ }
 {
     let i = s / CELLS;
@@ -225,7 +225,7 @@ fn cell_or(b: &[u8], z: Sizes, s: usize) -> Cell
 
 // Into zeros: the rows past the n desks' stay.
 fn read_cells(b: &[u8], z: Sizes, cells: &mut Cells)
-    requires { ⌜ Sized (now b) z × (now cells ≡ freshTable 0 0 .cells) ⌝ }
+    requires { ⌜ SizesOf (now b) z × (now cells ≡ freshTable 0 0 .cells) ⌝ }
     ensures { λ _. ⌜ CellsRead (z .p) (now (b .entry)) (z .n) (z .m) (now (cells .exit)) ⌝ }
 {
     let end = z.n * CELLS;
@@ -239,7 +239,7 @@ fn read_cells(b: &[u8], z: Sizes, cells: &mut Cells)
 
 // Open write j of the image.
 fn open_of(b: &[u8], z: Sizes, j: usize) -> Open
-    requires { ⌜ Sized (now b) z × (j < z .count) ⌝ }
+    requires { ⌜ SizesOf (now b) z × (j < z .count) ⌝ }
     ensures { λ r. ⌜ r ≡ openFrom (z .p) (now (b .entry)) (openPlace (z .p) (z .n) (z .m) j) ⌝ }
 {
     let w = image::open_bytes(z.p);
@@ -263,7 +263,7 @@ fn number_of(o: Open) -> u16 {
 
 // Each goes into the entry where a search for it begins, or a free one behind that (any free one would do).
 fn read_opens(b: &[u8], z: Sizes, opens: &mut Opens)
-    requires { ⌜ Sized (now b) z × (now opens ≡ freshTable 0 0 .opens) ⌝ }
+    requires { ⌜ SizesOf (now b) z × (now opens ≡ freshTable 0 0 .opens) ⌝ }
     ensures { λ _. ⌜ OpensRead (z .p) (now (b .entry)) (z .n) (z .m) (z .count) (now (opens .exit)) ⌝ }
 {
     let count = z.count;
@@ -282,7 +282,7 @@ fn read_opens(b: &[u8], z: Sizes, opens: &mut Opens)
 // The sizes that an image tells of itself.
 fn sizes_of(b: &[u8]) -> Sizes
     requires { ⌜ Fits (placesIn (now b)) (now b) ⌝ }
-    ensures { λ r. ⌜ Sized (now (b .entry)) r ⌝ }
+    ensures { λ r. ⌜ SizesOf (now (b .entry)) r ⌝ }
 {
     let n = size(b[DESKS_AT]);
     let m = size(b[CELLS_AT]);

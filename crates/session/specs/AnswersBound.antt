@@ -11,8 +11,8 @@ use Rattle.machine.specs.Proofs.HeldCount.{held-few, fresh-held, Made, HeldCoun
 use Rattle.schedule.specs.{Grammar.{Line, begin-line, step-line, lineOf}, Lines.{LF}, LineFacts.{step-bytes}}
 use Rattle.answer.specs.{Bytes.{nameBytes, namesBytes, answerLine}, Link.NameLengths.{name-length, shown-length}}
 use Rattle.session.specs.{Session.{Session, Turn, turn, begun}, Transcript.{TextLine, textLine, ontoLine, linesOf, answersOf}}
-use Rattle.session.specs.Transcript.{sessionOf, printed, transcriptFrom, most-text, transcript}
-use Rattle.session.specs.{Link.SessionRules.{SessionKept, turn-kept}, LineBounds.{decimal-short, number-short}}
+use Rattle.session.specs.{Transcript.{sessionOf, printed, transcriptFrom, most-text, transcript}, Link.SessionRules.{SessionKept}}
+use Rattle.session.specs.{Link.SessionRules.{turn-kept}, LineBounds.{decimal-short, number-short}}
 
 -- the bytes of answers for each byte of text
 abbrev pub each-byte : ℕ

@@ -1,9 +1,8 @@
 -- The longest line of an answer follows from the limits: `A`, a name for each write that may be open, and the LF.
-use Rattle.laws.specs.Kit.{ℕ, suc, _+_, _-_, _*_, _≤_, _≡_, refl, Option, none, some, arith, length, length-append}
-use Rattle.laws.specs.Tab.{tab, tabFrom}
+use Rattle.laws.specs.{Kit.{ℕ, _+_, _-_, _*_, _≤_, _≡_, refl, Option, none, some, arith, length, length-append}, Tab.{tab, tabFrom}}
 use Rattle.text.specs.Number.{digits, decimal}
-use Rattle.machine.specs.{Table.{most-desks, most-writes, most-open, name, State}, Answer.{Answer, began, shows, wrote, holds, applies, judged}}
-use Rattle.machine.specs.{Answer.{refused, unset, shown, Yes, No, Unknown, no-size, no-step}, Steps.{step}, Rules.{Rules}}
+use Rattle.machine.specs.{Table.{most-desks, most-writes, most-open, name, State}, Answer.{Answer, began, shows, wrote, holds, applies}}
+use Rattle.machine.specs.{Answer.{judged, refused, unset, shown, Yes, No, Unknown, no-size, no-step}, Steps.{step}, Rules.{Rules}}
 use Rattle.machine.specs.{Proofs.RulesKept.{step-keeps-rules, at-most-64-applied}, Proofs.Refusals.{begin-cases}}
 use Rattle.machine.specs.Proofs.HeldCount.{HeldCounted, step-counted}
 use Rattle.schedule.specs.Grammar.{Line, begin-line, step-line}

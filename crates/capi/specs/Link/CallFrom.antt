@@ -1,6 +1,7 @@
 -- A call from a session: refused where something is too long or too short, else its answers are those of the first run and of the lines behind it.
-use Rattle.laws.specs.Kit.{_≡_, sym, ap, _∙_, List, [], _∷_, _++_, append-nil, Bool, _&&_, ℕ, _+_, _*_, _^_, _<_, _≤_, arith, leb, length, take}
-use Rattle.laws.specs.{Kit.{length-append, sets, length-take-le}, Loop.{cases}, Says.{Says, says-leb, says-both}, Stores.{sets-append}}
+use Rattle.laws.specs.Kit.{_≡_, sym, ap, _∙_, List, [], _∷_, _++_, append-nil, Bool, _&&_, ℕ, _+_, _*_, _^_, _<_, _≤_, arith, leb, length}
+use Rattle.laws.specs.{Kit.{take, length-append, sets, length-take-le}, Loop.{cases}, Says.{Says, says-leb, says-both}}
+use Rattle.laws.specs.Stores.{sets-append}
 use Rattle.table.specs.declared.Table.{Table}
 use Rattle.session.specs.{Session.{Session}, Transcript.{transcriptFrom, sessionFrom, most-text}, TranscriptLaws.{from-end, left-end}}
 use Rattle.session.specs.{Holds.{Holds}, Run.{Ran, ran-rest, ran-leaves, ran-part}}

@@ -1,5 +1,6 @@
-use Rattle.image.specs.{Limits.{payload-at, payload-bytes, cell-bytes, cells-in, editionOf, fit, piece-inside, first-inside}, Mirror.Block.{cellRaw, made}}
-use Rattle.image.specs.{Mirror.Block.{zeros-behind}, Mirror.TableBytes.{CellFor, cellPiece, length-cellPiece, cell-there, cell-past, one-more}}
+use Rattle.image.specs.Limits.{payload-at, payload-bytes, cell-bytes, cells-in, editionOf, fit, piece-inside, first-inside}
+use Rattle.image.specs.{Mirror.Block.{cellRaw, made, zeros-behind}, Mirror.TableBytes.{CellFor, cellPiece, length-cellPiece}}
+use Rattle.image.specs.Mirror.TableBytes.{cell-there, cell-past, one-more}
 use Rattle.laws.specs.{Cat.{cat, length-cat}, Kit.{ℕ, sets, _≡_, ap, _∙_, arith, mul-le-mul-left, _+_, _*_, _<_, _≤_, _-_, min, needs}}
 use Rattle.table.specs.Value.{desk-cells}
 use Rattle.image.proofs.cell_block.Statement.{statement}

@@ -1,4 +1,4 @@
-use Rattle.laws.specs.Kit.{arith, _∙_, needs}
+use Rattle.laws.specs.Kit.{_∙_, needs}
 use Rattle.image.proofs.per_desk.Statement.{statement}
 use Rattle.image.proofs.per_desk.Tie as tie
 

@@ -1,4 +1,5 @@
-use Rattle.laws.specs.{Says.{Says, says-as, clash}, Kit.{⊎-elim, List, length, getD, below-more, ext-getD, ap, arith, _≡_, refl, ℕ, _≤_, _<_, _-_, needs}}
+use Rattle.laws.specs.{Says.{Says, says-as, clash}, Kit.{⊎-elim, List, length, getD, below-more, ext-getD, ap, arith, _≡_, refl, ℕ, _≤_}}
+use Rattle.laws.specs.Kit.{_<_, _-_, needs}
 use Rattle.image.proofs.same.Statement.{statement}
 use Rattle.image.proofs.same.Tie as tie
 

@@ -1,7 +1,7 @@
-use Rattle.image.specs.{Limits.{block-bytes}, Damage.{blockIn}, Link.FieldPlaces.{blockAt, length-at}, Link.SavedIsImage.{planned-wide}}
-use Rattle.image.specs.Link.SavedIsImage.{blocks-same, same-block}
+use Rattle.image.specs.{Limits.{block-bytes}, Damage.{blockIn}, Link.FieldPlaces.{blockAt, length-at}}
+use Rattle.image.specs.Link.SavedIsImage.{planned-wide, blocks-same, same-block}
 use Rattle.laws.specs.{Cat.{part}, Says.{Says, apart, clash}, Kit.{below-more, length, length-take, length-drop, not-true, not-false}}
-use Rattle.laws.specs.Kit.{arith, _≡_, refl, sym, _∙_, ℕ, _<_, _≤_, _+_, _*_, _-_, needs}
+use Rattle.laws.specs.Kit.{arith, _≡_, refl, ℕ, _<_, _≤_, _+_, _*_, _-_, needs}
 use Rattle.table.specs.Model.{modelOf, tableWith}
 use Rattle.image.proofs.same_blocks.Statement.{statement}
 use Rattle.image.proofs.same_blocks.Tie as tie

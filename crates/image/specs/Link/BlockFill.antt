@@ -1,7 +1,8 @@
 -- Stores one after the other: what a loop that puts a piece each turn has put so far; and a block of zeros that is filled from its start on.
 use Rattle.laws.specs.Kit.{ℕ, zero, suc, _+_, _-_, _*_, _<_, _≤_, _≡_, sym, ap, _∙_, List, [], _∷_, _++_, append-assoc, append-nil}
 use Rattle.laws.specs.Kit.{add-zero, zero-add, arith, add-one, length, getD, set, take, drop, replicate, length-replicate, sets, sets-eq}
-use Rattle.laws.specs.{Kit.{take-suc, take-add, take-all, length-take-le}, Cat.{cat, part}, Tab.{tab, tab-more, length-tab}, Stores.{sets-append}}
+use Rattle.laws.specs.{Kit.{take-suc, take-add, take-all, length-take-le}, Cat.{cat, part}, Tab.{tab, tab-more, length-tab}}
+use Rattle.laws.specs.Stores.{sets-append}
 
 module _ {A : Type 0} where
   -- pieces by two counts, and row by row

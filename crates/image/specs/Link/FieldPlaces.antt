@@ -5,11 +5,11 @@ use Rattle.laws.specs.Kit.{length-append, length-replicate, mul-le-mul-left, mu
 use Rattle.laws.specs.{Kit.{add-zero}, Loop.{pick}, Cat.{cat, cat-same, part, part-right, part-left, part-cat, piece-cat, length-cat}}
 use Rattle.laws.specs.Each.{each-at, each-map}
 use Rattle.machine.specs.{Table.{State}, Steps.{openCount}}
-use Rattle.image.specs.{OpenNames.{names, OpenName, names-open}, Check.{checkOf}, Encode.{word, long, body, block, blockOf, openNamed}}
-use Rattle.image.specs.Encode.{blocks, deskBytes, cellPart, openPart, perDesk, openBlocks, block2, block3, block4, encodeAt}
-use Rattle.image.specs.{Fields.{length-desk, length-cell, length-open}, Link.BlockFill.{cat-plus, cat-rows}, Limits.{Wide, fit, piece-inside}}
-use Rattle.image.specs.Limits.{block-bytes, payload-at, check-at, payload-bytes, desk-bytes, cell-bytes, open-bytes, cells-in}
-use Rattle.image.specs.Limits.{opens-in, editionOf}
+use Rattle.image.specs.{OpenNames.{names, OpenName, names-open}, Check.{checkOf}, Encode.{word, long, body, block, blockOf}}
+use Rattle.image.specs.Encode.{openNamed, blocks, deskBytes, cellPart, openPart, perDesk, openBlocks, block2, block3, block4}
+use Rattle.image.specs.{Encode.{encodeAt}, Fields.{length-desk, length-cell, length-open}, Link.BlockFill.{cat-plus, cat-rows}}
+use Rattle.image.specs.Limits.{Wide, fit, piece-inside, block-bytes, payload-at, check-at, payload-bytes, desk-bytes, cell-bytes}
+use Rattle.image.specs.Limits.{open-bytes, cells-in, opens-in, editionOf}
 
 pub pick-has : {A : Type 0} (P : A → Type 0) (b : Bool) {x y : A} → P x → P y → P (pick b x y)
 pick-has P true h g = h

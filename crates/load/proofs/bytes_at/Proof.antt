@@ -1,5 +1,5 @@
 use Rattle.load.specs.Mirror.ImageRead.{fill-zeros}
-use Rattle.laws.specs.{Tab.{tab, fill-start, fill-more}, Kit.{length, replicate, getD, drop, arith, _++_, _≡_, _∙_, _≤_, _-_, _+_, needs}}
+use Rattle.laws.specs.{Tab.{tab, fill-start, fill-more}, Kit.{replicate, getD, drop, arith, _++_, _≡_, _∙_, _≤_, _-_, _+_, needs}}
 use Rattle.clock.specs.Vectors.{places}
 use Rattle.load.proofs.bytes_at.Statement.{statement}
 use Rattle.load.proofs.bytes_at.Tie as tie

@@ -1,4 +1,4 @@
-use Rattle.laws.specs.{Tab.{tab, fill-start, fill-more, fill-end}, Kit.{_≡_, _∙_, _≤_, _-_, _++_, arith, length, drop, sym, ap, needs}}
+use Rattle.laws.specs.{Tab.{tab, fill-start, fill-more, fill-end}, Kit.{_≡_, _∙_, _≤_, _-_, _++_, arith, length, drop, needs}}
 use Rattle.load.specs.Mirror.ImageRead.{zeros-tab}
 use Rattle.load.proofs.clear.Statement.{statement}
 use Rattle.load.proofs.clear.Tie as tie

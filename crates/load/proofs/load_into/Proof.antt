@@ -1,4 +1,5 @@
-use Rattle.load.specs.{Loading.{damaged-so, broken-so, not-held, zeros-so, cleared-cells, cleared-opens}, Link.ReadsBack.{fits-so, reads-right}}
+use Rattle.load.specs.{Loading.{damaged-so, broken-so, not-held, zeros-so, cleared-cells, cleared-opens}, Link.ReadsBack.{fits-so}}
+use Rattle.load.specs.Link.ReadsBack.{reads-right}
 use Rattle.laws.specs.{Says.{apart}, Kit.{not-true, not-false, _∙_, sym, needs}}
 use Rattle.load.proofs.load_into.Statement.{statement}
 use Rattle.load.proofs.load_into.Tie as tie

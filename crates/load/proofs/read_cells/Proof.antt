@@ -1,6 +1,6 @@
 use Rattle.load.specs.Mirror.ImageRead.{cellFor, noCell, cells-more, cells-left, cells-all, zero-row}
 use Rattle.table.specs.{Value.{desk-cells, all-cells, cell-width, cellAt}, Beginning.{freshTable}}
-use Rattle.laws.specs.Kit.{arith, _≡_, _∙_, ap, List, ℕ, _≤_, _<_, _*_, _+_, _-_, needs}
+use Rattle.laws.specs.Kit.{arith, _≡_, _∙_, ap, List, ℕ, _≤_, _<_, _*_, _-_, needs}
 use Rattle.load.proofs.read_cells.Statement.{statement}
 use Rattle.load.proofs.read_cells.Tie as tie
 

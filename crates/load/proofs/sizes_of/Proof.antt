@@ -1,6 +1,5 @@
-use Rattle.laws.specs.Kit.{sym, _∙_, ap, needs}
+use Rattle.laws.specs.Kit.{_∙_, ap, needs}
 use Rattle.image.specs.Limits.{placesFor}
-use Rattle.load.specs.Mirror.ImageRead.{Fits}
 use Rattle.load.proofs.sizes_of.Statement.{statement}
 use Rattle.load.proofs.sizes_of.Tie as tie
 

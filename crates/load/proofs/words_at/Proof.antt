@@ -1,5 +1,5 @@
 use Rattle.load.specs.Mirror.ImageRead.{wordAt, fill-zeros}
-use Rattle.laws.specs.{Tab.{tab, fill-start, fill-more}, Kit.{length, replicate, drop, arith, _++_, _≡_, _∙_, _≤_, _-_, _+_, _*_, needs}}
+use Rattle.laws.specs.{Tab.{tab, fill-start, fill-more}, Kit.{replicate, drop, arith, _++_, _≡_, _∙_, _≤_, _-_, _+_, _*_, needs}}
 use Rattle.clock.specs.Vectors.{places}
 use Rattle.load.proofs.words_at.Statement.{statement}
 use Rattle.load.proofs.words_at.Tie as tie

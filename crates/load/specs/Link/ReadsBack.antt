@@ -1,8 +1,8 @@
 -- What the code reads of an image that a table has is that table.
 use Rattle.laws.specs.Kit.{ℕ, zero, suc, _+_, _-_, _*_, _/_, _%_, _<_, _≤_, _≡_, refl, sym, ap, _∙_, fun-ext, true, not, List, Option, none}
 use Rattle.laws.specs.Kit.{some, arith, decLt, ltb-true, lt-ltb, le-ltb, ne-eqb, ltb, getD, replicate, length-replicate, take-all}
-use Rattle.laws.specs.{Kit.{div-add-mod, mod-lt, le-refl}, Loop.{cases}, Says.{apart, clash}, FromOne.{from1, from1-is}}
-use Rattle.laws.specs.{Tab.{tab, getD-tab, getD-tab-out}, Each.{each-in}, Cat.{part}}
+use Rattle.laws.specs.{Kit.{div-add-mod, mod-lt, le-refl}, Loop.{cases}, Says.{apart, clash}, FromOne.{from1, from1-is}, Tab.{tab}}
+use Rattle.laws.specs.{Tab.{getD-tab, getD-tab-out}, Each.{each-in}, Cat.{part}}
 use Rattle.clock.specs.Vectors.{places}
 use Rattle.machine.specs.Table as machine
 use Rattle.machine.specs.{Table.{State, Vec, zeros, Name, name}, Steps.{isNone, isOpen, openCount}, Rules.{In, Rules}}
@@ -15,8 +15,8 @@ use Rattle.image.specs.{OpenNames.{names, no-name, length-names, OpenName, name
 use Rattle.image.specs.{Encode.{cellPart, cellBytes, encodeAt, encode}, Link.FieldPlaces.{length-encode, part-3}, Fields.{zero-words}}
 use Rattle.image.specs.{Fields.{vec-words, vecOf, cellRead, writerIn, numberIn}, Decode.{nIn, mIn, countIn, deskPlace, cellPlace}}
 use Rattle.image.specs.Decode.{openPlace, deskIn, cellIn, n-back, m-back, count-back, applied-back, clock-back, cell-back, shows-at}
-use Rattle.image.specs.{Decode.{open-name, placesIn}, Limits.{placesFor, wide-for, desks-placed, Wide, some-cells, block-of, vector-at, vector-bytes, after-vector, cell-bytes}}
-use Rattle.image.specs.{Limits.{open-bytes, cells-in}, Link.BlockFill.{drop-replicate}}
+use Rattle.image.specs.{Decode.{open-name, placesIn}, Limits.{placesFor, wide-for, desks-placed, Wide, some-cells, block-of, vector-at}}
+use Rattle.image.specs.{Limits.{vector-bytes, after-vector, cell-bytes, open-bytes, cells-in}, Link.BlockFill.{drop-replicate}}
 use Rattle.load.specs.{Link.EntryEach.{Spread, OpensRead}, Mirror.ImageRead.{cellFrom, openFrom, deskFrom, noDesk, deskFor, cellFor}}
 use Rattle.load.specs.Mirror.ImageRead.{Fits, CellsRead, for-cases, getD-part, part-of-part, place-words, cell-read, open-read}
 

@@ -1,17 +1,17 @@
 -- The fields of an image as the code reads them: the code's desk, cell and open write from a place on.
-use Rattle.laws.specs.Kit.{ℕ, zero, suc, _+_, _*_, _/_, _%_, _<_, _≤_, _-_, _≡_, refl, sym, ap, _∙_, false, List, [], _∷_, _++_, arith, decLt}
-use Rattle.laws.specs.Kit.{ltb-true, le-ltb, ltb, mul-le-mul, mul-le-mul-left, mod-lt, length, getD, take, drop, replicate, getD-take, getD-drop}
-use Rattle.laws.specs.{Kit.{take-take, drop-drop, List·getD-append, getD-append-add, ext-getD, length-replicate}, Loop.{pick, cases}, Says.{Says, clash}, Update.{same-or}, FromOne.{from1-is}}
-use Rattle.laws.specs.{Tab.{tab, getD-tab, length-tab}, Cat.{part}}
-use Rattle.laws.specs.Rows.{numbersFrom, length-part, part-at}
-use Rattle.table.specs.Beginning.{zeros-at}
+use Rattle.laws.specs.Kit.{ℕ, zero, suc, _+_, _*_, _/_, _%_, _<_, _≤_, _-_, _≡_, refl, sym, ap, _∙_, false, List, [], _∷_, _++_, arith}
+use Rattle.laws.specs.Kit.{decLt, ltb-true, le-ltb, ltb, mul-le-mul, mul-le-mul-left, mod-lt, length, getD, take, drop, replicate}
+use Rattle.laws.specs.Kit.{getD-take, getD-drop, take-take, drop-drop, List·getD-append, getD-append-add, ext-getD, length-replicate}
+use Rattle.laws.specs.{Loop.{pick, cases}, Says.{Says, clash}, Update.{same-or}, FromOne.{from1-is}, Tab.{tab, getD-tab, length-tab}}
+use Rattle.laws.specs.{Cat.{part}, Rows.{numbersFrom, length-part, part-at}}
+use Rattle.table.specs.{Beginning.{zeros-at}, declared.Cell.{Cell}, declared.Desk.{Desk}, declared.Open.{Open}, Value.{desk-cells}}
+use Rattle.table.specs.{Value.{all-cells, cellAt, cellAt-put, cellAt-other, cellOf, cell-width, entries, CellPut}, Model.{cellM, openM}}
 use Rattle.clock.specs.Vectors.{places, place, clockOf}
 use Rattle.load.specs.declared.Sizes.{Sizes}
-use Rattle.table.specs.{declared.Cell.{Cell}, declared.Desk.{Desk}, declared.Open.{Open}, Value.{desk-cells, all-cells, cellAt, cellAt-put}}
-use Rattle.table.specs.{Value.{cellAt-other, cellOf, cell-width, entries, CellPut}, Model.{cellM, openM}}
-use Rattle.image.specs.{Encode.{perDesk, blocksOf}, Link.BlockFill.{drop-replicate}, Fields.{vecOf, marksOf, cellRead, openRead}, Decode.{nIn, mIn, countIn, deskPlace, cellPlace}}
-use Rattle.image.specs.{Decode.{placesIn, openPlace}, Limits.{Wide, wide, fit, some-cells, some-opens, block-of, few-for, block-bytes}}
-use Rattle.image.specs.Limits.{payload-at, payload-bytes, vector-at, vector-bytes, after-vector, cell-bytes, open-bytes, cells-in, opens-in, blocks-for}
+use Rattle.image.specs.{Encode.{perDesk, blocksOf}, Link.BlockFill.{drop-replicate}, Fields.{vecOf, marksOf, cellRead, openRead}}
+use Rattle.image.specs.{Decode.{nIn, mIn, countIn, deskPlace, cellPlace, placesIn, openPlace}, Limits.{Wide, wide, fit, some-cells}}
+use Rattle.image.specs.Limits.{some-opens, block-of, few-for, block-bytes, payload-at, payload-bytes, vector-at, vector-bytes, after-vector}
+use Rattle.image.specs.Limits.{cell-bytes, open-bytes, cells-in, opens-in, blocks-for}
 
 abbrev pub wordAt : List ℕ → ℕ → ℕ
 wordAt b p = getD b p 0 + 256 * getD b (p + 1) 0
@@ -43,23 +43,23 @@ unfolding part
 part-of-part b p q v w h = part-head (drop p b) q v w h ∙ rw (drop-drop q p b)
 
 -- an array whose first ps places were filled
-unfoldable pub filled : ℕ → (ℕ → ℕ) → List ℕ
-filled ps f = tab ps f ++ replicate (places - ps) 0
+unfoldable pub padded : ℕ → (ℕ → ℕ) → List ℕ
+padded ps f = tab ps f ++ replicate (places - ps) 0
 
 -- as a loop fills zeros
-pub fill-zeros : (ps : ℕ) (f : ℕ → ℕ) → ps ≤ places → tab ps f ++ drop ps (replicate places 0) ≡ filled ps f
-unfolding filled
+pub fill-zeros : (ps : ℕ) (f : ℕ → ℕ) → ps ≤ places → tab ps f ++ drop ps (replicate places 0) ≡ padded ps f
+unfolding padded
 fill-zeros ps f h =
     let e : places ≡ ps + (places - ps) = omega arith in
     ap (λ (r : List ℕ). tab ps f ++ r) (ap (λ (k : ℕ). drop ps (replicate {A = ℕ} k 0)) e ∙ drop-replicate {A = ℕ} ps (places - ps) 0)
 
-filled-at : (ps : ℕ) (f : ℕ → ℕ) (t : ℕ) → t < ps → getD (filled ps f) t 0 ≡ f t
-unfolding filled
-filled-at ps f t h = List·getD-append (tab ps f) (replicate (places - ps) 0) 0 t (omega (arith, length-tab f ps)) ∙ getD-tab f ps t 0 h
+padded-at : (ps : ℕ) (f : ℕ → ℕ) (t : ℕ) → t < ps → getD (padded ps f) t 0 ≡ f t
+unfolding padded
+padded-at ps f t h = List·getD-append (tab ps f) (replicate (places - ps) 0) 0 t (omega (arith, length-tab f ps)) ∙ getD-tab f ps t 0 h
 
-filled-past : (ps : ℕ) (f : ℕ → ℕ) (t : ℕ) → ps ≤ t → getD (filled ps f) t 0 ≡ 0
-unfolding filled
-filled-past ps f t h =
+padded-past : (ps : ℕ) (f : ℕ → ℕ) (t : ℕ) → ps ≤ t → getD (padded ps f) t 0 ≡ 0
+unfolding padded
+padded-past ps f t h =
     let e : t ≡ length (tab ps f) + (t - ps) = omega (arith, length-tab f ps) in
     rw e (getD-append-add (tab ps f) (replicate (places - ps) 0) (t - ps) 0 ∙ zeros-at (places - ps) (t - ps))
 
@@ -83,10 +83,10 @@ zero-row n s = ap cellOf (numbers-zero n (s * cell-width) cell-width) ∙ (λ j.
 module _ (ps : ℕ) where
   -- ps numbers of 16 bits; ps of a byte
   abbrev pub wordsFrom : List ℕ → ℕ → List ℕ
-  wordsFrom b p = filled ps (λ t. wordAt b (p + 2 * t))
+  wordsFrom b p = padded ps (λ t. wordAt b (p + 2 * t))
 
   abbrev pub bytesFrom : List ℕ → ℕ → List ℕ
-  bytesFrom b p = filled ps (λ t. getD b (p + t) 0)
+  bytesFrom b p = padded ps (λ t. getD b (p + t) 0)
 
   abbrev pub cellFrom : List ℕ → ℕ → Cell
   cellFrom b p = record { writer = getD b p 0; status = getD b (p + 1) 0; vector = wordsFrom b (p + vector-at) }
@@ -201,9 +201,9 @@ module _ (ps : ℕ) where
 
   -- what is read is what the definitions of document 01's fields read --
 
-  place-past : (f : ℕ → ℕ) (t : ℕ) → (1 ≤ t → t ≤ ps → ⊥) → place (filled ps f) t ≡ 0
+  place-past : (f : ℕ → ℕ) (t : ℕ) → (1 ≤ t → t ≤ ps → ⊥) → place (padded ps f) t ≡ 0
   place-past f zero o = refl
-  place-past f (suc t) o = filled-past ps f t (past (decLt t ps))
+  place-past f (suc t) o = padded-past ps f t (past (decLt t ps))
     where
       past : Dec (t < ps) → ps ≤ t
       past (yes h) = absurd (o (omega arith) h)
@@ -216,14 +216,14 @@ module _ (ps : ℕ) where
       (λ t h.
       let e0 : p + (2 * t + 0) ≡ p + 2 * t = omega arith in
       let e1 : p + (2 * t + 1) ≡ p + 2 * t + 1 = omega arith in
-      rw (filled-at ps (λ t. wordAt b (p + 2 * t)) t h, getD-part b p (vector-bytes ps) (2 * t + 0) (omega arith), getD-part b p (vector-bytes ps) (2 * t + 1) (omega arith), e0, e1))
+      rw (padded-at ps (λ t. wordAt b (p + 2 * t)) t h, getD-part b p (vector-bytes ps) (2 * t + 0) (omega arith), getD-part b p (vector-bytes ps) (2 * t + 1) (omega arith), e0, e1))
       (place-past (λ t. wordAt b (p + 2 * t))))
 
   pub place-bytes : (b : List ℕ) (p : ℕ) → place (bytesFrom b p) ≡ marksOf ps (part p ps b)
   unfolding marksOf
   place-bytes b p =
       sym (from1-is 0 ps (λ t. getD (part p ps b) t 0) (place (bytesFrom b p))
-      (λ t h. rw (filled-at ps (λ t. getD b (p + t) 0) t h, getD-part b p ps t h))
+      (λ t h. rw (padded-at ps (λ t. getD b (p + t) 0) t h, getD-part b p ps t h))
       (place-past (λ t. getD b (p + t) 0)))
 
   pub cell-read : (b : List ℕ) (p : ℕ) → cellM (cellFrom b p) ≡ cellRead ps (part p (cell-bytes ps) b)
@@ -238,7 +238,7 @@ module _ (ps : ℕ) where
       rw (place-words b (p + vector-at), place-bytes b (p + after-vector ps), getD-part b p (open-bytes ps) 1 (omega arith), getD-part b p (open-bytes ps) 2 (omega arith), part-of-part b p vector-at (vector-bytes ps) (open-bytes ps) (omega arith), part-of-part b p (after-vector ps) ps (open-bytes ps) (omega arith))
 
 -- the sizes that the code goes by are those of the image
-pub record Sized (b : List ℕ) (z : Sizes) : Type 0 where
+pub record SizesOf (b : List ℕ) (z : Sizes) : Type 0 where
   pub p-is : z .p ≡ placesIn b
   pub most : z .p ≤ places
   pub fits : Fits (z .p) b

@@ -1,5 +1,5 @@
 use Rattle.laws.specs.Kit.{sym, _∙_, _&&_, needs}
-use Rattle.rules.specs.{Mirror.{Test.{allCells}, Parts.{usedMarks}}, Link.CodeLaws.{and-is, given-yes, given-no}}
+use Rattle.rules.specs.{Mirror.Test.{allCells}, Mirror.Parts.{usedMarks}, Link.CodeLaws.{and-is, given-yes, given-no}}
 use Rattle.rules.proofs.desk_ok.Statement.{statement}
 use Rattle.rules.proofs.desk_ok.Tie as tie
 

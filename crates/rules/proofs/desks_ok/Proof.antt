@@ -1,5 +1,5 @@
 use Rattle.laws.specs.Kit.{_∙_, needs}
-use Rattle.rules.specs.Link.{CodeLaws.{and-is}, PartsAreAll.{parts-are-all}}
+use Rattle.rules.specs.{Link.CodeLaws.{and-is}, Link.PartsAreAll.{parts-are-all}}
 use Rattle.rules.proofs.desks_ok.Statement.{statement}
 use Rattle.rules.proofs.desks_ok.Tie as tie
 

@@ -1,7 +1,7 @@
 -- Laws that the code cites.
-use lib.Bits.{bitOr, bitAnd, or-add-and, and-le-l, and-le-r}
-use Rattle.laws.specs.Kit.{ℕ, zero, suc, _+_, _<_, _≤_, _≡_, refl, sym, ap, _∙_, List, Option, none, some, Bool, true, false, not, arith, getD}
-use Rattle.laws.specs.{Kit.{_&&_, eqb, eq-eqb, eqb-true}, Loop.{pick}, Says.{Says, apart}, Update.{same-or}}
+use Rattle.laws.specs.Kit.{bitOr, bitAnd, or-add-and, and-le-l, and-le-r, ℕ, zero, suc, _+_, _<_, _≤_, _≡_, refl, sym, ap, _∙_, List}
+use Rattle.laws.specs.{Kit.{Option, none, some, Bool, true, false, not, arith, getD, _&&_, eqb, eq-eqb, eqb-true}, Loop.{pick}, Says.{Says}}
+use Rattle.laws.specs.{Says.{apart}, Update.{same-or}}
 use Rattle.machine.specs.{Steps.{isNone, begins}, Table.{most-writes}}
 use Rattle.clock.specs.Vectors.{places}
 use Rattle.machine.specs.Table as machine

@@ -1,14 +1,13 @@
 -- The parts that the code computes are the test of all desks.
-use Rattle.laws.specs.Kit.{ℕ, zero, suc, _+_, _*_, _/_, _%_, _<_, _≤_, _≡_, sym, ap, _∙_, List, false, arith, leb-true, leb-false, eqb-true}
-use Rattle.laws.specs.Kit.{eqb-false, ltb-true, ltb-false, lt-ltb, le-ltb, length, getD, leb, ltb, eqb}
-use Rattle.laws.specs.{Loop.{cases}, Tab.{getD-tab}, Rows.{part-at}, Says.{says-as, says-one}}
+use Rattle.laws.specs.Kit.{ℕ, zero, suc, _+_, _*_, _/_, _%_, _<_, _≤_, _≡_, sym, ap, _∙_, List, arith, leb-true, leb-false, eqb-true}
+use Rattle.laws.specs.{Kit.{eqb-false, ltb-true, ltb-false, lt-ltb, le-ltb, length, getD, leb, ltb, eqb}, Loop.{cases}, Tab.{getD-tab}}
+use Rattle.laws.specs.{Rows.{part-at}, Says.{says-as, says-one}}
 use Rattle.machine.specs.Table.{away, done}
 use Rattle.clock.specs.Vectors.{places, place}
 use Rattle.table.specs.{declared.Cell.{Cell}, declared.Desk.{Desk}, declared.Open.{Open}, Value.{desk0, desk-cells, all-cells, cell-width}}
-use Rattle.table.specs.{Value.{entries, cellAt, full-cellAt, cell-writer, cell-status, cell-vector, openAt, isFree}, EntryNames.{entryNumber}}
-use Rattle.rules.specs.Mirror.Test.{countsTest, cellTest, allCells, liveMark, markTest, allMarks, allDesks}
-use Rattle.rules.specs.Mirror.Parts.{usedMark, usedMarks, usedDesk, usedDesks, mostAt, mostMarks, limitTest, allLimits, partsTest}
-use Rattle.rules.specs.Link.ArrayLimits.{flat-place}
+use Rattle.table.specs.{Value.{cellAt, full-cellAt, cell-writer, cell-status, cell-vector, openAt}, EntryNames.{entryNumber}}
+use Rattle.rules.specs.{Mirror.Test.{cellTest, allCells, liveMark, markTest, allMarks, allDesks}, Mirror.Parts.{usedMark, usedMarks}}
+use Rattle.rules.specs.{Mirror.Parts.{usedDesks, mostAt, mostMarks, limitTest, allLimits, partsTest}, Link.ArrayLimits.{flat-place}}
 
 -- a row of zeros, by its numbers and as a cell --
 

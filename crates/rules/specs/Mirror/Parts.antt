@@ -1,7 +1,7 @@
 -- The test of the desks in the parts that the code computes: desk by desk its counts, and its cells and marks where it is in use; past n
 -- the numbers of the cells as one run, and entry by entry the marks. (That it is the same test: Link/PartsAreAll.antt.)
-use Rattle.laws.specs.Kit.{ℕ, _+_, _-_, _*_, _<_, _≤_, _≡_, List, arith, eq-eqb, eqb-true, length, getD, eqb, ltb}
-use Rattle.laws.specs.{Loop.{pick}, All.{all, all-at, all-true}, Tab.{tab}, Says.{Says}, Tests.{Test, lt, both, given, unless, upto}}
+use Rattle.laws.specs.{Kit.{ℕ, _-_, _*_, _<_, _≤_, _≡_, List, arith, eq-eqb, eqb-true, length, getD, eqb, ltb}, Loop.{pick}, All.{all}}
+use Rattle.laws.specs.{All.{all-at, all-true}, Tab.{tab}, Says.{Says}, Tests.{Test, lt, both, given, unless, upto}}
 use Rattle.machine.specs.Table.{away, done}
 use Rattle.clock.specs.Vectors.{places}
 use Rattle.table.specs.{declared.Desk.{Desk}, declared.Open.{Open}, Value.{desk0, desk-cells, cell-width, entries, openAt, isFree}}
