@@ -42,6 +42,7 @@ fn number(r: Refusal) -> u16
         Refusal::Damaged => 12,
         Refusal::Broken => 13,
         Refusal::Short => 14,
+        Refusal::WrongLength => 15,
     }
 }
 

@@ -1,11 +1,7 @@
--- What 12 is given for: "image length not a nonzero multiple of 512, or a block check wrong". No saved image is damaged.
-use Rattle.laws.specs.Kit.{ℕ, _+_, _*_, _/_, _%_, _<_, _≤_, _≡_, Bool, false, _&&_, List, arith, lt-leb, le-leb, eq-eqb, ne-eqb, eqb, leb}
-use Rattle.laws.specs.{Kit.{length, getD, getD-append-add}, Loop.{cases}, All.{all}, Says.{Says, says-leb, says-eqb, says-all, says-as}}
-use Rattle.laws.specs.{Says.{says-both}, Cat.{part}}
-use Rattle.machine.specs.Table.{State}
-use Rattle.image.specs.{Check.{checkOf, check-first}, Encode.{long, body, block, encodeAt}, Link.FieldPlaces.{length-encode}}
-use Rattle.image.specs.{Link.FieldPlaces.{length-body, block-at, every-block}, Limits.{Wide, editionOf, block-bytes, check-at}}
-use Rattle.image.specs.Limits.{payload-bytes}
+-- What 15 and 12 are given for: "image length not a nonzero multiple of 512", and "a block check wrong".
+use Rattle.laws.specs.Kit.{ℕ, _+_, _*_, _/_, _%_, _<_, _≤_, _≡_, Bool, false, _&&_, List, arith, eqb, leb, length, getD}
+use Rattle.laws.specs.{Says.{Says, clash, says-leb, says-eqb, says-as, says-both}, Cat.{part}, FirstNot.{firstNot, FirstNot, first-found}}
+use Rattle.image.specs.{Check.{checkOf}, Limits.{block-bytes, check-at}}
 
 -- bytes 508-511 of a block
 unfoldable pub checkIn : List ℕ → ℕ
@@ -15,63 +11,51 @@ checkIn l = getD l check-at 0 + 256 * getD l (check-at + 1) 0 + 65536 * getD l (
 abbrev pub blockIn : List ℕ → ℕ → List ℕ
 blockIn b k = part (block-bytes * k) block-bytes b
 
--- its check is right
+-- "The block count is that of the bytes handed in" (READINGS 20)
+abbrev pub blocksIn : List ℕ → ℕ
+blocksIn b = length b / block-bytes
+
+-- a block's check is right
 abbrev pub Right : List ℕ → Type 0
 Right l = checkIn l ≡ checkOf l
 
-pub record Undamaged (b : List ℕ) : Type 0 where
+abbrev pub RightAt : List ℕ → ℕ → Type 0
+RightAt b k = Right (blockIn b k)
+
+-- the length is "a nonzero multiple of 512", else 15
+pub record WholeBlocks (b : List ℕ) : Type 0 where
   pub nonzero : 1 ≤ length b
   pub multiple : length b % block-bytes ≡ 0
-  pub checks : (k : ℕ) → k < length b / block-bytes → Right (blockIn b k)
 
-abbrev pub Damaged : List ℕ → Type 0
-Damaged b = Undamaged b → ⊥
+-- and every check is right, else 12
+pub record Undamaged (b : List ℕ) : Type 0 where
+  pub whole : WholeBlocks b
+  pub checks : (k : ℕ) → k < blocksIn b → RightAt b k
 
-abbrev pub rightCheck : List ℕ → Bool
-rightCheck l = eqb (checkIn l) (checkOf l)
+-- as tests
+unfoldable pub wholeBlocks : List ℕ → Bool
+wholeBlocks b = leb 1 (length b) && eqb (length b % block-bytes) 0
 
--- as a test
-unfoldable pub sound : List ℕ → Bool
-sound b =
-    leb 1 (length b) && (eqb (length b % block-bytes) 0 && all (λ k. rightCheck (blockIn b k)) (length b / block-bytes) 0)
+pub says-whole : (b : List ℕ) → Says (wholeBlocks b) (WholeBlocks b)
+unfolding wholeBlocks
+says-whole b =
+    says-as (wholeBlocks b) (says-both _ _ (says-leb 1 (length b)) (says-eqb (length b % block-bytes) 0))
+    (λ h. record { nonzero = h .0; multiple = h .1 }) (λ h. (h .nonzero, h .multiple))
 
-pub says-sound : (b : List ℕ) → Says (sound b) (Undamaged b)
-unfolding sound
-says-sound b =
-    says-as (sound b)
-    (says-both _ _ (says-leb 1 (length b)) (says-both _ _ (says-eqb (length b % block-bytes) 0)
-    (says-all _ (length b / block-bytes) (λ k _. says-eqb (checkIn (blockIn b k)) (checkOf (blockIn b k))))))
-    (λ h. record { nonzero = h .0; multiple = h .1 .0; checks = h .1 .1 })
-    (λ h. (h .nonzero, (h .multiple, h .checks)))
+-- as the code tests it
+pub no-bytes : (b : List ℕ) → length b ≡ 0 → Says false (WholeBlocks b)
+no-bytes b e = record { to = λ z. clash z; from = λ h. absurd (omega (arith, h .nonzero)) }
 
-right-block : (edition kind place : ℕ) (l : List ℕ) → length l ≤ payload-bytes → Right (block edition kind place l)
-unfolding checkIn block
-right-block edition kind place l h =
-    let b = body edition kind place l in
-    let e = length-body edition kind place l h in
-    let c = checkOf b in
-    let tail = getD-append-add b (long c) in
-    rw (check-first b (long c) e, rw e at (tail 0 0), rw e at (tail 1 0), rw e at (tail 2 0), rw e at (tail 3 0)) (omega arith)
+pub by-multiple : (b : List ℕ) → (length b ≡ 0 → ⊥) → Says (eqb (length b % block-bytes) 0) (WholeBlocks b)
+by-multiple b f =
+    says-as (eqb (length b % block-bytes) 0) (says-eqb (length b % block-bytes) 0) (λ h. record { nonzero = omega arith; multiple = h }) (λ h. h .multiple)
 
--- a saved image has a length that is a nonzero multiple of 512, and every block's check is right
-pub sound-encode : (ps : ℕ) → Wide ps → (s : State) → Undamaged (encodeAt ps s)
-sound-encode ps wd s =
-    let e = length-encode ps wd s in
-    record {
-      nonzero = omega arith;
-      multiple = rw e (omega arith);
-      checks = λ k h. rw (block-at ps wd s k (omega arith)) (every-block ps wd s Right (right-block (editionOf ps)) k);
-    }
+-- "the place of the first bad block, counted from 0"; the block count where there is none
+abbrev pub firstWrong : List ℕ → ℕ
+firstWrong b = firstNot (λ k. eqb (checkIn (blockIn b k)) (checkOf (blockIn b k))) (blocksIn b)
 
--- the test as the code makes it: no byte; no multiple; a block after the other
-pub sound-none : (b : List ℕ) → length b ≡ 0 → sound b ≡ false
-unfolding sound
-sound-none b e = rw (lt-leb 1 (length b) (omega arith))
+pub says-right : (b : List ℕ) (k : ℕ) → k < blocksIn b → Says (eqb (checkIn (blockIn b k)) (checkOf (blockIn b k))) (RightAt b k)
+says-right b k _ = says-eqb (checkIn (blockIn b k)) (checkOf (blockIn b k))
 
-pub sound-odd : (b : List ℕ) → (length b % block-bytes ≡ 0 → ⊥) → sound b ≡ false
-unfolding sound
-sound-odd b e = rw (ne-eqb (length b % block-bytes) 0 e) (cases (leb 1 (length b)) (λ t. rw t) (λ t. rw t))
-
-pub sound-start : (b : List ℕ) → (length b ≡ 0 → ⊥) → length b % block-bytes ≡ 0 → all (λ k. rightCheck (blockIn b k)) (length b / block-bytes) 0 ≡ sound b
-unfolding sound
-sound-start b z e = rw (le-leb 1 (length b) (omega arith), eq-eqb (length b % block-bytes) 0 e)
+pub first-wrong : (b : List ℕ) → FirstNot (RightAt b) (blocksIn b) (firstWrong b)
+first-wrong b = first-found _ (says-right b)

@@ -1,12 +1,13 @@
 -- Document 02, T-06: the two editions of an image. Which one a table has, what it holds at most, that all its blocks tell it, and that an old
 -- program takes no image of edition 2.
-use Rattle.laws.specs.Kit.{ℕ, _/_, _<_, _≤_, _≡_, _≢_, refl, sym, ap, _∙_, List, arith, decLe, le-leb, lt-leb, length, getD}
-use Rattle.machine.specs.{Table.{State}, Answer.{broken}, Rules.{Rules}}
+use Rattle.laws.specs.Kit.{ℕ, _<_, _≤_, _≡_, _≢_, refl, sym, ap, _∙_, List, arith, decLe, le-leb, lt-leb, length, getD}
+use Rattle.machine.specs.{Table.{State}, Rules.{Rules}}
 use Rattle.image.specs.{Check.{Bytes}, Encode.{block, blocks, encodeAt, encode}, Decode.{nIn, n-back}, ImageSize.{most-blocks}}
-use Rattle.image.specs.{ImageSize.{bytes-encode}, Damage.{blockIn, Undamaged}, Load.{image-sound, refused, loaded, load, load-13}}
-use Rattle.image.specs.{Load.{load-is, encode-load}, Link.FieldPlaces.{length-encode, block-at, every-block}, Limits.{narrow, broad}}
-use Rattle.image.specs.Limits.{placesFor, editionOf, edition-1, edition-2, desks-placed, one-edition, Wide, wide, wide-for}
-use Rattle.image.specs.Limits.{image-bytes, block-bytes}
+use Rattle.image.specs.{ImageSize.{bytes-encode}, Damage.{blockIn, blocksIn, Undamaged}, Load.{rule-fault, refused, loaded, load}}
+use Rattle.image.specs.{Load.{NoImage, load-13, other-rules, load-is, encode-load}, Stands.{toldEdition, StandsAt, firstMisplaced}}
+use Rattle.image.specs.{Stands.{first-misplaced}, Link.EachBlock.{image-sound}, Link.FieldPlaces.{length-encode, block-at, every-block}}
+use Rattle.image.specs.Limits.{narrow, broad, placesFor, editionOf, edition-1, edition-2, desks-placed, one-edition, Wide, wide, wide-for}
+use Rattle.image.specs.Limits.{image-bytes}
 
 -- "Tables with n up to 8 save in edition 1, byte for byte as today. Larger ones save in edition 2"
 pub saves-narrow : (s : State) → s .setup .desks ≤ narrow → encode s ≡ encodeAt narrow s
@@ -46,30 +47,33 @@ module _ (s : State) where
   pub bytes-image : Rules s → Bytes (encode s)
   bytes-image ok = bytes-encode width wide-enough s ok (placed ok)
 
--- byte 1 of the block at place k
+-- what the block at place k tells
 abbrev pub editionIn : List ℕ → ℕ → ℕ
-editionIn b k = getD (blockIn b k) 1 0
+editionIn b k = toldEdition (blockIn b k)
 
 -- "all blocks of one image alike" (READINGS 32): that of n
-pub editions-alike : (s : State) (k : ℕ) → k < length (encode s) / block-bytes → editionIn (encode s) k ≡ editionOf (s .setup .desks)
+pub editions-alike : (s : State) (k : ℕ) → k < blocksIn (encode s) → editionIn (encode s) k ≡ editionOf (s .setup .desks)
 unfolding block
 editions-alike s k h =
     let w = wide-enough s in
     let few : k < blocks (width s) s = omega (arith, length-encode (width s) w s) in
     ap (λ (l : List ℕ). getD l 1 0) (block-at (width s) w s k few)
-    ∙ every-block (width s) w s (λ l. getD l 1 0 ≡ editionOf (width s)) (λ kind place l _. refl) k ∙ one-edition (s .setup .desks)
+    ∙ every-block (width s) w s (λ _ l. toldEdition l ≡ editionOf (width s)) (λ kind place l _ _. refl) k ∙ one-edition (s .setup .desks)
 
 -- so an image that is loaded has in every block the edition of its n
-pub loaded-edition : (b : List ℕ) (s : State) → load b ≡ loaded s → (k : ℕ) → k < length b / block-bytes → editionIn b k ≡ editionOf (nIn b)
+pub loaded-edition : (b : List ℕ) (s : State) → load b ≡ loaded s → (k : ℕ) → k < blocksIn b → editionIn b k ≡ editionOf (nIn b)
 loaded-edition b s e k h =
     let q = encode-load b s e in
-    let l : k < length (encode s) / block-bytes = rw q h in
+    let l : k < blocksIn (encode s) = rw q h in
     ap (λ (d : List ℕ). editionIn d k) (sym q) ∙ editions-alike s k l ∙ ap editionOf (sym (n-back (width s) s) ∙ ap nIn q)
 
--- "An image whose edition doesn't fit its n is refused with 13 too", and one of mixed editions
-pub wrong-edition : (b : List ℕ) (k : ℕ) → Undamaged b → k < length b / block-bytes → editionIn b k ≢ editionOf (nIn b) → load b ≡ refused broken
+-- "An image whose edition doesn't fit its n is refused with 13 too", and one of mixed editions: with the block count for its place where every
+-- block can stand where it is, whichever of the two editions it tells (READINGS 32)
+pub wrong-edition : (b : List ℕ) (k : ℕ) → Undamaged b → k < blocksIn b → editionIn b k ≢ editionOf (nIn b)
+    → (load b ≡ refused (rule-fault (firstMisplaced b))) × (((j : ℕ) → j < blocksIn b → StandsAt b j) → load b ≡ refused (rule-fault (blocksIn b)))
 wrong-edition b k u h f =
-    load-13 b .1 (u, λ s r e. f (loaded-edition b s (load-is b s .1 (r, e)) k h))
+    let no : NoImage b = λ s r e. f (loaded-edition b s (load-is b s .1 (r, e)) k h) in
+    (load-13 b (firstMisplaced b) .1 (u, no, first-misplaced b), λ a. other-rules b .1 (u, no, a))
 
 first-edition : (p : ℕ) (t : State) → getD (encodeAt p t) 1 0 ≡ editionOf p
 unfolding encodeAt block

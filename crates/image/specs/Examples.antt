@@ -1,11 +1,11 @@
 -- The document's numbers, computed.
 use Rattle.laws.specs.{Kit.{_*_, _≡_, refl, true, false, none, [], _∷_, _++_, map, length, replicate}, Update.{upd, upd2}, Sum.{sum}}
-use Rattle.laws.specs.{Loop.{scan, turns}, All.{all}, Tab.{tab, tabFrom}, Cat.{cat, part}}
-use Rattle.machine.specs.{Table.{zeros, sized, State, fresh}, Answer.{damaged}, Steps.{openCount, everywhere, failing, write, step, Write}}
+use Rattle.laws.specs.{Loop.{scan, turns}, All.{all}, Tab.{tab, tabFrom}, Cat.{cat, part}, FirstNot.{firstNot}}
+use Rattle.machine.specs.{Table.{zeros, sized, State, fresh}, Steps.{openCount, everywhere, failing, write, step, Write}}
 use Rattle.machine.specs.{Steps.{Deliver, settle, firstDue}, History.{run, take-step}, RulesTest.{keeps}}
 use Rattle.image.specs.{OpenNames.{names, namesOfDesk}, Check.{checkOf}, Encode.{vectorWords, markBytes, deskBytes, cellBytes}}
-use Rattle.image.specs.{Encode.{openBytes, block, cellPart, openPart, encodeAt, encode}, Damage.{checkIn, sound}, Load.{refused}}
-use Rattle.image.specs.{Load.{load}, Limits.{placesFor, editionOf, block-bytes, check-at}}
+use Rattle.image.specs.{Encode.{openBytes, block, cellPart, openPart, encodeAt, encode}, Damage.{checkIn, wholeBlocks}}
+use Rattle.image.specs.{Load.{check-fault, refused, load}, Limits.{placesFor, editionOf, block-bytes, check-at}}
 
 -- "A fresh table of n = 1, m = 1 is 3 blocks, and its first check is 15."
 pub fresh-blocks : length (encode (fresh 1 1)) ≡ 3 * block-bytes
@@ -17,8 +17,8 @@ unfolding placesFor editionOf encodeAt block cat vectorWords deskBytes cellBytes
 first-check = refl
 
 -- "An all-zero block is damaged."
-pub zero-block : load (replicate block-bytes 0) ≡ refused damaged
-unfolding load sound checkIn checkOf sum part all scan turns
+pub zero-block : load (replicate block-bytes 0) ≡ refused (check-fault 0)
+unfolding load wholeBlocks firstNot checkIn checkOf sum part scan turns
 zero-block = refl
 
 -- desk 1 of 2 writes status 2 to cell 1: the block at place 5 holds the open write, which desk 2 has yet to receive

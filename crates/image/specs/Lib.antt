@@ -11,6 +11,7 @@ pub mod Examples
 pub mod Reload
 pub mod ImageSize
 pub mod Damage
+pub mod Stands
 pub mod OpenNames
 pub mod Link
 pub mod Mirror

@@ -1,3 +1,4 @@
 pub mod Block
+pub mod BlockTests
 pub mod TableBytes
 pub mod EntryOrder

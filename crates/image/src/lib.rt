@@ -11,7 +11,10 @@ ghost use Rattle.clock.specs.Vectors.{places, place};
 ghost use Rattle.image.specs.Limits.{broad, image-bytes, placesFor, editionOf, block-bytes, check-at, payload-bytes, vector-bytes, after-vector, cell-bytes, open-bytes, cells-in, opens-in, blocks-for, row-most, opens-most};
 ghost use Rattle.image.specs.Check.{checkOf};
 ghost use Rattle.image.specs.Encode.{word, long, vectorWords, markBytes, deskBytes, blockOf, perDesk, blocksOf, encode};
-ghost use Rattle.image.specs.Damage.{rightCheck, sound};
+ghost use Rattle.image.specs.Damage.{Right, WholeBlocks, blocksIn};
+ghost use Rattle.image.specs.Stands.{KindStands, Stands};
+ghost use Rattle.image.specs.Mirror.BlockTests.{Passes, PassesAt};
+ghost use Rattle.laws.specs.FirstNot.{FirstNot};
 ghost use Rattle.image.specs.Mirror.Block.{head, openRaw, SmallOpen};
 ghost use Rattle.image.specs.Mirror.TableBytes.{CellsFit, cellPiece, OrderFits, openPiece};
 ghost use Rattle.machine.specs.Table.{most-writes};
@@ -54,6 +57,10 @@ const DESK_KIND: u8 = 2;
 const CELL_KIND: u8 = 3;
 
 const OPEN_KIND: u8 = 4;
+// The editions.
+const EDITION_1: u8 = 1;
+
+const EDITION_2: u8 = 2;
 // Where its check stands.
 pub const CHECK: usize = 508;
 // Where the vector of a desk, a cell and an open write stands: behind 4 bytes.
@@ -97,7 +104,7 @@ pub fn places_for(n: usize) -> usize
 fn edition_of(p: usize) -> u8
     ensures { λ r. ⌜ r ≡ editionOf p ⌝ }
 {
-    if p <= NARROW { 1 } else { 2 }
+    if p <= NARROW { EDITION_1 } else { EDITION_2 }
 }
 
 // Bytes to a cell; and where a desk's clock and an open write's marks stand, behind a vector.
@@ -186,7 +193,7 @@ pub fn seal(b: &mut [u8; BLOCK])
 // Is the check that stands in a block its own?
 fn right(b: &[u8]) -> bool
     requires { ⌜ length (now b) ≡ block-bytes ⌝ }
-    ensures { λ r. ⌜ r ≡ rightCheck (now (b .entry)) ⌝ }
+    ensures { λ r. ⌜ Says r (Right (now (b .entry))) ⌝ }
 {
     let c0 = wide(b[CHECK]);
     let c1 = wide(b[CHECK + 1]);
@@ -195,28 +202,80 @@ fn right(b: &[u8]) -> bool
     c0 + 256 * c1 + 65536 * c2 + 16777216 * c3 == check(b)
 }
 
-// Is the length a nonzero multiple of 512, and every block's check right? (Else 12.)
-pub fn sound_image(b: &[u8]) -> bool
-    ensures { λ r. ⌜ r ≡ sound (now (b .entry)) ⌝ }
+// Can a block of this kind stand at place k: the sizes first, and no others behind them?
+fn kind_stands(k: usize, kind: u8) -> bool
+    ensures { λ r. ⌜ Says r (KindStands k kind) ⌝ }
+{
+    if k == 0 {
+        return kind == SIZE_KIND;
+    }
+    if kind < DESK_KIND {
+        return false;
+    }
+    kind <= OPEN_KIND
+}
+
+// Can a block stand at place k, by the place, edition and kind that it tells?
+fn stands(b: &[u8], k: usize) -> bool
+    requires { ⌜ length (now b) ≡ block-bytes ⌝ }
+    ensures { λ r. ⌜ Says r (Stands k (now (b .entry))) ⌝ }
+{
+    let lo = wide(b[2]);
+    let hi = wide(b[3]);
+    if (lo + 256 * hi) as usize != k {
+        return false;
+    }
+    if b[1] < EDITION_1 {
+        return false;
+    }
+    if EDITION_2 < b[1] {
+        return false;
+    }
+    kind_stands(k, b[0])
+}
+
+// What is asked of each block.
+pub enum Test {
+    Check,
+    Place,
+}
+
+fn passes(b: &[u8], k: usize, test: Test) -> bool
+    requires { ⌜ length (now b) ≡ block-bytes ⌝ }
+    ensures { λ r. ⌜ Says r (Passes test k (now (b .entry))) ⌝ }
+{
+    match test {
+        Test::Check => right(b),
+        Test::Place => stands(b, k),
+    }
+}
+
+// The place of the first block that fails the test, or the block count.
+pub fn first_not(b: &[u8], test: Test) -> usize
+    ensures { λ r. ⌜ FirstNot (PassesAt test (now (b .entry))) (blocksIn (now (b .entry))) r ⌝ }
+{
+    let count = b.len() / BLOCK;
+    let mut k = 0;
+    while k < count {
+        let at = BLOCK * k;
+        let e = at + BLOCK;
+        if !passes(&b[at..e], k, test) {
+            return k;
+        }
+        k += 1;
+    }
+    k
+}
+
+// Is the length a nonzero multiple of 512? (Else 15.)
+pub fn whole_blocks(b: &[u8]) -> bool
+    ensures { λ r. ⌜ Says r (WholeBlocks (now (b .entry))) ⌝ }
 {
     let n = b.len();
     if n == 0 {
         return false;
     }
-    if n % BLOCK != 0 {
-        return false;
-    }
-    let count = n / BLOCK;
-    let mut k = 0;
-    while k < count {
-        let at = BLOCK * k;
-        let e = at + BLOCK;
-        if !right(&b[at..e]) {
-            return false;
-        }
-        k += 1;
-    }
-    true
+    n % BLOCK == 0
 }
 
 // Fields of a block --

@@ -1,6 +1,6 @@
 -- What holds of each element of a list.
-use Rattle.laws.specs.Kit.{ℕ, zero, suc, _+_, _<_, _≡_, refl, _∙_, List, [], _∷_, _++_, map, arith, length, getD, replicate}
-use Rattle.laws.specs.{Tab.{tab, tabFrom}, Cat.{cat, cat-le, getD-cat}}
+use Rattle.laws.specs.Kit.{ℕ, zero, suc, _+_, _<_, _≡_, refl, _∙_, List, [], _∷_, _++_, map, arith, length, getD}
+use Rattle.laws.specs.{Kit.{replicate, take, drop}, Tab.{tab, tabFrom}, Cat.{cat, part, cat-le, getD-cat}}
 
 pub data Each {A : Type 0} (P : A → Type 0) : List A → Type 0 where
   no : Each P []
@@ -17,6 +17,21 @@ module _ {A : Type 0} (P : A → Type 0) where
   each-in l d no p h = absurd (omega arith)
   each-in l d (and h g) zero _ = h
   each-in l d (and {l = r} h g) (suc p) k = each-in r d g p (omega arith)
+
+  each-drop : (n : ℕ) (l : List A) → Each P l → Each P (drop n l)
+  each-drop zero l h = h
+  each-drop (suc n) [] h = no
+  each-drop (suc n) (x ∷ l) (and h g) = each-drop n l g
+
+  each-take : (n : ℕ) (l : List A) → Each P l → Each P (take n l)
+  each-take zero l h = no
+  each-take (suc n) [] h = no
+  each-take (suc n) (x ∷ l) (and h g) = and h (each-take n l g)
+
+  -- of a part of the list
+  pub each-part : (p w : ℕ) (l : List A) → Each P l → Each P (part p w l)
+  unfolding part
+  each-part p w l h = each-take w (drop p l) (each-drop p l h)
 
   pub each-append : (a b : List A) → Each P a → Each P b → Each P (a ++ b)
   each-append a b no g = g

@@ -18,3 +18,4 @@ pub mod Rows
 pub mod FromOne
 pub mod Owned
 pub mod StoresRead
+pub mod FirstNot

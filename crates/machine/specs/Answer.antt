@@ -16,9 +16,9 @@ shownOf (set v u w) = shown v u (w u)
 pub data Verdict : Type 0 where
   Yes No Unknown : Verdict
 
--- document 01, "Numbers of refusal"
+-- document 01, "Numbers of refusal", and document 02, T-01
 pub data Refusal : Type 0 where
-  no-desk no-cell no-status spent full own-write no-write received trip-size no-step no-size damaged broken short : Refusal
+  no-desk no-cell no-status spent full own-write no-write received trip-size no-step no-size damaged broken short wrong-length : Refusal
 
 abbrev pub numberOf : Refusal → ℕ
 -- a desk is not 1 to n
@@ -43,12 +43,14 @@ numberOf trip-size = 9
 numberOf no-step = 10
 -- n or m outside its range
 numberOf no-size = 11
--- image length not a nonzero multiple of 512, or a block check wrong
+-- a block check wrong ("12, which now means the check alone")
 numberOf damaged = 12
 -- an image, or a table value handed in, breaks another rule
 numberOf broken = 13
 -- the lent buffer is shorter than the image; in `replay`, input over 65,536 bytes
 numberOf short = 14
+-- image length not a nonzero multiple of 512
+numberOf wrong-length = 15
 
 pub data Answer : Type 0 where
   began : Answer

@@ -4,10 +4,10 @@ use mathlib.Core.{Path.{_≡_, refl}, List.{List, [], _∷_, map}, Option.{none,
 use Prim.Native.Nat.{ℕ}
 use lib.ListN.{replicate}
 use Rattle.laws.specs.{Loop.{turns, scan}, All.{all}, Update.{upd, upd2}, Sum.{sum}, Lists.{any, every}}
-use Rattle.machine.specs.{Table.{Vec, zeros, name, blank, sized, State, fresh}, Answer.{shown, no-step, damaged, broken, short}}
-use Rattle.machine.specs.{Answer.{numberOf, Yes, Answer, began, shows, wrote, holds, applies, judged, refused}, Steps.{Step, Read}}
-use Rattle.machine.specs.Steps.{Write, Deliver, Trip, begin, step, answers, failing, everywhere, openCount, firstDue, settle, reads}
-use Rattle.machine.specs.{Steps.{verdict}, History.{take-step, run}}
+use Rattle.machine.specs.{Table.{Vec, zeros, name, blank, sized, State, fresh}, Answer.{shown, no-step, damaged, broken}}
+use Rattle.machine.specs.Answer.{short, wrong-length, numberOf, Yes, Answer, began, shows, wrote, holds, applies, judged, refused}
+use Rattle.machine.specs.Steps.{Step, Read, Write, Deliver, Trip, begin, step, answers, failing, everywhere, openCount, firstDue}
+use Rattle.machine.specs.{Steps.{settle, reads, verdict}, History.{take-step, run}}
 
 -- an answer, or a refusal's number
 pub data Reply : Type 0 where
@@ -97,5 +97,5 @@ unfolding turns scan all upd upd2 sum step answers failing everywhere openCount 
 numbers-of-steps = refl
 
 -- those of the text, the image and the buffer
-pub numbers-elsewhere : map numberOf (no-step ∷ damaged ∷ broken ∷ short ∷ []) ≡ 10 ∷ 12 ∷ 13 ∷ 14 ∷ []
+pub numbers-elsewhere : map numberOf (no-step ∷ damaged ∷ broken ∷ short ∷ wrong-length ∷ []) ≡ 10 ∷ 12 ∷ 13 ∷ 14 ∷ 15 ∷ []
 numbers-elsewhere = refl

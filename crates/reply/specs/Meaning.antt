@@ -3,7 +3,7 @@ use Rattle.laws.specs.{Kit.{ℕ, _+_, _*_, _≤_, min, _≡_, List, getD}, Tab.
 use Rattle.machine.specs.Table.{Name, name, most-open}
 use Rattle.machine.specs.Answer as machine
 use Rattle.reply.specs.{declared.Refusal.{Refusal}, declared.Refusal.the-variants.{NoDesk, NoCell, NoStatus, Spent, Full, OwnWrite}}
-use Rattle.reply.specs.declared.Refusal.the-variants.{NoWrite, Received, TripSize, NoStep, NoSize, Damaged, Broken, Short}
+use Rattle.reply.specs.declared.Refusal.the-variants.{NoWrite, Received, TripSize, NoStep, NoSize, Damaged, Broken, Short, WrongLength}
 use Rattle.reply.specs.{declared.Answer.{Answer}, declared.Answer.the-variants.{Begun, Unset, Shown, Wrote, Held, Applied, Yes, No}}
 use Rattle.reply.specs.declared.Answer.the-variants.{Unknown, Refused}
 
@@ -22,6 +22,7 @@ refusalOf NoSize = machine.no-size
 refusalOf Damaged = machine.damaged
 refusalOf Broken = machine.broken
 refusalOf Short = machine.short
+refusalOf WrongLength = machine.wrong-length
 
 -- name j of an array of names: writer and number stand beside each other
 abbrev pub nameAt : List ℕ → ℕ → Name

@@ -3,7 +3,7 @@ use Rattle.laws.specs.Kit.{ℕ, min, _≡_, refl, sym, ap, _∙_, List, length}
 use Rattle.machine.specs.Table.{Name, most-open}
 use Rattle.machine.specs.Answer as machine
 use Rattle.reply.specs.{declared.Refusal.{Refusal}, declared.Refusal.the-variants.{NoDesk, NoCell, NoStatus, Spent, Full, OwnWrite}}
-use Rattle.reply.specs.declared.Refusal.the-variants.{NoWrite, Received, TripSize, NoStep, NoSize, Damaged, Broken, Short}
+use Rattle.reply.specs.declared.Refusal.the-variants.{NoWrite, Received, TripSize, NoStep, NoSize, Damaged, Broken, Short, WrongLength}
 use Rattle.reply.specs.{declared.Answer.{Answer}, declared.Answer.the-variants.{Begun, Unset, Shown, Wrote, Held, Applied, Yes, No}}
 use Rattle.reply.specs.{declared.Answer.the-variants.{Unknown, Refused}, Meaning.{refusalOf, namesOf, answerOf, Counted}}
 use Rattle.reply.specs.Names.{length-names}
@@ -25,6 +25,7 @@ refusalFor machine.no-size = NoSize
 refusalFor machine.damaged = Damaged
 refusalFor machine.broken = Broken
 refusalFor machine.short = Short
+refusalFor machine.wrong-length = WrongLength
 
 abbrev pub shownFor : machine.Shown → Answer
 shownFor machine.unset = Unset
@@ -59,6 +60,7 @@ refusal-back NoSize = refl
 refusal-back Damaged = refl
 refusal-back Broken = refl
 refusal-back Short = refl
+refusal-back WrongLength = refl
 
 pub answer-back : (a : Answer) (names : List ℕ) → Counted a → answerFor (answerOf a names) ≡ a
 answer-back Begun names h = refl

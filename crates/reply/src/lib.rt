@@ -16,6 +16,7 @@ pub enum Refusal {
     Damaged,
     Broken,
     Short,
+    WrongLength,
 }
 
 // The most names that an answer lists: as many as writes can be open.

@@ -5,8 +5,8 @@ use Rattle.laws.specs.Kit.{ℕ, suc, _+_, _-_, _*_, _<_, _≤_, _≡_, refl, Bo
 use Rattle.laws.specs.{Kit.{leb, length, drop, length-append, length-drop, leb-true}, Each.{Each, no, and}, Loop.{pick, cases}, Sum.{one}}
 use Rattle.machine.specs.{Table.{most-desks, most-open, Name, State}, Answer.{Answer, began, shows, wrote, holds, applies, judged, refused}}
 use Rattle.machine.specs.Answer.{unset, shown, Yes, No, Unknown, Refusal, numberOf, no-desk, no-cell, no-status, spent, full, own-write}
-use Rattle.machine.specs.{Answer.{no-write, received, trip-size, no-step, no-size, damaged, broken, short}, Rules.{Frame, Rules}}
-use Rattle.machine.specs.{Steps.{step}, Proofs.RulesKept.{step-keeps-rules}, Proofs.Refusals.{begin-cases}, Proofs.HeldCount.{heldCount}}
+use Rattle.machine.specs.Answer.{no-write, received, trip-size, no-step, no-size, damaged, broken, short, wrong-length}
+use Rattle.machine.specs.{Rules.{Frame, Rules}, Steps.{step}, Proofs.RulesKept.{step-keeps-rules}, Proofs.Refusals.{begin-cases}, Proofs.HeldCount.{heldCount}}
 use Rattle.machine.specs.Proofs.HeldCount.{held-few, fresh-held, Made, HeldCounted, step-counted}
 use Rattle.schedule.specs.{Grammar.{Line, begin-line, step-line, lineOf}, Lines.{LF}, LineFacts.{step-bytes}}
 use Rattle.answer.specs.{Bytes.{nameBytes, namesBytes, answerLine}, Link.NameLengths.{name-length, shown-length}}
@@ -71,6 +71,7 @@ refusal-small no-size = omega arith
 refusal-small damaged = omega arith
 refusal-small broken = omega arith
 refusal-small short = omega arith
+refusal-small wrong-length = omega arith
 
 pub refused-bytes : (r : Refusal) → length (answerLine (refused r)) ≤ each-byte
 refused-bytes r = simp length-append (omega (arith, decimal-short 1 (numberOf r) (refusal-small r)))

@@ -1,5 +1,5 @@
 -- Where each field stands in the image.
-use Rattle.laws.specs.Kit.{ℕ, suc, _+_, _-_, _*_, _/_, _%_, _<_, _≤_, _≡_, refl, sym, _∙_, Bool, true, false, List, [], _∷_, _++_}
+use Rattle.laws.specs.Kit.{ℕ, zero, suc, _+_, _-_, _*_, _/_, _%_, _<_, _≤_, _≡_, refl, sym, _∙_, Bool, true, false, List, [], _∷_, _++_}
 use Rattle.laws.specs.Kit.{append-assoc, map, arith, eqb, leb, ltb, ne-eqb, le-leb, lt-leb, le-ltb, lt-ltb, length, replicate}
 use Rattle.laws.specs.Kit.{length-append, length-replicate, mul-le-mul-left, mul-add-div, mul-add-mod-self-left, div-eq-of-lt, mod-eq-of-lt}
 use Rattle.laws.specs.{Kit.{add-zero}, Loop.{pick}, Cat.{cat, cat-same, part, part-right, part-left, part-cat, piece-cat, length-cat}}
@@ -9,7 +9,7 @@ use Rattle.image.specs.{OpenNames.{names, OpenName, names-open}, Check.{
 use Rattle.image.specs.Encode.{openNamed, blocks, deskBytes, cellPart, openPart, perDesk, openBlocks, block2, block3, block4}
 use Rattle.image.specs.{Encode.{encodeAt}, Fields.{length-desk, length-cell, length-open}, Link.BlockFill.{cat-plus, cat-rows}}
 use Rattle.image.specs.Limits.{Wide, fit, piece-inside, block-bytes, payload-at, check-at, payload-bytes, desk-bytes, cell-bytes}
-use Rattle.image.specs.Limits.{open-bytes, cells-in, opens-in, editionOf}
+use Rattle.image.specs.{Limits.{open-bytes, cells-in, opens-in, editionOf}, Stands.{KindStands}}
 
 pub pick-has : {A : Type 0} (P : A → Type 0) (b : Bool) {x y : A} → P x → P y → P (pick b x y)
 pick-has P true h g = h
@@ -121,18 +121,22 @@ module _ (ps : ℕ) (wd : Wide ps) (s : State) where
       (each-map (λ (l : List ℕ). length l ≡ open-bytes ps) (openNamed ps s) (OpenName s) (λ w _. length-open ps (w .writer) (s .opens (w .writer) (w .number))) (names s) (names-open s))
       (opens-in ps * q + j)
 
-  -- what every block has whose payload fits
-  pub every-block : (P : List ℕ → Type 0) → ((kind k : ℕ) (l : List ℕ) → length l ≤ payload-bytes → P (blockOf ps kind k l)) → (k : ℕ) → P (blockAt ps s k)
+  -- what every block has whose kind can stand there and whose payload fits
+  pub every-block : (P : ℕ → List ℕ → Type 0)
+      → ((kind k : ℕ) (l : List ℕ) → KindStands k kind → length l ≤ payload-bytes → P k (blockOf ps kind k l)) → (k : ℕ) → P k (blockAt ps s k)
   unfolding blockAt
-  every-block P h k =
-      pick-has P (eqb k 0) (h 1 k _ (omega arith))
-      (pick-has P (leb k (s .setup .desks)) (h 2 k _ (omega (arith, length-desk ps k (s .applied k) (s .clock k), wd .desk)))
-      (pick-has P (ltb k (opens-from ps s))
-      (h 3 k _ (few-bytes (cell-bytes ps) _ (length-in ((k - (1 + s .setup .desks)) / row ps s) ((k - (1 + s .setup .desks)) % row ps s))))
-      (h 4 k _ (few-bytes (open-bytes ps) _ (length-entry (k - opens-from ps s))))))
+  every-block P h zero = h 1 0 _ refl (omega arith)
+  every-block P h (suc j) =
+      let k : ℕ = suc j in
+      rw (ne-eqb (suc j) 0 (λ e. omega arith))
+      (pick-has (P k) (leb k (s .setup .desks))
+      (h 2 k _ (omega arith, omega arith) (omega (arith, length-desk ps k (s .applied k) (s .clock k), wd .desk)))
+      (pick-has (P k) (ltb k (opens-from ps s))
+      (h 3 k _ (omega arith, omega arith) (few-bytes (cell-bytes ps) _ (length-in ((k - (1 + s .setup .desks)) / row ps s) ((k - (1 + s .setup .desks)) % row ps s))))
+      (h 4 k _ (omega arith, omega arith) (few-bytes (open-bytes ps) _ (length-entry (k - opens-from ps s))))))
 
   pub length-at : (k : ℕ) → length (blockAt ps s k) ≡ block-bytes
-  length-at = every-block (λ l. length l ≡ block-bytes) (length-block (editionOf ps))
+  length-at = every-block (λ _ l. length l ≡ block-bytes) (λ kind k l _. length-block (editionOf ps) kind k l)
 
   -- the length of the image
   pub length-encode : length (encodeAt ps s) ≡ block-bytes * blocks ps s
