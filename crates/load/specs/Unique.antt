@@ -1,21 +1,23 @@
 -- A load has one outcome: the answer as a value; of an accepted table the core and the cells as values, and of its open writes the set; of a
 -- refusal zeros.
-use Rattle.laws.specs.{Kit.{ℕ, _≡_, refl, sym, ap, _∙_, List, eqb}, Loop.{pick}}
-use Rattle.machine.specs.Answer.{damaged, numberOf}
+use Rattle.laws.specs.Kit.{ℕ, _≡_, refl, sym, ap, _∙_, List}
 use Rattle.table.specs.{declared.Table.{Table}, TypeShape.{Shaped}, Model.{modelOf}, SameTable.{Same}, Unique.{StandsIn, same-core}}
 use Rattle.table.specs.Unique.{same-cells, same-opens}
-use Rattle.image.specs.Load.{Loaded, refused, loaded, load, loads-is}
-use Rattle.load.specs.{declared.Outcome.{Outcome}, declared.Outcome.the-variants.{Accepted, Damaged, Broken}}
+use Rattle.image.specs.Load.{length-fault, check-fault, rule-fault, Loaded, refused, loaded, load, loads-is}
+use Rattle.load.specs.{declared.Outcome.{Outcome}, declared.Outcome.the-variants.{Accepted, WrongLength, Damaged, Broken}}
 use Rattle.load.specs.Loading.{loadedOf, Answers, answers-loads}
 
 abbrev pub outcomeFor : Loaded → Outcome
 outcomeFor (loaded s) = Accepted
-outcomeFor (refused r) = pick (eqb (numberOf r) (numberOf damaged)) Damaged Broken
+outcomeFor (refused length-fault) = WrongLength
+outcomeFor (refused (check-fault k)) = Damaged k
+outcomeFor (refused (rule-fault k)) = Broken k
 
 outcome-back : (o : Outcome) (t : Table) → outcomeFor (loadedOf o t) ≡ o
 outcome-back Accepted t = refl
-outcome-back Damaged t = refl
-outcome-back Broken t = refl
+outcome-back WrongLength t = refl
+outcome-back (Damaged k) t = refl
+outcome-back (Broken k) t = refl
 
 -- what the bytes give
 pub loaded-is : (b : List ℕ) (o : Outcome) (t : Table) → Answers b o t → loadedOf o t ≡ load b
@@ -55,8 +57,9 @@ module _ (b : List ℕ) {t t′ : Table} (h : Shaped t) (h′ : Shaped t′) whe
         opens = same-opens t t′ h h′ (p .0) (q .0) e;
         refused = λ f. absurd (f refl);
       }
-  one-of Damaged p q = alike (p .1 ∙ sym (q .1))
-  one-of Broken p q = alike (p .1 ∙ sym (q .1))
+  one-of WrongLength p q = alike (p .1 ∙ sym (q .1))
+  one-of (Damaged k) p q = alike (p .1 ∙ sym (q .1))
+  one-of (Broken k) p q = alike (p .1 ∙ sym (q .1))
 
   pub one-loading : (o o′ : Outcome) → Answers b o t → Answers b o′ t′ → OneLoading o o′ t t′
   one-loading o o′ p q =

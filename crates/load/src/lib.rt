@@ -15,7 +15,7 @@ ghost use Rattle.image.specs.Decode.{placesIn, openPlace};
 ghost use Rattle.load.specs.Mirror.ImageRead.{wordAt, wordsFrom, bytesFrom, cellFrom, openFrom, deskFrom, deskFor, cellFor, Fits, SizesOf, CellsRead};
 ghost use Rattle.load.specs.Link.EntryEach.{OpensRead};
 ghost use Rattle.load.specs.Link.ReadsBack.{ReadAs};
-ghost use Rattle.load.specs.Loading.{Answers};
+ghost use Rattle.load.specs.Loading.{Answers, BrokenAt};
 use clock::Clock;
 use clock::PLACES;
 use image::APPLIED_AT;
@@ -24,6 +24,7 @@ use image::CELLS_AT;
 use image::COUNT_AT;
 use image::DESKS_AT;
 use image::PAYLOAD_AT;
+use image::Test;
 use image::VECTOR_AT;
 use table::CELL;
 use table::CELLS;
@@ -335,11 +336,13 @@ fn clear(l: &mut [u16])
     }
 }
 
-// What load answers: a table, or refusal 12 (Damaged) or 13 (Broken) and nothing but zeros.
+// What load answers: a table, or nothing but zeros and a refusal: 15 (WrongLength), 12 (Damaged) with the place of the first block whose check is wrong,
+// or 13 (Broken) with that of the first block that cannot stand where it is, or the block count.
 pub enum Outcome {
     Accepted,
-    Damaged,
-    Broken,
+    WrongLength,
+    Damaged(usize),
+    Broken(usize),
 }
 
 // The same where the arrays are lent.
@@ -363,17 +366,28 @@ fn refused(o: Outcome) -> Taken
     }
 }
 
-// The lengths and the checks; then the fields are read, the rules tested, and the image of what was read compared. The arrays come as zeros,
+fn broken(b: &[u8]) -> Taken
+    ensures { λ r. ⌜ BrokenAt (now (b .entry)) (r .answer) × (r .core ≡ freshTable 0 0 .core) ⌝ }
+{
+    let place = image::first_not(b, Test::Place);
+    refused(Outcome::Broken(place))
+}
+
+// The length, then the checks; then the fields are read, the rules tested, and the image of what was read compared. The arrays come as zeros,
 // and a refusal leaves them so.
 pub fn load_into(b: &[u8], cells: &mut Cells, opens: &mut Opens) -> Taken
     requires { ⌜ (now cells ≡ freshTable 0 0 .cells) × (now opens ≡ freshTable 0 0 .opens) ⌝ }
     ensures { λ r. ⌜ Answers (now (b .entry)) (r .answer) (tableWith (r .core) (now (cells .exit)) (now (opens .exit))) ⌝ }
 {
-    if !image::sound_image(b) {
-        return refused(Outcome::Damaged);
+    if !image::whole_blocks(b) {
+        return refused(Outcome::WrongLength);
+    }
+    let place = image::first_not(b, Test::Check);
+    if place < b.len() / BLOCK {
+        return refused(Outcome::Damaged(place));
     }
     if !sizes_fit(b) {
-        return refused(Outcome::Broken);
+        return broken(b);
     }
     let core = read_table(b, cells, opens);
     if saved_as(core, cells, opens, b) {
@@ -384,7 +398,7 @@ pub fn load_into(b: &[u8], cells: &mut Cells, opens: &mut Opens) -> Taken
     }
     clear(cells);
     clear(opens);
-    refused(Outcome::Broken)
+    broken(b)
 }
 
 // The same with the table by value.
