@@ -2,11 +2,11 @@
 -- program takes no image of edition 2.
 use Rattle.laws.specs.Kit.{ℕ, _/_, _<_, _≤_, _≡_, _≢_, refl, sym, ap, _∙_, List, arith, decLe, le-leb, lt-leb, length, getD}
 use Rattle.machine.specs.{Table.{State}, Answer.{broken}, Rules.{Rules}}
-use Rattle.image.specs.{Check.{Bytes}, Encode.{block, blocks, encodeAt, encode}, Decode.{nIn, n-back}, ImageSize.{most-blocks}}
-use Rattle.image.specs.{ImageSize.{bytes-encode}, Damage.{blockIn, Undamaged}, Load.{image-sound, refused, loaded, load, load-13}}
-use Rattle.image.specs.{Load.{load-is, encode-load}, Link.FieldPlaces.{length-encode, block-at, every-block}, Limits.{narrow, broad}}
-use Rattle.image.specs.Limits.{placesFor, editionOf, edition-1, edition-2, desks-placed, one-edition, Wide, wide, wide-for}
-use Rattle.image.specs.Limits.{image-bytes, block-bytes}
+use Rattle.block.specs.{Check.{Bytes}, Block.{block}, Damage.{blockIn, Undamaged}, Limits.{narrow, broad, placesFor, editionOf, edition-1}}
+use Rattle.block.specs.Limits.{edition-2, desks-placed, one-edition, Wide, wide, wide-for, image-bytes, block-bytes}
+use Rattle.image.specs.{Encode.{blocks, encodeAt, encode}, Decode.{nIn, n-back}, ImageSize.{most-blocks, bytes-encode}}
+use Rattle.image.specs.{Load.{image-sound, refused, loaded, load, load-13, load-is, encode-load}, Link.FieldPlaces.{length-encode}}
+use Rattle.image.specs.Link.FieldPlaces.{block-at, every-block}
 
 -- "Tables with n up to 8 save in edition 1, byte for byte as today. Larger ones save in edition 2"
 pub saves-narrow : (s : State) → s .setup .desks ≤ narrow → encode s ≡ encodeAt narrow s

@@ -2,5 +2,4 @@ pub mod NamesDistinct
 pub mod OrderFromCounts
 pub mod FieldPlaces
 pub mod ReadShape
-pub mod BlockFill
 pub mod SavedIsImage

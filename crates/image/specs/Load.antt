@@ -3,8 +3,9 @@ use Rattle.laws.specs.{Kit.{ℕ, _≡_, refl, sym, ap, _∙_, _↔_, Bool, true
 use Rattle.laws.specs.Tests.{says-same}
 use Rattle.machine.specs.{Table.{State}, Answer.{Refusal, damaged, broken}, Rules.{Rules}, RulesTest.{keeps}}
 use Rattle.machine.specs.Proofs.RulesTestTells.{says-rules}
-use Rattle.image.specs.{Encode.{encode}, Decode.{decode, decode-encode, nIn, placesIn}, Damage.{Undamaged, Damaged, sound}}
-use Rattle.image.specs.{Damage.{says-sound, sound-encode}, Link.ReadShape.{shaped}, Limits.{placesFor, places-most, wide-for}}
+use Rattle.block.specs.{Damage.{Undamaged, Damaged, sound, says-sound}, Limits.{placesFor, places-most, wide-for}}
+use Rattle.image.specs.{Encode.{encode}, Decode.{decode, decode-encode, nIn, placesIn}, Link.ReadShape.{shaped}}
+use Rattle.image.specs.Link.FieldPlaces.{sound-encode}
 
 pub data Loaded : Type 0 where
   refused : Refusal → Loaded

@@ -1,3 +1,3 @@
-pub mod Block
+pub mod RawBytes
 pub mod TableBytes
 pub mod EntryOrder

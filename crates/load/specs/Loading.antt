@@ -5,7 +5,7 @@ use Rattle.machine.specs.{Table.{State}, Answer.{damaged, broken}, Rules.{Rules
 use Rattle.table.specs.{declared.Core.{Core}, declared.Table.{Table}, Beginning.{freshTable}, Model.{modelOf, tableWith}}
 use Rattle.table.specs.{Sound.{SoundTable}, Value.{all-cells, cell-width, entries, open-width}}
 use Rattle.image.specs.{Encode.{encode}, Load.{Loaded, refused, loaded, Loads, by-damage, by-rule, as-saved}}
-use Rattle.image.specs.Damage as whole
+use Rattle.block.specs.Damage as whole
 use Rattle.load.specs.{declared.Outcome.{Outcome}, Link.ReadsBack.{ReadsRight}}
 use Rattle.load.specs.declared.Outcome.the-variants as outcome
 

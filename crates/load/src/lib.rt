@@ -9,22 +9,22 @@ ghost use Rattle.table.specs.Value.{desk-cells, all-cells, entries};
 ghost use Rattle.table.specs.Model.{modelOf, tableWith};
 ghost use Rattle.table.specs.Sound.{SoundTable};
 ghost use Rattle.table.specs.Beginning.{freshTable};
-ghost use Rattle.image.specs.Limits.{block-bytes, payload-at, payload-bytes, vector-bytes, cell-bytes, open-bytes};
+ghost use Rattle.block.specs.Limits.{block-bytes, payload-at, payload-bytes, vector-bytes, cell-bytes, open-bytes};
 ghost use Rattle.image.specs.Encode.{encode};
 ghost use Rattle.image.specs.Decode.{placesIn, openPlace};
 ghost use Rattle.load.specs.Mirror.ImageRead.{wordAt, wordsFrom, bytesFrom, cellFrom, openFrom, deskFrom, deskFor, cellFor, Fits, SizesOf, CellsRead};
 ghost use Rattle.load.specs.Link.EntryEach.{OpensRead};
 ghost use Rattle.load.specs.Link.ReadsBack.{ReadAs};
 ghost use Rattle.load.specs.Loading.{Answers};
+use block::BLOCK;
+use block::PAYLOAD_AT;
+use block::VECTOR_AT;
 use clock::Clock;
 use clock::PLACES;
 use image::APPLIED_AT;
-use image::BLOCK;
 use image::CELLS_AT;
 use image::COUNT_AT;
 use image::DESKS_AT;
-use image::PAYLOAD_AT;
-use image::VECTOR_AT;
 use table::CELL;
 use table::CELLS;
 use table::Cell;
@@ -109,7 +109,7 @@ fn read_open(b: &[u8], at: usize, p: usize) -> Open
     let c = read_cell(b, at, p);
     let vector = c.vector;
     let cell = wide(b[at + 2]);
-    let marks = bytes_at(b, at + image::cell_bytes(p), p);
+    let marks = bytes_at(b, at + block::cell_bytes(p), p);
     Open {
         writer: c.writer,
         status: c.status,
@@ -210,8 +210,8 @@ fn cell_or(b: &[u8], z: Sizes, s: usize) -> Cell
     let i = s / CELLS;
     let x = s % CELLS;
     if x < z.m {
-        let w = image::cell_bytes(z.p);
-        let room = image::cells_in(z.p);
+        let w = block::cell_bytes(z.p);
+        let room = block::cells_in(z.p);
         let at = field_place(z.n, z.c * i, x / room, w * (x % room));
         return read_cell(b, at, z.p);
     }
@@ -242,8 +242,8 @@ fn open_of(b: &[u8], z: Sizes, j: usize) -> Open
     requires { ⌜ SizesOf (now b) z × (j < z .count) ⌝ }
     ensures { λ r. ⌜ r ≡ openFrom (z .p) (now (b .entry)) (openPlace (z .p) (z .n) (z .m) j) ⌝ }
 {
-    let w = image::open_bytes(z.p);
-    let room = image::opens_in(z.p);
+    let w = block::open_bytes(z.p);
+    let room = block::opens_in(z.p);
     let at = field_place(z.n, z.c * z.n, j / room, w * (j % room));
     read_open(b, at, z.p)
 }
@@ -287,7 +287,7 @@ fn sizes_of(b: &[u8]) -> Sizes
     let n = size(b[DESKS_AT]);
     let m = size(b[CELLS_AT]);
     let count = size(b[COUNT_AT]);
-    let p = image::places_for(n);
+    let p = block::places_for(n);
     let c = image::per_desk(p, m);
     Sizes {
         p: p,
@@ -369,7 +369,7 @@ pub fn load_into(b: &[u8], cells: &mut Cells, opens: &mut Opens) -> Taken
     requires { ⌜ (now cells ≡ freshTable 0 0 .cells) × (now opens ≡ freshTable 0 0 .opens) ⌝ }
     ensures { λ r. ⌜ Answers (now (b .entry)) (r .answer) (tableWith (r .core) (now (cells .exit)) (now (opens .exit))) ⌝ }
 {
-    if !image::sound_image(b) {
+    if !block::sound_image(b) {
         return refused(Outcome::Damaged);
     }
     if !sizes_fit(b) {

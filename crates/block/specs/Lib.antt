@@ -1,0 +1,6 @@
+pub mod Limits
+pub mod Check
+pub mod Block
+pub mod Damage
+pub mod Link
+pub mod Mirror
