@@ -1,6 +1,7 @@
 -- Buffers that are never too short: the header's ACCESS_ANSWERS_BOUND and ACCESS_MAX_IMAGE.
 use Rattle.laws.specs.Kit.{_≡_, refl, sym, ap, _∙_, List, [], _∷_, none, some, ℕ, _≤_, arith, length}
-use Rattle.image.specs.{Limits.{broad, image-bytes}, Editions.{image-largest}, Load.{Loaded, refused, loaded, load, load-is}}
+use Rattle.block.specs.Limits.{broad, image-bytes}
+use Rattle.image.specs.{Editions.{image-largest}, Load.{Loaded, refused, loaded, load, load-is}}
 use Rattle.session.specs.{Session.{Session}, Transcript.{sessionFrom, most-text}, Link.SessionRules.{SessionKept, session-kept}}
 use Rattle.session.specs.AnswersBound.{answersBound, answers-fit}
 use Rattle.capi.specs.{Access.{imageOf, refuse, begin, started, startOf, runFrom, accessRun}, Link.CallFrom.{CallRoom, says-fits}}

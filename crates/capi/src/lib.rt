@@ -73,7 +73,7 @@ fn lines(
         let p = session::run(last, cells, opens, text, place, &mut part);
         let more = p.len;
         if put {
-            image::copy(&part, more, out, from + len);
+            block::copy(&part, more, out, from + len);
         }
         last = p.core;
         place = p.at;
@@ -127,7 +127,7 @@ fn put_answers(
 {
     let mut cells = first_cells;
     let mut opens = first_opens;
-    image::copy(first, len, answers, 0);
+    block::copy(first, len, answers, 0);
     lines(core, &mut cells, &mut opens, text, at, true, answers, len);
 }
 
@@ -242,7 +242,7 @@ fn end(
     if image_out.len() < image_size(core) {
         return 14;
     }
-    image::copy(first, len, answers, 0);
+    block::copy(first, len, answers, 0);
     let size = save_image(core, cells, opens, image_out);
     lengths[0] = len as u64;
     lengths[1] = size as u64;

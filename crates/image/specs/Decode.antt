@@ -5,12 +5,13 @@ use Rattle.laws.specs.{Says.{Says, says-eqb, apart, clash, says-both}, Tab.{tab
 use Rattle.laws.specs.{Find.{firstOf, FoundAt, first-is, first-not}, Cat.{part}, Each.{each-in, getD-map-in}}
 use Rattle.machine.specs.{Table.{Vec, zeros, Name, name, Cell, blank, set, Open, sized, State, written}, Steps.{within, isNone, isOpen}}
 use Rattle.machine.specs.{Steps.{openCount}, Rules.{In, Flat, Below, Issued, Rules}, Within.{says-within}}
-use Rattle.image.specs.{OpenNames.{names, no-name, length-names, OpenName, names-open, open-named}, Encode.{vectorWords, deskBytes}}
-use Rattle.image.specs.Encode.{cellBytes, openBytes, block, openNamed, cellPart, openPart, perDesk, encodeAt, encode}
-use Rattle.image.specs.Fields.{vecOf, cellRead, openRead, writerIn, numberIn, vec-words, cell-set, cell-blank, open-back, writer-back}
-use Rattle.image.specs.{Fields.{number-back, length-words, vector-part, rest-part}, Link.FieldPlaces.{part-2, part-3, part-4}}
-use Rattle.image.specs.Limits.{Wide, wide-for, some-cells, some-opens, block-of, block-bytes, payload-at, vector-at, vector-bytes}
-use Rattle.image.specs.Limits.{after-vector, desk-bytes, cell-bytes, open-bytes, cells-in, opens-in, placesFor, desks-placed}
+use Rattle.block.specs.{Block.{vectorWords, block, length-words}, Limits.{Wide, wide-for, some-cells, some-opens, block-of, block-bytes}}
+use Rattle.block.specs.Limits.{payload-at, vector-at, vector-bytes, after-vector, desk-bytes, cell-bytes, open-bytes, cells-in, opens-in}
+use Rattle.block.specs.Limits.{placesFor, desks-placed}
+use Rattle.image.specs.{OpenNames.{names, no-name, length-names, OpenName, names-open, open-named}, Encode.{deskBytes, cellBytes}}
+use Rattle.image.specs.{Encode.{openBytes, openNamed, cellPart, openPart, perDesk, encodeAt, encode}, Fields.{vecOf, cellRead}}
+use Rattle.image.specs.Fields.{openRead, writerIn, numberIn, vec-words, cell-set, cell-blank, open-back, writer-back, number-back}
+use Rattle.image.specs.{Fields.{vector-part, rest-part}, Link.FieldPlaces.{part-2, part-3, part-4}}
 
 -- n, m and the open count of the block of kind 1
 abbrev pub nIn : List ℕ → ℕ

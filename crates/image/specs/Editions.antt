@@ -2,12 +2,12 @@
 -- program takes no image of edition 2.
 use Rattle.laws.specs.Kit.{ℕ, _<_, _≤_, _≡_, _≢_, refl, sym, ap, _∙_, List, arith, decLe, le-leb, lt-leb, length, getD}
 use Rattle.machine.specs.{Table.{State}, Rules.{Rules}}
-use Rattle.image.specs.{Check.{Bytes}, Encode.{block, blocks, encodeAt, encode}, Decode.{nIn, n-back}, ImageSize.{most-blocks}}
-use Rattle.image.specs.{ImageSize.{bytes-encode}, Damage.{blockIn, blocksIn, Undamaged}, Load.{rule-fault, refused, loaded, load}}
-use Rattle.image.specs.{Load.{NoImage, load-13, other-rules, load-is, encode-load}, Stands.{toldEdition, StandsAt, firstMisplaced}}
-use Rattle.image.specs.{Stands.{first-misplaced}, Link.EachBlock.{image-sound}, Link.FieldPlaces.{length-encode, block-at, every-block}}
-use Rattle.image.specs.Limits.{narrow, broad, placesFor, editionOf, edition-1, edition-2, desks-placed, one-edition, Wide, wide, wide-for}
-use Rattle.image.specs.Limits.{image-bytes}
+use Rattle.block.specs.{Check.{Bytes}, Block.{block}, Damage.{blockIn, blocksIn, Undamaged}, Stands.{toldEdition, StandsAt, firstMisplaced}}
+use Rattle.block.specs.{Stands.{first-misplaced}, Limits.{narrow, broad, placesFor, editionOf, edition-1, edition-2, desks-placed}}
+use Rattle.block.specs.Limits.{one-edition, Wide, wide, wide-for, image-bytes}
+use Rattle.image.specs.{Encode.{blocks, encodeAt, encode}, Decode.{nIn, n-back}, ImageSize.{most-blocks, bytes-encode}}
+use Rattle.image.specs.{Load.{rule-fault, refused, loaded, load, NoImage, load-13, other-rules, load-is, encode-load}}
+use Rattle.image.specs.{Link.EachBlock.{image-sound}, Link.FieldPlaces.{length-encode, block-at, every-block}}
 
 -- "Tables with n up to 8 save in edition 1, byte for byte as today. Larger ones save in edition 2"
 pub saves-narrow : (s : State) → s .setup .desks ≤ narrow → encode s ≡ encodeAt narrow s

@@ -1,57 +1,27 @@
 -- Document 01, "Saved image", and document 02, T-06: the bytes of a table. Desks and cells count from 1, so where i counts from 0 the desk is suc i.
-use Rattle.laws.specs.Kit.{ℕ, suc, _+_, _-_, _*_, _/_, _%_, List, [], _∷_, _++_, map, Option, none, some, length, getD, replicate}
-use Rattle.laws.specs.{Tab.{tab}, Cat.{cat}}
+use Rattle.laws.specs.{Kit.{ℕ, suc, _+_, _*_, List, [], _∷_, _++_, map, Option, none, some, getD, replicate}, Cat.{cat}}
 use Rattle.machine.specs.{Table.{Vec, Name, Cell, blank, set, Open, State}, Steps.{openCount}}
-use Rattle.image.specs.{OpenNames.{names}, Check.{checkOf}, Limits.{payload-bytes, cell-bytes, open-bytes, cells-in, opens-in}}
-use Rattle.image.specs.Limits.{blocks-for, placesFor, editionOf}
-
--- "numbers little-endian": of 16 bits, of 32 bits
-abbrev pub word : ℕ → List ℕ
-word x = x % 256 ∷ x / 256 ∷ []
-
-abbrev pub long : ℕ → List ℕ
-long x = x % 256 ∷ x / 256 % 256 ∷ x / 65536 % 256 ∷ x / 16777216 ∷ []
-
--- "Blocks of 512 bytes; bytes not named are zero. Byte 0 kind, 1 edition, 2-3 the block's place from 0, 4-507 payload, 508-511 check."
-abbrev pub body : ℕ → ℕ → ℕ → List ℕ → List ℕ
-body edition kind place payload = kind ∷ edition ∷ (word place ++ (payload ++ replicate (payload-bytes - length payload) 0))
-
-abbrev pub sealed : List ℕ → List ℕ
-sealed b = b ++ long (checkOf b)
-
-unfoldable pub block : ℕ → ℕ → ℕ → List ℕ → List ℕ
-block edition kind place payload = sealed (body edition kind place payload)
+use Rattle.block.specs.{Limits.{cell-bytes, open-bytes, cells-in, opens-in, blocks-for, placesFor}, Block.{blockOf, vectorWords, markBytes}}
+use Rattle.image.specs.OpenNames.{names}
 
 -- A vector has p places: in edition 1, of which document 01 speaks here, 8, and in edition 2 16. A cell takes 20 or 36 bytes, an open write 28 or
 -- 52, as many to a block as fit (edition-1, edition-2).
 module _ (p : ℕ) where
-  -- "all blocks of one image alike" (READINGS 32)
-  abbrev pub blockOf : ℕ → ℕ → List ℕ → List ℕ
-  blockOf kind place payload = block (editionOf p) kind place payload
-
   -- "Kind 1, one: payload n, m, open count, a byte each."
   abbrev pub block1 : State → List ℕ
-  block1 s = blockOf 1 0 (s .setup .desks ∷ s .setup .cells ∷ openCount s ∷ [])
-
-  -- "8 vector places of 16 bits"
-  unfoldable pub vectorWords : Vec → List ℕ
-  vectorWords v = cat (λ t. word (v (suc t))) p
-
-  -- "for each of 8 desks 0 not received, 1 held, 2 applied"
-  unfoldable pub markBytes : Vec → List ℕ
-  markBytes v = tab p (λ t. v (suc t))
+  block1 s = blockOf p 1 0 (s .setup .desks ∷ s .setup .cells ∷ openCount s ∷ [])
 
   -- "Kind 2, one for each desk: desk number, 3 zeros, 8 applied counts, 8 clock places, 16 bits each."
   unfoldable pub deskBytes : ℕ → Vec → Vec → List ℕ
-  deskBytes i applied clock = i ∷ 0 ∷ 0 ∷ 0 ∷ (vectorWords applied ++ vectorWords clock)
+  deskBytes i applied clock = i ∷ 0 ∷ 0 ∷ 0 ∷ (vectorWords p applied ++ vectorWords p clock)
 
   abbrev pub block2 : State → ℕ → List ℕ
-  block2 s i = blockOf 2 (1 + i) (deskBytes (suc i) (s .applied (suc i)) (s .clock (suc i)))
+  block2 s i = blockOf p 2 (1 + i) (deskBytes (suc i) (s .applied (suc i)) (s .clock (suc i)))
 
   -- "20 bytes each: writer (0 unset, then all zero), status, 2 zeros, 8 vector places"
   unfoldable pub cellBytes : Cell → List ℕ
   cellBytes blank = replicate (cell-bytes p) 0
-  cellBytes (set v u w) = u ∷ v ∷ 0 ∷ 0 ∷ vectorWords w
+  cellBytes (set v u w) = u ∷ v ∷ 0 ∷ 0 ∷ vectorWords p w
 
   -- "Kind 3, desk by desk, each desk from a new block, 25 cells to a block": those of the q-th block of a desk, j from 0
   unfoldable pub cellPart : State → ℕ → ℕ → ℕ → List ℕ
@@ -61,12 +31,12 @@ module _ (p : ℕ) where
   perDesk m = blocks-for (cells-in p) m
 
   abbrev pub block3 : State → ℕ → ℕ → List ℕ
-  block3 s i q = blockOf 3 (1 + s .setup .desks + perDesk (s .setup .cells) * i + q) (cat (cellPart s i q) (cells-in p))
+  block3 s i q = blockOf p 3 (1 + s .setup .desks + perDesk (s .setup .cells) * i + q) (cat (cellPart s i q) (cells-in p))
 
   -- "28 bytes each: writer, status, cell, zero, 8 vector places, then for each of 8 desks .."
   unfoldable pub openBytes : ℕ → Option Open → List ℕ
   openBytes u none = replicate (open-bytes p) 0
-  openBytes u (some w) = u ∷ w .status ∷ w .cell ∷ 0 ∷ (vectorWords (w .vector) ++ markBytes (w .marks))
+  openBytes u (some w) = u ∷ w .status ∷ w .cell ∷ 0 ∷ (vectorWords p (w .vector) ++ markBytes p (w .marks))
 
   abbrev pub openNamed : State → Name → List ℕ
   openNamed s w = openBytes (w .writer) (s .opens (w .writer) (w .number))
@@ -80,7 +50,7 @@ module _ (p : ℕ) where
   openBlocks s = blocks-for (opens-in p) (openCount s)
 
   abbrev pub block4 : State → ℕ → List ℕ
-  block4 s q = blockOf 4 (1 + s .setup .desks + perDesk (s .setup .cells) * s .setup .desks + q) (cat (openPart s q) (opens-in p))
+  block4 s q = blockOf p 4 (1 + s .setup .desks + perDesk (s .setup .cells) * s .setup .desks + q) (cat (openPart s q) (opens-in p))
 
   -- "Blocks stand by kind, 1 to 4, and nothing follows them."
   abbrev pub kind2 : State → List ℕ

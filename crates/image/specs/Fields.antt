@@ -1,11 +1,12 @@
 -- The readers of a field, and that they read what was written.
 use Rattle.laws.specs.Kit.{ℕ, zero, suc, _+_, _*_, _≤_, _≡_, refl, _∙_, List, [], _∷_, _++_, Option, none, some, arith, div-add-mod'}
 use Rattle.laws.specs.Kit.{add-zero, eqb, length, getD, replicate, length-append, length-replicate, replicate-append-replicate, ne-eqb}
-use Rattle.laws.specs.{Loop.{pick}, Update.{same-or}, Tab.{tab, length-tab, getD-tab}, FromOne.{from1, from1-is}, Cat.{cat, part}}
-use Rattle.laws.specs.Cat.{part-whole, part-right, part-left, getD-cat, length-cat}
+use Rattle.laws.specs.{Loop.{pick}, Update.{same-or}, Tab.{tab, getD-tab}, FromOne.{from1, from1-is}, Cat.{cat, part, part-whole}}
+use Rattle.laws.specs.Cat.{part-right, part-left, getD-cat, length-cat}
 use Rattle.machine.specs.{Table.{Vec, Cell, blank, set, Open}, Rules.{Flat}}
-use Rattle.image.specs.{Encode.{word, vectorWords, markBytes, deskBytes, cellBytes, openBytes}, Limits.{vector-at, vector-bytes}}
-use Rattle.image.specs.Limits.{after-vector, desk-bytes, cell-bytes, open-bytes}
+use Rattle.block.specs.{Block.{word, vectorWords, markBytes, length-words, length-marks}, Limits.{vector-at, vector-bytes, after-vector}}
+use Rattle.block.specs.Limits.{desk-bytes, cell-bytes, open-bytes}
+use Rattle.image.specs.Encode.{deskBytes, cellBytes, openBytes}
 use Rattle.table.specs.Beginning.{zeros-at}
 
 abbrev pub writerIn : List ℕ → ℕ
@@ -43,14 +44,6 @@ module _ (ps : ℕ) where
   unfoldable pub openRead : List ℕ → Open
   openRead l = record { cell = getD l 2 0; status = getD l 1 0; vector = vecOf (part vector-at (vector-bytes ps) l); marks = marksOf (part (after-vector ps) ps l) }
 
-  pub length-words : (v : Vec) → length (vectorWords ps v) ≡ vector-bytes ps
-  unfolding vectorWords
-  length-words v = length-cat (λ t. word (v (suc t))) 2 (λ j. refl) ps
-
-  pub length-marks : (v : Vec) → length (markBytes ps v) ≡ ps
-  unfolding markBytes
-  length-marks v = length-tab (λ t. v (suc t)) ps
-
   pub vec-words : (v : Vec) → Flat ps v → vecOf (vectorWords ps v) ≡ v
   unfolding vecOf vectorWords
   vec-words v f =
@@ -75,7 +68,7 @@ module _ (ps : ℕ) where
   cell-set v u w h f =
       rw (
         part-right (u ∷ v ∷ 0 ∷ 0 ∷ []) (vectorWords ps w) vector-at 0 (vector-bytes ps) refl,
-        part-whole (vectorWords ps w) (vector-bytes ps) (length-words w),
+        part-whole (vectorWords ps w) (vector-bytes ps) (length-words ps w),
         vec-words w f,
         ne-eqb u 0 (λ e. omega arith),
       )
@@ -86,14 +79,14 @@ module _ (ps : ℕ) where
     vector-part =
         rw (
           part-right (a ∷ b ∷ c ∷ d ∷ []) (vectorWords ps v ++ r) vector-at 0 (vector-bytes ps) refl,
-          part-left (vectorWords ps v) r 0 (vector-bytes ps) (omega (arith, length-words v)),
-          part-whole (vectorWords ps v) (vector-bytes ps) (length-words v),
+          part-left (vectorWords ps v) r 0 (vector-bytes ps) (omega (arith, length-words ps v)),
+          part-whole (vectorWords ps v) (vector-bytes ps) (length-words ps v),
         )
 
     pub rest-part : (w : ℕ) → length r ≡ w → part (after-vector ps) w (a ∷ b ∷ c ∷ d ∷ (vectorWords ps v ++ r)) ≡ r
     rest-part w e =
         part-right (a ∷ b ∷ c ∷ d ∷ []) (vectorWords ps v ++ r) vector-at (vector-bytes ps) w refl
-        ∙ rw add-zero at (part-right (vectorWords ps v) r (vector-bytes ps) 0 w (length-words v)) ∙ part-whole r w e
+        ∙ rw add-zero at (part-right (vectorWords ps v) r (vector-bytes ps) 0 w (length-words ps v)) ∙ part-whole r w e
 
   module _ (u : ℕ) (w : Open) (fv : Flat ps (w .vector)) where
     vector-back : vecOf (part vector-at (vector-bytes ps) (openBytes ps u (some w))) ≡ w .vector
@@ -103,7 +96,7 @@ module _ (ps : ℕ) where
     marks-back : Flat ps (w .marks) → marksOf (part (after-vector ps) ps (openBytes ps u (some w))) ≡ w .marks
     unfolding openBytes
     marks-back fm =
-        rw (rest-part u (w .status) (w .cell) 0 (w .vector) (markBytes ps (w .marks)) ps (length-marks (w .marks))) (marks-bytes (w .marks) fm)
+        rw (rest-part u (w .status) (w .cell) 0 (w .vector) (markBytes ps (w .marks)) ps (length-marks ps (w .marks))) (marks-bytes (w .marks) fm)
 
     pub writer-back : writerIn (openBytes ps u (some w)) ≡ u
     unfolding openBytes
@@ -121,14 +114,14 @@ module _ (ps : ℕ) where
 
   pub length-desk : (i : ℕ) (a c : Vec) → length (deskBytes ps i a c) ≡ desk-bytes ps
   unfolding deskBytes
-  length-desk i a c = rw (length-append (vectorWords ps a) (vectorWords ps c), length-words a, length-words c) (omega arith)
+  length-desk i a c = rw (length-append (vectorWords ps a) (vectorWords ps c), length-words ps a, length-words ps c) (omega arith)
 
   pub length-cell : (c : Cell) → length (cellBytes ps c) ≡ cell-bytes ps
   unfolding cellBytes
   length-cell blank = length-replicate {A = ℕ} (cell-bytes ps) 0
-  length-cell (set v u w) = rw (length-words w) (omega arith)
+  length-cell (set v u w) = rw (length-words ps w) (omega arith)
 
   pub length-open : (u : ℕ) (o : Option Open) → length (openBytes ps u o) ≡ open-bytes ps
   unfolding openBytes
   length-open u none = length-replicate {A = ℕ} (open-bytes ps) 0
-  length-open u (some w) = rw (length-append (vectorWords ps (w .vector)) (markBytes ps (w .marks)), length-words (w .vector), length-marks (w .marks)) (omega arith)
+  length-open u (some w) = rw (length-append (vectorWords ps (w .vector)) (markBytes ps (w .marks)), length-words ps (w .vector), length-marks ps (w .marks)) (omega arith)

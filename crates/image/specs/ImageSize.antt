@@ -4,11 +4,11 @@ use Rattle.laws.specs.{Kit.{mul-le-mul, add-le-add, le-refl, length, replicate,
 use Rattle.laws.specs.{Each.{each-append, each-replicate, each-cat, each-tab, each-map}, Loop.{cases}}
 use Rattle.machine.specs.{Table.{most-cells, most-open, most-writes, Vec, Cell, blank, set, Open, State}, Steps.{openCount}, Rules.{Issued}}
 use Rattle.machine.specs.Rules.{Rules}
-use Rattle.image.specs.{OpenNames.{names, OpenName, names-open}, Check.{Byte, Bytes, checkOf, check-most}, Encode.{word, vectorWords}}
-use Rattle.image.specs.Encode.{markBytes, deskBytes, cellBytes, openBytes, long, body, block, openNamed, blocks, cellPart, openPart}
-use Rattle.image.specs.{Encode.{perDesk, openBlocks, encodeAt}, Link.FieldPlaces.{pick-has, blockAt, encode-is}, Limits.{Wide}}
-use Rattle.image.specs.Limits.{some-cells, some-opens, blocks-mono, payload-bytes, cell-bytes, open-bytes, cells-in, opens-in}
-use Rattle.image.specs.Limits.{rows-most, opens-most, blocks-most, editionOf, edition-small}
+use Rattle.block.specs.{Check.{Byte, Bytes, checkOf, check-most}, Block.{word, vectorWords, markBytes, long, body, block}, Limits.{Wide}}
+use Rattle.block.specs.Limits.{some-cells, some-opens, blocks-mono, payload-bytes, cell-bytes, open-bytes, cells-in, opens-in, rows-most}
+use Rattle.block.specs.Limits.{opens-most, blocks-most, editionOf, edition-small}
+use Rattle.image.specs.{OpenNames.{names, OpenName, names-open}, Encode.{deskBytes, cellBytes, openBytes, openNamed, blocks}}
+use Rattle.image.specs.{Encode.{cellPart, openPart, perDesk, openBlocks, encodeAt}, Link.FieldPlaces.{pick-has, blockAt, encode-is}}
 
 head : (a b c d : ℕ) (l : List ℕ) → a < 256 → b < 256 → c < 256 → d < 256 → Bytes l → Bytes (a ∷ b ∷ c ∷ d ∷ l)
 head a b c d l ha hb hc hd h = and ha (and hb (and hc (and hd h)))

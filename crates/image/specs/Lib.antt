@@ -1,5 +1,3 @@
-pub mod Limits
-pub mod Check
 pub mod Encode
 pub mod Fields
 pub mod Decode
@@ -10,8 +8,6 @@ pub mod Unique
 pub mod Examples
 pub mod Reload
 pub mod ImageSize
-pub mod Damage
-pub mod Stands
 pub mod OpenNames
 pub mod Link
 pub mod Mirror

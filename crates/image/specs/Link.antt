@@ -3,5 +3,4 @@ pub mod OrderFromCounts
 pub mod FieldPlaces
 pub mod EachBlock
 pub mod ReadShape
-pub mod BlockFill
 pub mod SavedIsImage

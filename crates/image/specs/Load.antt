@@ -4,10 +4,10 @@ use Rattle.laws.specs.{Kit.{ltb-false, lt-ltb, le-ltb}, Loop.{pick, cases}, Say
 use Rattle.laws.specs.FirstNot.{FirstNot, first-as, fails-below, below-fails, all-pass}
 use Rattle.machine.specs.{Table.{State}, Answer.{Refusal, wrong-length, damaged, broken}, Rules.{Rules}, RulesTest.{keeps}}
 use Rattle.machine.specs.Proofs.RulesTestTells.{says-rules}
-use Rattle.image.specs.{Encode.{encode}, Decode.{decode, decode-encode, nIn, placesIn}, Damage.{blocksIn, RightAt, WholeBlocks}}
-use Rattle.image.specs.Damage.{Undamaged, wholeBlocks, says-whole, firstWrong, says-right, first-wrong}
-use Rattle.image.specs.{Stands.{StandsAt, firstMisplaced, says-placed, first-misplaced}, Link.EachBlock.{image-sound, image-stands}}
-use Rattle.image.specs.{Link.ReadShape.{shaped}, Limits.{places-most}}
+use Rattle.block.specs.{Damage.{blocksIn, RightAt, WholeBlocks, Undamaged, wholeBlocks, says-whole, firstWrong, says-right, first-wrong}}
+use Rattle.block.specs.{Stands.{StandsAt, firstMisplaced, says-placed, first-misplaced}, Limits.{places-most}}
+use Rattle.image.specs.{Encode.{encode}, Decode.{decode, decode-encode, nIn, placesIn}, Link.EachBlock.{image-sound, image-stands}}
+use Rattle.image.specs.Link.ReadShape.{shaped}
 
 -- what is wrong with an image: its length; the check of the block at a place; a rule, with the place of the first block that cannot stand where
 -- it is, "or the block count if only other rules break"

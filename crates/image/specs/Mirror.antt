@@ -1,4 +1,3 @@
-pub mod Block
-pub mod BlockTests
+pub mod RawBytes
 pub mod TableBytes
 pub mod EntryOrder

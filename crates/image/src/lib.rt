@@ -2,20 +2,16 @@
 ghost use mathlib.Core.Path.{_≡_};
 ghost use mathlib.Core.List.{[], _∷_};
 ghost use mathlib.Core.Option.{none};
-ghost use Prim.Native.Nat.{ℕ, suc, _+_, _-_, _*_, _/_, _<_, _≤_, min};
-ghost use lib.ListN.{getD, length, replicate, take};
+ghost use Prim.Native.Nat.{ℕ, suc, _+_, _-_, _*_, _<_, _≤_, min};
+ghost use lib.ListN.{length, replicate};
 ghost use lib.Seq.{sets};
 ghost use Rattle.laws.specs.Cat.{cat};
 ghost use Rattle.laws.specs.Says.{Says};
 ghost use Rattle.clock.specs.Vectors.{places, place};
-ghost use Rattle.image.specs.Limits.{broad, image-bytes, placesFor, editionOf, block-bytes, check-at, payload-bytes, vector-bytes, after-vector, cell-bytes, open-bytes, cells-in, opens-in, blocks-for, row-most, opens-most};
-ghost use Rattle.image.specs.Check.{checkOf};
-ghost use Rattle.image.specs.Encode.{word, long, vectorWords, markBytes, deskBytes, blockOf, perDesk, blocksOf, encode};
-ghost use Rattle.image.specs.Damage.{Right, WholeBlocks, blocksIn};
-ghost use Rattle.image.specs.Stands.{KindStands, Stands};
-ghost use Rattle.image.specs.Mirror.BlockTests.{Passes, PassesAt};
-ghost use Rattle.laws.specs.FirstNot.{FirstNot};
-ghost use Rattle.image.specs.Mirror.Block.{head, openRaw, SmallOpen};
+ghost use Rattle.block.specs.Limits.{broad, image-bytes, placesFor, block-bytes, open-bytes, cells-in, opens-in, row-most, opens-most};
+ghost use Rattle.block.specs.Block.{blockOf};
+ghost use Rattle.image.specs.Encode.{deskBytes, perDesk, blocksOf, encode};
+ghost use Rattle.image.specs.Mirror.RawBytes.{openRaw, SmallOpen};
 ghost use Rattle.image.specs.Mirror.TableBytes.{CellsFit, cellPiece, OrderFits, openPiece};
 ghost use Rattle.machine.specs.Table.{most-writes};
 ghost use Rattle.machine.specs.Rules.{In};
@@ -27,6 +23,15 @@ ghost use Rattle.image.specs.Mirror.EntryOrder.{Listed, InOrder, Known};
 ghost use Rattle.image.specs.Link.FieldPlaces.{blockAt};
 ghost use Rattle.image.specs.Link.SavedIsImage.{Planned, Saved};
 ghost use Rattle.image.specs.Saving.{Saves, savingOf};
+use block::BLOCK;
+use block::BROAD;
+use block::CELL_KIND;
+use block::CHECK;
+use block::DESK_KIND;
+use block::OPEN_KIND;
+use block::PAYLOAD_AT;
+use block::SIZE_KIND;
+use block::VECTOR_AT;
 use clock::PLACES;
 use table::CELLS;
 use table::Cell;
@@ -39,38 +44,14 @@ use table::Open;
 use table::Opens;
 use table::Table;
 
-// Bytes to a block.
-pub const BLOCK: usize = 512;
-// Where its payload stands.
-pub const PAYLOAD_AT: usize = 4;
 // What the payload of kind 1 begins with: desks, cells, open writes.
 pub const DESKS_AT: usize = PAYLOAD_AT;
 
 pub const CELLS_AT: usize = PAYLOAD_AT + 1;
 
 pub const COUNT_AT: usize = PAYLOAD_AT + 2;
-// The kinds of a block.
-const SIZE_KIND: u8 = 1;
-
-const DESK_KIND: u8 = 2;
-
-const CELL_KIND: u8 = 3;
-
-const OPEN_KIND: u8 = 4;
-// The editions.
-const EDITION_1: u8 = 1;
-
-const EDITION_2: u8 = 2;
-// Where its check stands.
-pub const CHECK: usize = 508;
-// Where the vector of a desk, a cell and an open write stands: behind 4 bytes.
-pub const VECTOR_AT: usize = 4;
-// The same of a desk's counts in its block.
+// Where a desk's counts stand in its block.
 pub const APPLIED_AT: usize = PAYLOAD_AT + VECTOR_AT;
-// The places of a vector in edition 1, and in edition 2.
-const NARROW: usize = 8;
-
-const BROAD: usize = 16;
 // The largest image: a cell and an open write of edition 2, how many stand in a block, and all of it in bytes.
 const BROAD_CELL: usize = VECTOR_AT + 2 * BROAD;
 
@@ -91,264 +72,16 @@ pub fn room() -> [u8; IMAGE]
     [0u8; IMAGE]
 }
 
-// The layout --
-
-// The places of a vector in the image of a table of n desks.
-pub fn places_for(n: usize) -> usize
-    ensures { λ r. ⌜ (r ≡ placesFor n) × (r ≤ places) ⌝ }
-{
-    if n <= NARROW { NARROW } else { BROAD }
-}
-
-// The edition where a vector has p places.
-fn edition_of(p: usize) -> u8
-    ensures { λ r. ⌜ r ≡ editionOf p ⌝ }
-{
-    if p <= NARROW { EDITION_1 } else { EDITION_2 }
-}
-
-// Bytes to a cell; and where a desk's clock and an open write's marks stand, behind a vector.
-pub fn cell_bytes(p: usize) -> usize
-    requires { ⌜ p ≤ places ⌝ }
-    ensures { λ r. ⌜ r ≡ cell-bytes p ⌝ }
-{
-    VECTOR_AT + 2 * p
-}
-
-// Bytes to an open write.
-pub fn open_bytes(p: usize) -> usize
-    requires { ⌜ p ≤ places ⌝ }
-    ensures { λ r. ⌜ r ≡ open-bytes p ⌝ }
-{
-    cell_bytes(p) + p
-}
-
-// How many of w bytes stand in a block.
-fn fit_in(w: usize) -> usize
-    requires { ⌜ (1 ≤ w) × (w ≤ payload-bytes) ⌝ }
-    ensures { λ r. ⌜ (r ≡ payload-bytes / w) × ((1 ≤ r) × (r ≤ payload-bytes)) ⌝ }
-{
-    (CHECK - PAYLOAD_AT) / w
-}
-
-// Cells to a block.
-pub fn cells_in(p: usize) -> usize
-    requires { ⌜ p ≤ places ⌝ }
-    ensures { λ r. ⌜ (r ≡ cells-in p) × ((1 ≤ r) × (r ≤ payload-bytes)) ⌝ }
-{
-    fit_in(cell_bytes(p))
-}
-
-// Open writes to a block.
-pub fn opens_in(p: usize) -> usize
-    requires { ⌜ p ≤ places ⌝ }
-    ensures { λ r. ⌜ (r ≡ opens-in p) × ((1 ≤ r) × (r ≤ payload-bytes)) ⌝ }
-{
-    fit_in(open_bytes(p))
-}
-
-// The blocks that x of them take, c to a block.
-fn blocks_for(c: usize, x: usize) -> usize
-    requires { ⌜ (1 ≤ c) × ((c ≤ payload-bytes) × (x ≤ places * (most-writes + 1))) ⌝ }
-    ensures { λ r. ⌜ (r ≡ blocks-for c x) × (r ≤ x) ⌝ }
-{
-    (x + (c - 1)) / c
-}
-
-// The check of a block --
-
-fn wide(x: u8) -> u32
-    ensures { λ r. ⌜ (r ≡ x) × (r < 256) ⌝ }
-{
-    x as u32
-}
-
-// As the handbook draws it: from byte 507 back to byte 0 the sum so far, and the sum of those sums; plus one at the end.
-fn check(b: &[u8]) -> u32
-    requires { ⌜ check-at ≤ length (now b) ⌝ }
-    ensures { λ r. ⌜ r ≡ checkOf (now (b .entry)) ⌝ }
-{
-    let mut sum_so_far: u32 = 0;
-    let mut sum_of_sums: u32 = 0;
-    let mut to_go = CHECK;
-    while to_go > 0 {
-        sum_so_far = sum_so_far + wide(b[to_go - 1]);
-        sum_of_sums = sum_of_sums + sum_so_far;
-        to_go -= 1;
-    }
-    sum_of_sums + 1
-}
-
-// The check stored, which ends a block.
-pub fn seal(b: &mut [u8; BLOCK])
-    ensures { λ _. ⌜ now (b .exit) ≡ sets (now (b .entry)) check-at (long (checkOf (now (b .entry)))) ⌝ }
-{
-    let c = check(b);
-    b[CHECK] = (c % 256) as u8;
-    b[CHECK + 1] = (c / 256 % 256) as u8;
-    b[CHECK + 2] = (c / 65536 % 256) as u8;
-    b[CHECK + 3] = (c / 16777216) as u8;
-}
-
-// Is the check that stands in a block its own?
-fn right(b: &[u8]) -> bool
-    requires { ⌜ length (now b) ≡ block-bytes ⌝ }
-    ensures { λ r. ⌜ Says r (Right (now (b .entry))) ⌝ }
-{
-    let c0 = wide(b[CHECK]);
-    let c1 = wide(b[CHECK + 1]);
-    let c2 = wide(b[CHECK + 2]);
-    let c3 = wide(b[CHECK + 3]);
-    c0 + 256 * c1 + 65536 * c2 + 16777216 * c3 == check(b)
-}
-
-// Can a block of this kind stand at place k: the sizes first, and no others behind them?
-fn kind_stands(k: usize, kind: u8) -> bool
-    ensures { λ r. ⌜ Says r (KindStands k kind) ⌝ }
-{
-    if k == 0 {
-        return kind == SIZE_KIND;
-    }
-    if kind < DESK_KIND {
-        return false;
-    }
-    kind <= OPEN_KIND
-}
-
-// Can a block stand at place k, by the place, edition and kind that it tells?
-fn stands(b: &[u8], k: usize) -> bool
-    requires { ⌜ length (now b) ≡ block-bytes ⌝ }
-    ensures { λ r. ⌜ Says r (Stands k (now (b .entry))) ⌝ }
-{
-    let lo = wide(b[2]);
-    let hi = wide(b[3]);
-    if (lo + 256 * hi) as usize != k {
-        return false;
-    }
-    if b[1] < EDITION_1 {
-        return false;
-    }
-    if EDITION_2 < b[1] {
-        return false;
-    }
-    kind_stands(k, b[0])
-}
-
-// What is asked of each block.
-pub enum Test {
-    Check,
-    Place,
-}
-
-fn passes(b: &[u8], k: usize, test: Test) -> bool
-    requires { ⌜ length (now b) ≡ block-bytes ⌝ }
-    ensures { λ r. ⌜ Says r (Passes test k (now (b .entry))) ⌝ }
-{
-    match test {
-        Test::Check => right(b),
-        Test::Place => stands(b, k),
-    }
-}
-
-// The place of the first block that fails the test, or the block count.
-pub fn first_not(b: &[u8], test: Test) -> usize
-    ensures { λ r. ⌜ FirstNot (PassesAt test (now (b .entry))) (blocksIn (now (b .entry))) r ⌝ }
-{
-    let count = b.len() / BLOCK;
-    let mut k = 0;
-    while k < count {
-        let at = BLOCK * k;
-        let e = at + BLOCK;
-        if !passes(&b[at..e], k, test) {
-            return k;
-        }
-        k += 1;
-    }
-    k
-}
-
-// Is the length a nonzero multiple of 512? (Else 15.)
-pub fn whole_blocks(b: &[u8]) -> bool
-    ensures { λ r. ⌜ Says r (WholeBlocks (now (b .entry))) ⌝ }
-{
-    let n = b.len();
-    if n == 0 {
-        return false;
-    }
-    n % BLOCK == 0
-}
-
-// Fields of a block --
-
-fn byte(x: u16) -> u8
-    requires { ⌜ x < 256 ⌝ }
-    ensures { λ r. ⌜ r ≡ x ⌝ }
-{
-    x as u8
-}
-
-// A number of 16 bits, low byte first.
-fn put_word(b: &mut [u8; BLOCK], at: usize, x: u16)
-    requires { ⌜ at + 2 ≤ block-bytes ⌝ }
-    ensures { λ _. ⌜ now (b .exit) ≡ sets (now (b .entry)) at (word x) ⌝ }
-{
-    b[at] = (x % 256) as u8;
-    b[at + 1] = (x / 256) as u8;
-}
-
-// The first p places of a vector, and of marks.
-fn put_words(b: &mut [u8; BLOCK], at: usize, v: [u16; PLACES], p: usize)
-    requires { ⌜ (p ≤ places) × (at + vector-bytes p ≤ block-bytes) ⌝ }
-    ensures { λ _. ⌜ now (b .exit) ≡ sets (now (b .entry)) at (vectorWords p (place v)) ⌝ }
-{
-    let mut t = 0;
-    while t < p {
-        put_word(b, at + 2 * t, v[t]);
-        t += 1;
-    }
-}
-
-fn put_marks(b: &mut [u8; BLOCK], at: usize, v: [u16; PLACES], p: usize)
-    requires { ⌜ (p ≤ places) × (at + p ≤ block-bytes) ⌝ }
-    requires { ⌜ ((t : ℕ) → getD v t 0 < 256) ⌝ }
-    ensures { λ _. ⌜ now (b .exit) ≡ sets (now (b .entry)) at (markBytes p (place v)) ⌝ }
-{
-    let mut t = 0;
-    while t < p {
-        b[at + t] = byte(v[t]);
-        t += 1;
-    }
-}
-
-// What begins with 4 bytes and a vector: a desk, a cell, an open write.
-fn put_record(b: &mut [u8; BLOCK], at: usize, x: u16, y: u16, z: u16, v: [u16; PLACES], p: usize)
-    requires { ⌜ (p ≤ places) × ((at + after-vector p ≤ block-bytes) × ((x < 256) × ((y < 256) × (z < 256)))) ⌝ }
-    ensures { λ _. ⌜ now (b .exit) ≡ sets (now (b .entry)) at (x ∷ y ∷ z ∷ 0 ∷ vectorWords p (place v)) ⌝ }
-{
-    b[at] = byte(x);
-    b[at + 1] = byte(y);
-    b[at + 2] = byte(z);
-    b[at + 3] = 0;
-    put_words(b, at + VECTOR_AT, v, p);
-}
+// A block of each kind --
 
 fn put_open(b: &mut [u8; BLOCK], at: usize, o: Open, p: usize)
     requires { ⌜ (p ≤ places) × ((at + open-bytes p ≤ block-bytes) × SmallOpen o) ⌝ }
     ensures { λ _. ⌜ now (b .exit) ≡ sets (now (b .entry)) at (openRaw p o) ⌝ }
 {
     let v = o.vector;
-    put_record(b, at, o.writer, o.status, o.cell, v, p);
+    block::put_record(b, at, o.writer, o.status, o.cell, v, p);
     let k = o.marks;
-    put_marks(b, at + cell_bytes(p), k, p);
-}
-
-// Kind, edition and place, where a vector has p places.
-fn put_head(b: &mut [u8; BLOCK], p: usize, kind: u8, at: u16)
-    ensures { λ _. ⌜ now (b .exit) ≡ sets (now (b .entry)) 0 (head (editionOf p) kind at) ⌝ }
-{
-    b[0] = kind;
-    b[1] = edition_of(p);
-    put_word(b, 2, at);
+    block::put_marks(b, at + block::cell_bytes(p), k, p);
 }
 
 // The block of desk k, from 1: it stands at place k.
@@ -357,13 +90,13 @@ fn desk_block(p: usize, k: u16, d: Desk) -> [u8; BLOCK]
     ensures { λ r. ⌜ r ≡ blockOf p 2 k (deskBytes p k (place (d .applied)) (place (d .clock .at))) ⌝ }
 {
     let mut b = [0u8; BLOCK];
-    put_head(&mut b, p, DESK_KIND, k);
+    block::put_head(&mut b, p, DESK_KIND, k);
     let applied = d.applied;
-    put_record(&mut b, PAYLOAD_AT, k, 0, 0, applied, p);
+    block::put_record(&mut b, PAYLOAD_AT, k, 0, 0, applied, p);
     let clock = d.clock;
     let v = clock.at;
-    put_words(&mut b, PAYLOAD_AT + cell_bytes(p), v, p);
-    seal(&mut b);
+    block::put_words(&mut b, PAYLOAD_AT + block::cell_bytes(p), v, p);
+    block::seal(&mut b);
     b
 }
 
@@ -373,18 +106,12 @@ fn size_block(p: usize, n: u16, m: u16, count: u16) -> [u8; BLOCK]
     ensures { λ r. ⌜ r ≡ blockOf p 1 0 (n ∷ m ∷ count ∷ []) ⌝ }
 {
     let mut b = [0u8; BLOCK];
-    put_head(&mut b, p, SIZE_KIND, 0);
-    b[DESKS_AT] = byte(n);
-    b[CELLS_AT] = byte(m);
-    b[COUNT_AT] = byte(count);
-    seal(&mut b);
+    block::put_head(&mut b, p, SIZE_KIND, 0);
+    b[DESKS_AT] = block::byte(n);
+    b[CELLS_AT] = block::byte(m);
+    b[COUNT_AT] = block::byte(count);
+    block::seal(&mut b);
     b
-}
-
-fn least(a: usize, b: usize) -> usize
-    ensures { λ r. ⌜ r ≡ min a b ⌝ }
-{
-    if a < b { a } else { b }
 }
 
 // Block q of the cells of desk i, from 0.
@@ -393,19 +120,19 @@ fn cell_block(p: usize, at: u16, cells: &Cells, i: usize, q: usize) -> [u8; BLOC
     ensures { λ r. ⌜ r ≡ blockOf p 3 at (cat (cellPiece p (now (cells .entry)) i q) (cells-in p)) ⌝ }
 {
     let mut b = [0u8; BLOCK];
-    put_head(&mut b, p, CELL_KIND, at);
-    let w = cell_bytes(p);
-    let room = cells_in(p);
+    block::put_head(&mut b, p, CELL_KIND, at);
+    let w = block::cell_bytes(p);
+    let room = block::cells_in(p);
     let first = room * q;
-    let end = least(CELLS, first + room);
+    let end = block::least(CELLS, first + room);
     let mut j = 0;
     while first + j < end {
         let c = table::cell_at(cells, i * CELLS + (first + j));
         let v = c.vector;
-        put_record(&mut b, PAYLOAD_AT + w * j, c.writer, c.status, 0, v, p);
+        block::put_record(&mut b, PAYLOAD_AT + w * j, c.writer, c.status, 0, v, p);
         j += 1;
     }
-    seal(&mut b);
+    block::seal(&mut b);
     b
 }
 
@@ -422,11 +149,11 @@ fn open_block(
     ensures { λ r. ⌜ r ≡ blockOf p 4 at (cat (openPiece p (now (opens .entry)) (now (order .entry)) count q) (opens-in p)) ⌝ }
 {
     let mut b = [0u8; BLOCK];
-    put_head(&mut b, p, OPEN_KIND, at);
-    let w = open_bytes(p);
-    let room = opens_in(p);
+    block::put_head(&mut b, p, OPEN_KIND, at);
+    let w = block::open_bytes(p);
+    let room = block::opens_in(p);
     let first = room * q;
-    let end = least(count, first + room);
+    let end = block::least(count, first + room);
     let mut j = 0;
     while first + j < end {
         let e = order[first + j];
@@ -434,23 +161,11 @@ fn open_block(
         put_open(&mut b, PAYLOAD_AT + w * j, o, p);
         j += 1;
     }
-    seal(&mut b);
+    block::seal(&mut b);
     b
 }
 
 // Blocks, one after the other --
-
-// The first len bytes of a part, put into the buffer from place at on.
-pub fn copy(part: &[u8], len: usize, out: &mut [u8], at: usize)
-    requires { ⌜ (len ≤ length (now part)) × (at + len ≤ length (now out)) ⌝ }
-    ensures { λ _. ⌜ now (out .exit) ≡ sets (now (out .entry)) at (take len (now (part .entry))) ⌝ }
-{
-    let mut j = 0;
-    while j < len {
-        out[at + j] = part[j];
-        j += 1;
-    }
-}
 
 // How the blocks of a table stand: the places of a vector, the open writes, the blocks to a desk's cells, all blocks before the open writes, and
 // all blocks.
@@ -510,26 +225,9 @@ fn save_blocks(
     let mut k = 0;
     while k < total {
         let b = block_at(core, cells, opens, order, plan, k);
-        copy(&b, BLOCK, out, BLOCK * k);
+        block::copy(&b, BLOCK, out, BLOCK * k);
         k += 1;
     }
-}
-
-// Are two parts of one length the same bytes?
-fn same(a: &[u8], b: &[u8]) -> bool
-    requires { ⌜ length (now a) ≡ length (now b) ⌝ }
-    ensures { λ r. ⌜ Says r (now (a .entry) ≡ now (b .entry)) ⌝ }
-{
-    // No way out in the middle: the compiler then compares many bytes at a time.
-    let mut same = true;
-    let mut i = 0;
-    while i < a.len() {
-        if a[i] != b[i] {
-            same = false;
-        }
-        i += 1;
-    }
-    same
 }
 
 // Are the blocks of a table those of b, which is as long?
@@ -550,7 +248,7 @@ fn same_blocks(
         let x = block_at(core, cells, opens, order, plan, k);
         let at = BLOCK * k;
         let e = at + BLOCK;
-        if !same(&x, &b[at..e]) {
+        if !block::same(&x, &b[at..e]) {
             return false;
         }
         k += 1;
@@ -657,7 +355,7 @@ pub fn per_desk(p: usize, m: usize) -> usize
     requires { ⌜ (p ≤ places) × (m ≤ desk-cells) ⌝ }
     ensures { λ r. ⌜ (r ≡ perDesk p m) × (r ≤ desk-cells) ⌝ }
 {
-    blocks_for(cells_in(p), m)
+    block::blocks_for(block::cells_in(p), m)
 }
 
 // Blocks before the open writes, where a desk's cells take c.
@@ -672,10 +370,10 @@ pub fn length_of(n: usize, m: usize, count: usize) -> usize
     requires { ⌜ (n ≤ places) × ((m ≤ desk-cells) × (count ≤ places * (most-writes + 1))) ⌝ }
     ensures { λ r. ⌜ r ≡ block-bytes * blocksOf (placesFor n) n m count ⌝ }
 {
-    let p = places_for(n);
+    let p = block::places_for(n);
     let c = per_desk(p, m);
     let k = cells_end(n, c);
-    BLOCK * (k + blocks_for(opens_in(p), count))
+    BLOCK * (k + block::blocks_for(block::opens_in(p), count))
 }
 
 // How long the image of a table is that keeps the rules: the counts tell.
@@ -699,10 +397,10 @@ fn planned(core: Core, cells: &Cells, opens: &Opens, order: &mut [usize; OPENS])
     let m = core.m;
     let desks = core.desks;
     let count = order_all(opens, desks, n, order);
-    let p = places_for(n);
+    let p = block::places_for(n);
     let row = per_desk(p, m);
     let ahead = cells_end(n, row);
-    let total = ahead + blocks_for(opens_in(p), count);
+    let total = ahead + block::blocks_for(block::opens_in(p), count);
     Plan {
         p: p,
         count: count,

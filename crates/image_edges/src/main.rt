@@ -1,9 +1,9 @@
 // The edges of the saved image, run.
+use block::BLOCK;
+use block::CHECK;
+use block::PAYLOAD_AT;
 use clock::Clock;
 use clock::PLACES;
-use image::BLOCK;
-use image::CHECK;
-use image::PAYLOAD_AT;
 use image::Saving;
 use libc::STDOUT_FILENO;
 use load::Outcome;

@@ -8,9 +8,9 @@
 // Every other line is a comment.
 ghost use Prim.Native.Nat.{_+_, _<_, _≤_};
 ghost use lib.ListN.{length};
-ghost use Rattle.image.specs.Limits.{block-bytes};
+ghost use Rattle.block.specs.Limits.{block-bytes};
+use block::BLOCK;
 use clock::PLACES;
-use image::BLOCK;
 use image::IMAGE;
 use image::Saving;
 use libc::STDIN_FILENO;
@@ -43,9 +43,9 @@ fn seal_at(b: &mut [u8], at: usize)
 {
     let e = at + BLOCK;
     let mut block = [0u8; BLOCK];
-    image::copy(&b[at..e], BLOCK, &mut block, 0);
-    image::seal(&mut block);
-    image::copy(&block, BLOCK, b, at);
+    block::copy(&b[at..e], BLOCK, &mut block, 0);
+    block::seal(&mut block);
+    block::copy(&block, BLOCK, b, at);
 }
 
 // The checks of the first len bytes, each put right.

@@ -4,8 +4,9 @@ use Rattle.laws.specs.{Kit.{take-append-seam}, FirstNot.{FirstNot}}
 use Rattle.machine.specs.{Table.{State}, Rules.{Rules}}
 use Rattle.table.specs.{declared.Core.{Core}, declared.Table.{Table}, Beginning.{freshTable}, Model.{modelOf, tableWith}}
 use Rattle.table.specs.{Sound.{SoundTable}, Value.{all-cells, cell-width, entries, open-width}}
-use Rattle.image.specs.{Encode.{encode}, Damage.{blocksIn, RightAt, WholeBlocks, Undamaged}, Stands.{StandsAt}, Load.{length-fault, check-fault}}
-use Rattle.image.specs.Load.{rule-fault, Loaded, refused, loaded, NoImage, Loads, by-length, by-check, by-rule, as-saved}
+use Rattle.block.specs.{Damage.{blocksIn, RightAt, WholeBlocks, Undamaged}, Stands.{StandsAt}}
+use Rattle.image.specs.{Encode.{encode}, Load.{length-fault, check-fault, rule-fault, Loaded, refused, loaded, NoImage, Loads, by-length}}
+use Rattle.image.specs.Load.{by-check, by-rule, as-saved}
 use Rattle.load.specs.{declared.Outcome.{Outcome}, Link.ReadsBack.{ReadsRight}}
 use Rattle.load.specs.declared.Outcome.the-variants as outcome
 

@@ -9,23 +9,23 @@ ghost use Rattle.table.specs.Value.{desk-cells, all-cells, entries};
 ghost use Rattle.table.specs.Model.{modelOf, tableWith};
 ghost use Rattle.table.specs.Sound.{SoundTable};
 ghost use Rattle.table.specs.Beginning.{freshTable};
-ghost use Rattle.image.specs.Limits.{block-bytes, payload-at, payload-bytes, vector-bytes, cell-bytes, open-bytes};
+ghost use Rattle.block.specs.Limits.{block-bytes, payload-at, payload-bytes, vector-bytes, cell-bytes, open-bytes};
 ghost use Rattle.image.specs.Encode.{encode};
 ghost use Rattle.image.specs.Decode.{placesIn, openPlace};
 ghost use Rattle.load.specs.Mirror.ImageRead.{wordAt, wordsFrom, bytesFrom, cellFrom, openFrom, deskFrom, deskFor, cellFor, Fits, SizesOf, CellsRead};
 ghost use Rattle.load.specs.Link.EntryEach.{OpensRead};
 ghost use Rattle.load.specs.Link.ReadsBack.{ReadAs};
 ghost use Rattle.load.specs.Loading.{Answers, BrokenAt};
+use block::BLOCK;
+use block::PAYLOAD_AT;
+use block::Test;
+use block::VECTOR_AT;
 use clock::Clock;
 use clock::PLACES;
 use image::APPLIED_AT;
-use image::BLOCK;
 use image::CELLS_AT;
 use image::COUNT_AT;
 use image::DESKS_AT;
-use image::PAYLOAD_AT;
-use image::Test;
-use image::VECTOR_AT;
 use table::CELL;
 use table::CELLS;
 use table::Cell;
@@ -110,7 +110,7 @@ fn read_open(b: &[u8], at: usize, p: usize) -> Open
     let c = read_cell(b, at, p);
     let vector = c.vector;
     let cell = wide(b[at + 2]);
-    let marks = bytes_at(b, at + image::cell_bytes(p), p);
+    let marks = bytes_at(b, at + block::cell_bytes(p), p);
     Open {
         writer: c.writer,
         status: c.status,
@@ -211,8 +211,8 @@ fn cell_or(b: &[u8], z: Sizes, s: usize) -> Cell
     let i = s / CELLS;
     let x = s % CELLS;
     if x < z.m {
-        let w = image::cell_bytes(z.p);
-        let room = image::cells_in(z.p);
+        let w = block::cell_bytes(z.p);
+        let room = block::cells_in(z.p);
         let at = field_place(z.n, z.c * i, x / room, w * (x % room));
         return read_cell(b, at, z.p);
     }
@@ -243,8 +243,8 @@ fn open_of(b: &[u8], z: Sizes, j: usize) -> Open
     requires { ⌜ SizesOf (now b) z × (j < z .count) ⌝ }
     ensures { λ r. ⌜ r ≡ openFrom (z .p) (now (b .entry)) (openPlace (z .p) (z .n) (z .m) j) ⌝ }
 {
-    let w = image::open_bytes(z.p);
-    let room = image::opens_in(z.p);
+    let w = block::open_bytes(z.p);
+    let room = block::opens_in(z.p);
     let at = field_place(z.n, z.c * z.n, j / room, w * (j % room));
     read_open(b, at, z.p)
 }
@@ -288,7 +288,7 @@ fn sizes_of(b: &[u8]) -> Sizes
     let n = size(b[DESKS_AT]);
     let m = size(b[CELLS_AT]);
     let count = size(b[COUNT_AT]);
-    let p = image::places_for(n);
+    let p = block::places_for(n);
     let c = image::per_desk(p, m);
     Sizes {
         p: p,
@@ -369,7 +369,7 @@ fn refused(o: Outcome) -> Taken
 fn broken(b: &[u8]) -> Taken
     ensures { λ r. ⌜ BrokenAt (now (b .entry)) (r .answer) × (r .core ≡ freshTable 0 0 .core) ⌝ }
 {
-    let place = image::first_not(b, Test::Place);
+    let place = block::first_not(b, Test::Place);
     refused(Outcome::Broken(place))
 }
 
@@ -379,10 +379,10 @@ pub fn load_into(b: &[u8], cells: &mut Cells, opens: &mut Opens) -> Taken
     requires { ⌜ (now cells ≡ freshTable 0 0 .cells) × (now opens ≡ freshTable 0 0 .opens) ⌝ }
     ensures { λ r. ⌜ Answers (now (b .entry)) (r .answer) (tableWith (r .core) (now (cells .exit)) (now (opens .exit))) ⌝ }
 {
-    if !image::whole_blocks(b) {
+    if !block::whole_blocks(b) {
         return refused(Outcome::WrongLength);
     }
-    let place = image::first_not(b, Test::Check);
+    let place = block::first_not(b, Test::Check);
     if place < b.len() / BLOCK {
         return refused(Outcome::Damaged(place));
     }

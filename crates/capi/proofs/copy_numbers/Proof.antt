@@ -1,5 +1,5 @@
 use Rattle.laws.specs.Kit.{_≤_, _-_, _≡_, sym, _∙_, arith, zero-add, length, take, take-all, take-length, sets, length-sets, needs}
-use Rattle.image.specs.Link.BlockFill.{set-more}
+use Rattle.block.specs.Link.BlockFill.{set-more}
 use Rattle.load.specs.Loading.{saved-part}
 use Rattle.capi.proofs.copy_numbers.Statement.{statement}
 use Rattle.capi.proofs.copy_numbers.Tie as tie

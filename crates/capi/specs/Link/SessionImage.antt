@@ -2,8 +2,8 @@
 use Rattle.laws.specs.Kit.{_≡_, refl, sym, ap, _∙_, [], none, some, _*_, _≤_, arith, length}
 use Rattle.clock.specs.Vectors.{places}
 use Rattle.table.specs.{declared.Table.{Table}, Value.{desk-cells}, Model.{modelOf, appliedM}, Sound.{SoundTable}}
-use Rattle.image.specs.{Link.OrderFromCounts.{counted}, Encode.{blocksOf, encode}, Link.SavedIsImage.{length-is}, Limits.{placesFor}}
-use Rattle.image.specs.Limits.{block-bytes}
+use Rattle.block.specs.Limits.{placesFor, block-bytes}
+use Rattle.image.specs.{Link.OrderFromCounts.{counted}, Encode.{blocksOf, encode}, Link.SavedIsImage.{length-is}}
 use Rattle.session.specs.{Session.{Session}, Holds.{Holds}}
 use Rattle.capi.specs.Access.{imageOf}
 

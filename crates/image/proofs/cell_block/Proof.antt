@@ -1,6 +1,7 @@
-use Rattle.image.specs.Limits.{payload-at, payload-bytes, cell-bytes, cells-in, editionOf, fit, piece-inside, first-inside}
-use Rattle.image.specs.{Mirror.Block.{cellRaw, made, zeros-behind}, Mirror.TableBytes.{CellFor, cellPiece, length-cellPiece}}
-use Rattle.image.specs.Mirror.TableBytes.{cell-there, cell-past, one-more}
+use Rattle.block.specs.Limits.{payload-at, payload-bytes, cell-bytes, cells-in, editionOf, fit, piece-inside, first-inside}
+use Rattle.block.specs.Mirror.Block.{made, zeros-behind}
+use Rattle.image.specs.{Mirror.RawBytes.{cellRaw}, Mirror.TableBytes.{CellFor, cellPiece, length-cellPiece, cell-there, cell-past}}
+use Rattle.image.specs.Mirror.TableBytes.{one-more}
 use Rattle.laws.specs.{Cat.{cat, length-cat}, Kit.{ℕ, sets, _≡_, ap, _∙_, arith, mul-le-mul-left, _+_, _*_, _<_, _≤_, _-_, min, needs}}
 use Rattle.table.specs.Value.{desk-cells}
 use Rattle.image.proofs.cell_block.Statement.{statement}

@@ -1,5 +1,6 @@
 use Rattle.clock.specs.Vectors.{place}
-use Rattle.image.specs.{Limits.{wide, payload-at, editionOf}, Encode.{deskBytes}, Fields.{length-desk}, Mirror.Block.{behind, made}}
+use Rattle.block.specs.{Limits.{wide, payload-at, editionOf}, Mirror.Block.{behind, made}}
+use Rattle.image.specs.{Encode.{deskBytes}, Fields.{length-desk}}
 use Rattle.laws.specs.Kit.{_∙_, arith, needs}
 use Rattle.image.proofs.desk_block.Statement.{statement}
 use Rattle.image.proofs.desk_block.Tie as tie

@@ -1,6 +1,6 @@
-use Rattle.image.specs.Limits.{payload-at, payload-bytes, open-bytes, opens-in, editionOf, fit, piece-inside, first-inside}
-use Rattle.image.specs.{Mirror.Block.{SmallOpen, made, zeros-behind}, Mirror.TableBytes.{openPiece, length-openPiece, open-there}}
-use Rattle.image.specs.Mirror.TableBytes.{open-past, one-more}
+use Rattle.block.specs.Limits.{payload-at, payload-bytes, open-bytes, opens-in, editionOf, fit, piece-inside, first-inside}
+use Rattle.block.specs.Mirror.Block.{made, zeros-behind}
+use Rattle.image.specs.{Mirror.RawBytes.{SmallOpen}, Mirror.TableBytes.{openPiece, length-openPiece, open-there, open-past, one-more}}
 use Rattle.laws.specs.{Cat.{cat, length-cat}, Kit.{ℕ, sets, _≡_, ap, _∙_, arith, mul-le-mul-left, getD, _+_, _*_, _<_, _≤_, _-_, min}}
 use Rattle.laws.specs.Kit.{needs}
 use Rattle.table.specs.Value.{entries, openAt}

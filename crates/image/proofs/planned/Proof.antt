@@ -1,4 +1,5 @@
-use Rattle.image.specs.{Limits.{places-most, desks-placed}, Link.SavedIsImage.{known, planned, Planned}}
+use Rattle.block.specs.Limits.{places-most, desks-placed}
+use Rattle.image.specs.Link.SavedIsImage.{known, planned, Planned}
 use Rattle.table.specs.Model.{tableWith}
 use Rattle.laws.specs.Kit.{arith, _∙_, _+_, needs}
 use Rattle.image.proofs.planned.Statement.{statement}

@@ -1,4 +1,5 @@
-use Rattle.image.specs.Mirror.Block.{openRaw, behind}
+use Rattle.block.specs.Mirror.Block.{behind}
+use Rattle.image.specs.Mirror.RawBytes.{openRaw}
 use Rattle.laws.specs.Kit.{_∙_, needs}
 use Rattle.image.proofs.put_open.Statement.{statement}
 use Rattle.image.proofs.put_open.Tie as tie

@@ -1,5 +1,5 @@
-use Rattle.image.specs.{Limits.{block-bytes}, Damage.{blockIn}, Link.FieldPlaces.{blockAt, length-at}}
-use Rattle.image.specs.Link.SavedIsImage.{planned-wide, blocks-same, same-block}
+use Rattle.block.specs.{Limits.{block-bytes}, Damage.{blockIn}}
+use Rattle.image.specs.{Link.FieldPlaces.{blockAt, length-at}, Link.SavedIsImage.{planned-wide, blocks-same, same-block}}
 use Rattle.laws.specs.{Cat.{part}, Says.{Says, apart, clash}, Kit.{below-more, length, length-take, length-drop, not-true, not-false}}
 use Rattle.laws.specs.Kit.{arith, _≡_, refl, ℕ, _<_, _≤_, _+_, _*_, _-_, needs}
 use Rattle.table.specs.Model.{modelOf, tableWith}

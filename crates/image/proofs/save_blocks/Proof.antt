@@ -1,5 +1,6 @@
-use Rattle.image.specs.{Limits.{block-bytes}, Link.FieldPlaces.{blockAt, length-at}, Mirror.TableBytes.{one-more}}
-use Rattle.image.specs.Link.SavedIsImage.{all-blocks, planned-wide}
+use Rattle.block.specs.Limits.{block-bytes}
+use Rattle.image.specs.{Link.FieldPlaces.{blockAt, length-at}, Mirror.TableBytes.{one-more}, Link.SavedIsImage.{all-blocks}}
+use Rattle.image.specs.Link.SavedIsImage.{planned-wide}
 use Rattle.laws.specs.{Cat.{cat}, Kit.{length, sets, take-all, _≡_, _∙_, arith, _≤_, _-_, needs}}
 use Rattle.table.specs.Model.{modelOf, tableWith}
 use Rattle.image.proofs.save_blocks.Statement.{statement}

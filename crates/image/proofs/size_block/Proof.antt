@@ -1,4 +1,4 @@
-use Rattle.image.specs.{Mirror.Block.{made}, Limits.{payload-at, editionOf}}
+use Rattle.block.specs.{Mirror.Block.{made}, Limits.{payload-at, editionOf}}
 use Rattle.laws.specs.Kit.{[], _∷_, sets, arith, needs}
 use Rattle.image.proofs.size_block.Statement.{statement}
 use Rattle.image.proofs.size_block.Tie as tie

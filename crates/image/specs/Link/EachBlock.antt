@@ -1,20 +1,9 @@
 -- Of every table's image, whether it keeps the rules or not: no block of it is damaged, and each can stand where it is.
-use Rattle.laws.specs.Kit.{ℕ, _+_, _*_, _/_, _%_, _<_, _≤_, _≡_, List, arith, getD-append-add, length, leb}
-use Rattle.laws.specs.Loop.{pick, cases}
+use Rattle.laws.specs.{Kit.{ℕ, _+_, _*_, _/_, _%_, _<_, _≤_, _≡_, List, arith, length, leb}, Loop.{pick, cases}}
 use Rattle.machine.specs.Table.{State}
-use Rattle.image.specs.{Check.{checkOf, check-first}, Encode.{long, body, block, encodeAt, blocks, encode}, Damage.{checkIn, Right, blocksIn}}
-use Rattle.image.specs.{Damage.{Undamaged}, Stands.{EditionStands, Stands, StandsAt, block-stands}}
-use Rattle.image.specs.{Link.FieldPlaces.{length-body, length-encode, block-at, every-block}, Limits.{Wide, wide-for, narrow, placesFor, editionOf}}
-use Rattle.image.specs.Limits.{payload-bytes}
-
-right-block : (edition kind place : ℕ) (l : List ℕ) → length l ≤ payload-bytes → Right (block edition kind place l)
-unfolding checkIn block
-right-block edition kind place l h =
-    let b = body edition kind place l in
-    let e = length-body edition kind place l h in
-    let c = checkOf b in
-    let tail = getD-append-add b (long c) in
-    rw (check-first b (long c) e, rw e at (tail 0 0), rw e at (tail 1 0), rw e at (tail 2 0), rw e at (tail 3 0)) (omega arith)
+use Rattle.block.specs.{Damage.{Right, blocksIn, Undamaged, right-block}, Stands.{EditionStands, Stands, StandsAt, block-stands}}
+use Rattle.block.specs.Limits.{Wide, wide-for, narrow, placesFor, editionOf, block-bytes}
+use Rattle.image.specs.{Encode.{encodeAt, blocks, encode}, Link.FieldPlaces.{length-encode, block-at, every-block}}
 
 pub sound-encode : (ps : ℕ) → Wide ps → (s : State) → Undamaged (encodeAt ps s)
 sound-encode ps wd s =

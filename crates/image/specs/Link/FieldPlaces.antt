@@ -1,52 +1,18 @@
 -- Where each field stands in the image.
-use Rattle.laws.specs.Kit.{ℕ, zero, suc, _+_, _-_, _*_, _/_, _%_, _<_, _≤_, _≡_, refl, sym, _∙_, Bool, true, false, List, [], _∷_, _++_}
-use Rattle.laws.specs.Kit.{append-assoc, map, arith, eqb, leb, ltb, ne-eqb, le-leb, lt-leb, le-ltb, lt-ltb, length, replicate}
-use Rattle.laws.specs.Kit.{length-append, length-replicate, mul-le-mul-left, mul-add-div, mul-add-mod-self-left, div-eq-of-lt, mod-eq-of-lt}
-use Rattle.laws.specs.{Kit.{add-zero}, Loop.{pick}, Cat.{cat, cat-same, part, part-right, part-left, part-cat, piece-cat, length-cat}}
-use Rattle.laws.specs.Each.{each-at, each-map}
+use Rattle.laws.specs.Kit.{ℕ, zero, suc, _+_, _-_, _*_, _/_, _%_, _<_, _≤_, _≡_, refl, sym, _∙_, Bool, true, false, List, [], _∷_, append-assoc, map}
+use Rattle.laws.specs.Kit.{arith, eqb, leb, ltb, ne-eqb, le-leb, lt-leb, le-ltb, lt-ltb, length, replicate, length-replicate}
+use Rattle.laws.specs.{Kit.{mul-le-mul-left, mul-add-div, mul-add-mod-self-left, div-eq-of-lt, mod-eq-of-lt, add-zero}, Loop.{pick}}
+use Rattle.laws.specs.{Cat.{cat, cat-same, part, part-cat, piece-cat, length-cat}, Each.{each-at, each-map}}
 use Rattle.machine.specs.{Table.{State}, Steps.{openCount}}
-use Rattle.image.specs.{OpenNames.{names, OpenName, names-open}, Check.{checkOf}, Encode.{word, long, body, block, blockOf}}
-use Rattle.image.specs.Encode.{openNamed, blocks, deskBytes, cellPart, openPart, perDesk, openBlocks, block2, block3, block4}
-use Rattle.image.specs.{Encode.{encodeAt}, Fields.{length-desk, length-cell, length-open}, Link.BlockFill.{cat-plus, cat-rows}}
-use Rattle.image.specs.Limits.{Wide, fit, piece-inside, block-bytes, payload-at, check-at, payload-bytes, desk-bytes, cell-bytes}
-use Rattle.image.specs.{Limits.{open-bytes, cells-in, opens-in, editionOf}, Stands.{KindStands}}
+use Rattle.block.specs.{Link.BlockPlaces.{length-block, part-block, few-bytes, piece-block, piece-room}, Stands.{KindStands}}
+use Rattle.block.specs.{Block.{blockOf}, Link.BlockFill.{cat-plus, cat-rows}, Limits.{Wide, block-bytes, payload-at}}
+use Rattle.block.specs.Limits.{payload-bytes, desk-bytes, cell-bytes, open-bytes, cells-in, opens-in, editionOf}
+use Rattle.image.specs.{OpenNames.{names, OpenName, names-open}, Encode.{openNamed, blocks, deskBytes, cellPart, openPart, perDesk}}
+use Rattle.image.specs.{Encode.{openBlocks, block2, block3, block4, encodeAt}, Fields.{length-desk, length-cell, length-open}}
 
 pub pick-has : {A : Type 0} (P : A → Type 0) (b : Bool) {x y : A} → P x → P y → P (pick b x y)
 pick-has P true h g = h
 pick-has P false h g = g
-
--- blocks --
-
-pub length-body : (edition kind place : ℕ) (l : List ℕ) → length l ≤ payload-bytes → length (body edition kind place l) ≡ check-at
-length-body edition kind place l h = simp (length-append, length-replicate) (omega arith)
-
-pub length-block : (edition kind place : ℕ) (l : List ℕ) → length l ≤ payload-bytes → length (block edition kind place l) ≡ block-bytes
-unfolding block
-length-block edition kind place l h = rw (length-append (body edition kind place l), length-body edition kind place l h)
-
--- the payload stands at 4
-part-block : (edition kind place : ℕ) (l : List ℕ) (p w : ℕ) → p + w ≤ length l → part (payload-at + p) w (block edition kind place l) ≡ part p w l
-unfolding block
-part-block edition kind place l p w h =
-    let z : List ℕ = replicate (payload-bytes - length l) 0 in
-    part-right (kind ∷ edition ∷ word place) ((l ++ z) ++ long (checkOf (body edition kind place l))) 4 p w refl
-    ∙ part-left (l ++ z) (long (checkOf (body edition kind place l))) p w (rw length-append (omega arith))
-    ∙ part-left l z p w h
-
--- a block of pieces of w bytes, as many as fit --
-
-module _ (w : ℕ) (f : ℕ → List ℕ) (l : (j : ℕ) → length (f j) ≡ w) where
-  pub few-bytes : length (cat f (payload-bytes / w)) ≤ payload-bytes
-  few-bytes = omega (arith, length-cat f w l (payload-bytes / w), fit w)
-
-  piece-block : (edition kind place j : ℕ) → j < payload-bytes / w → part (payload-at + w * j) w (block edition kind place (cat f (payload-bytes / w))) ≡ f j
-  piece-block edition kind place j h =
-      part-block edition kind place (cat f (payload-bytes / w)) (w * j) w (omega (arith, length-cat f w l (payload-bytes / w), mul-le-mul-left w h))
-      ∙ piece-cat f (payload-bytes / w) j (w * j) w h (length-cat f w l j) (l j)
-
--- it lies within the block
-piece-room : (w j : ℕ) → j < payload-bytes / w → payload-at + w * j + w ≤ block-bytes
-piece-room w j h = omega (arith, piece-inside w j h)
 
 module _ (ps : ℕ) (s : State) where
   abbrev row : ℕ

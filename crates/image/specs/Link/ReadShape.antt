@@ -3,8 +3,9 @@ use Rattle.laws.specs.{Kit.{ℕ, suc, _≤_, _≡_, _↔_, true, _&&_, List, []
 use Rattle.laws.specs.{FromOne.{from1, from1-all}, Find.{first-is}, Cat.{part}}
 use Rattle.machine.specs.{Table.{most-desks, Vec, zeros, Cell, blank, set, Open}, Steps.{within}, Rules.{In, Flat, Rules}}
 use Rattle.machine.specs.{Within.{says-within}, RulesTest.{keeps, ZeroPast}, Proofs.RulesTestTells.{says-rules}}
+use Rattle.block.specs.Limits.{vector-at, vector-bytes, after-vector, cell-bytes}
 use Rattle.image.specs.{Fields.{vecOf, marksOf, cellRead, openRead}, Decode.{nIn, mIn, deskPlace, cellPlace, deskIn, cellIn}}
-use Rattle.image.specs.{Decode.{entriesIn, bears, opensIn, decodeAt}, Limits.{vector-at, vector-bytes, after-vector, cell-bytes}}
+use Rattle.image.specs.Decode.{entriesIn, bears, opensIn, decodeAt}
 
 -- where a vector has ps places
 module _ (ps : ℕ) (few : ps ≤ most-desks) where

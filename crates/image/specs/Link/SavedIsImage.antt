@@ -8,15 +8,15 @@ use Rattle.machine.specs.{Table.{most-writes, Name, State}, Steps.{isNone, open
 use Rattle.table.specs.{declared.Cell.{Cell}, declared.Open.{Open}, declared.Table.{Table}, Value.{desk0, desk-cells, cellAt, entries}}
 use Rattle.table.specs.{Value.{openAt}, EntryNames.{named-is}, Model.{modelOf, cellM, openM, appliedM, clockM, cellsM, opensM, slot}}
 use Rattle.table.specs.{Model.{cell-in}, Link.OpensModel.{opens-at}, Sound.{SoundTable, AllZero}}
+use Rattle.block.specs.{Block.{vectorWords, blockOf}, Damage.{blockIn}, Link.BlockFill.{cat-parts}, Limits.{Wide, some-cells, some-opens}}
+use Rattle.block.specs.Limits.{block-of, blocks-mono, block-bytes, vector-bytes, cell-bytes, open-bytes, cells-in, opens-in, blocks-for}
+use Rattle.block.specs.Limits.{row-most, opens-most, wide, placesFor, places-most, desks-placed}
 use Rattle.image.specs.{OpenNames.{names, no-name, length-names, OpenName, names-open}, Link.OrderFromCounts.{low, counted}}
-use Rattle.image.specs.{Link.OrderFromCounts.{names-counted, open-low}, Encode.{vectorWords, cellBytes, openBytes, deskBytes}}
-use Rattle.image.specs.Encode.{blockOf, blocks, blocksOf, openNamed, cellPart, openPart, perDesk, encodeAt, encode}
-use Rattle.image.specs.{Damage.{blockIn}, ImageSize.{most-blocks}, declared.Plan.{Plan}, Link.FieldPlaces.{blockAt, encode-is}}
-use Rattle.image.specs.{Link.FieldPlaces.{length-encode, block-at}, Link.BlockFill.{cat-parts}, Mirror.Block.{cellRaw, openRaw}}
-use Rattle.image.specs.{Mirror.TableBytes.{CellsFit, cellPiece, OrderFits, openOr, openPiece}, Mirror.EntryOrder.{HoldsWrite}}
-use Rattle.image.specs.{Mirror.EntryOrder.{InOrder, Known}, Limits.{Wide, some-cells, some-opens, block-of, blocks-mono, block-bytes}}
-use Rattle.image.specs.Limits.{vector-bytes, cell-bytes, open-bytes, cells-in, opens-in, blocks-for, row-most, opens-most, wide}
-use Rattle.image.specs.{Limits.{placesFor, places-most, desks-placed}, Fields.{zero-words}}
+use Rattle.image.specs.{Link.OrderFromCounts.{names-counted, open-low}, Encode.{cellBytes, openBytes, deskBytes, blocks, blocksOf}}
+use Rattle.image.specs.{Encode.{openNamed, cellPart, openPart, perDesk, encodeAt, encode}, ImageSize.{most-blocks}}
+use Rattle.image.specs.{declared.Plan.{Plan}, Link.FieldPlaces.{blockAt, encode-is, length-encode, block-at}}
+use Rattle.image.specs.{Mirror.RawBytes.{cellRaw, openRaw}, Mirror.TableBytes.{CellsFit, cellPiece, OrderFits, openOr, openPiece}}
+use Rattle.image.specs.{Mirror.EntryOrder.{HoldsWrite, InOrder, Known}, Fields.{zero-words}}
 
 -- the image of s stands in the buffer from its start on, what lies behind it is as it was, and the result is its length
 pub record Saved (s : State) (before after : List ℕ) (r : ℕ) : Type 0 where

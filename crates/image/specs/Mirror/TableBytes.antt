@@ -5,9 +5,9 @@ use Rattle.clock.specs.Vectors.{places}
 use Rattle.machine.specs.Table as machine
 use Rattle.table.specs.{declared.Cell.{Cell}, declared.Open.{Open}, Value.{desk-cells, all-cells, cellAt, entries, openAt}}
 use Rattle.table.specs.Model.{cellM, cellsM}
-use Rattle.image.specs.{Encode.{cellBytes}, Fields.{length-cell}, Link.FieldPlaces.{pick-has}, Link.BlockFill.{sets-more}}
-use Rattle.image.specs.{Mirror.Block.{cellRaw, openRaw, SmallCell, SmallOpen, length-openRaw}, Limits.{cell-bytes, open-bytes}}
-use Rattle.image.specs.Limits.{cells-in, opens-in}
+use Rattle.block.specs.{Link.BlockFill.{sets-more}, Limits.{cell-bytes, open-bytes, cells-in, opens-in}}
+use Rattle.image.specs.{Encode.{cellBytes}, Fields.{length-cell}, Link.FieldPlaces.{pick-has}, Mirror.RawBytes.{cellRaw, openRaw}}
+use Rattle.image.specs.Mirror.RawBytes.{SmallCell, SmallOpen, length-openRaw}
 
 -- a loop that puts pieces of one length, one after the other: one more
 pub one-more : (f : ℕ → List ℕ) (w : ℕ) → ((j : ℕ) → length (f j) ≡ w) → (d₀ : List ℕ) {d r b : List ℕ} (at i : ℕ) {p : ℕ} → d ≡ sets d₀ at (cat f i) → p ≡ at + w * i → b ≡ f i

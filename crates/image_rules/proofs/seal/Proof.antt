@@ -1,5 +1,5 @@
 use Rattle.clock.specs.Vectors.{places}
-use Rattle.image.specs.Limits.{block-bytes, image-bytes}
+use Rattle.block.specs.Limits.{block-bytes, image-bytes}
 use Prim.Native.Nat.{_+_, _≤_, _-_}
 use borrow.Author.Needs.{needs}
 use Rattle.image_rules.proofs.seal.Statement.{statement}

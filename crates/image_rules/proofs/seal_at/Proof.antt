@@ -1,5 +1,5 @@
 use Prim.Native.Nat.{ℕ}
-use Rattle.image.specs.Limits.{block-bytes}
+use Rattle.block.specs.Limits.{block-bytes}
 use lib.ListN.{length, length-set, length-replicate}
 use mathlib.Core.Path.{_≡_, sym, ap, _∙_}
 use native.Mathlib.Omega.{arith}

@@ -1,4 +1,5 @@
-use Rattle.image.specs.{Decode.{cellPlace}, Limits.{cell-bytes, cells-in}}
+use Rattle.block.specs.Limits.{cell-bytes, cells-in}
+use Rattle.image.specs.Decode.{cellPlace}
 use Rattle.table.specs.Value.{desk-cells}
 use Rattle.load.specs.Mirror.ImageRead.{Within, cell-where, cellFor}
 use Rattle.laws.specs.Kit.{lt-ltb, le-ltb, arith, _∙_, _<_, _*_, _/_, _%_, needs}

@@ -1,6 +1,6 @@
 use Rattle.load.specs.Loading.{length-so, damaged-so, broken-so, all-right, not-held, zeros-so, cleared-cells, cleared-opens}
 use Rattle.load.specs.Link.ReadsBack.{fits-so, reads-right}
-use Rattle.image.specs.Damage.{Undamaged}
+use Rattle.block.specs.Damage.{Undamaged}
 use Rattle.laws.specs.{Says.{apart}, Kit.{not-true, not-false, needs}}
 use Rattle.load.proofs.load_into.Statement.{statement}
 use Rattle.load.proofs.load_into.Tie as tie

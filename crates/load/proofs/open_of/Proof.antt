@@ -1,4 +1,5 @@
-use Rattle.image.specs.{Limits.{open-bytes}, Decode.{openPlace}}
+use Rattle.block.specs.Limits.{open-bytes}
+use Rattle.image.specs.Decode.{openPlace}
 use Rattle.load.specs.Mirror.ImageRead.{Within, open-where, openFrom}
 use Rattle.laws.specs.Kit.{arith, ap, _∙_, _*_, _/_, _%_, needs}
 use Rattle.load.proofs.open_of.Statement.{statement}

@@ -1,4 +1,4 @@
-use Rattle.image.specs.Limits.{block-bytes, payload-at, vector-at, vector-bytes, after-vector}
+use Rattle.block.specs.Limits.{block-bytes, payload-at, vector-at, vector-bytes, after-vector}
 use Rattle.laws.specs.Kit.{arith, _≡_, _+_, _*_, needs}
 use Rattle.load.proofs.read_desk.Statement.{statement}
 use Rattle.load.proofs.read_desk.Tie as tie

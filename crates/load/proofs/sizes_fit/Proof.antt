@@ -3,7 +3,8 @@ use Rattle.clock.specs.Vectors.{places}
 use Rattle.machine.specs.{Steps.{begins}, Rules.{In}}
 use Rattle.rules.specs.Mirror.Test.{sizesTest}
 use Rattle.table.specs.Value.{desk-cells}
-use Rattle.image.specs.{Decode.{nIn, mIn, countIn}, Limits.{places-most, desks-placed}}
+use Rattle.block.specs.Limits.{places-most, desks-placed}
+use Rattle.image.specs.Decode.{nIn, mIn, countIn}
 use Rattle.load.specs.Mirror.ImageRead.{says-no}
 use Rattle.load.proofs.sizes_fit.Statement.{statement}
 use Rattle.load.proofs.sizes_fit.Tie as tie

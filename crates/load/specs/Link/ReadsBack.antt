@@ -11,12 +11,13 @@ use Rattle.table.specs.{Value.{all-cells, cellAt, entries, openAt, isFree}, Ent
 use Rattle.table.specs.{EntryNames.{named-is}, Model.{cellM, openM, appliedVec, clockVec, appliedM, clockM, cellsM, opensM, cell-in}}
 use Rattle.table.specs.{Model.{modelOf, state-path}, Link.OpensModel.{Unique, opens-at, opens-none}, Sound.{SoundTable, AllZero}}
 use Rattle.table.specs.Beginning.{zeros-at, place-zeros}
+use Rattle.block.specs.Limits.{placesFor, wide-for, desks-placed, Wide, some-cells, block-of, vector-at, vector-bytes, after-vector}
+use Rattle.block.specs.{Limits.{cell-bytes, open-bytes, cells-in}, Link.BlockFill.{drop-replicate}}
 use Rattle.image.specs.{OpenNames.{names, no-name, length-names, OpenName, names-open, open-named}, Link.NamesDistinct.{names-distinct}}
 use Rattle.image.specs.{Encode.{cellPart, cellBytes, encodeAt, encode}, Link.FieldPlaces.{length-encode, part-3}, Fields.{zero-words}}
 use Rattle.image.specs.{Fields.{vec-words, vecOf, cellRead, writerIn, numberIn}, Decode.{nIn, mIn, countIn, deskPlace, cellPlace}}
 use Rattle.image.specs.Decode.{openPlace, deskIn, cellIn, n-back, m-back, count-back, applied-back, clock-back, cell-back, shows-at}
-use Rattle.image.specs.{Decode.{open-name, placesIn}, Limits.{placesFor, wide-for, desks-placed, Wide, some-cells, block-of, vector-at}}
-use Rattle.image.specs.{Limits.{vector-bytes, after-vector, cell-bytes, open-bytes, cells-in}, Link.BlockFill.{drop-replicate}}
+use Rattle.image.specs.Decode.{open-name, placesIn}
 use Rattle.load.specs.{Link.EntryEach.{Spread, OpensRead}, Mirror.ImageRead.{cellFrom, openFrom, deskFrom, noDesk, deskFor, cellFor}}
 use Rattle.load.specs.Mirror.ImageRead.{Fits, CellsRead, for-cases, getD-part, part-of-part, place-words, cell-read, open-read}
 

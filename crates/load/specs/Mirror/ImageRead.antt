@@ -8,10 +8,11 @@ use Rattle.table.specs.{Beginning.{zeros-at}, declared.Cell.{Cell}, declared.De
 use Rattle.table.specs.{Value.{all-cells, cellAt, cellAt-put, cellAt-other, cellOf, cell-width, entries, CellPut}, Model.{cellM, openM}}
 use Rattle.clock.specs.Vectors.{places, place, clockOf}
 use Rattle.load.specs.declared.Sizes.{Sizes}
-use Rattle.image.specs.{Encode.{perDesk, blocksOf}, Link.BlockFill.{drop-replicate}, Fields.{vecOf, marksOf, cellRead, openRead}}
-use Rattle.image.specs.{Decode.{nIn, mIn, countIn, deskPlace, cellPlace, placesIn, openPlace}, Limits.{Wide, wide, fit, some-cells}}
-use Rattle.image.specs.Limits.{some-opens, block-of, few-for, block-bytes, payload-at, payload-bytes, vector-at, vector-bytes, after-vector}
-use Rattle.image.specs.Limits.{cell-bytes, open-bytes, cells-in, opens-in, blocks-for}
+use Rattle.block.specs.{Link.BlockFill.{drop-replicate}, Limits.{Wide, wide, fit, some-cells, some-opens, block-of, few-for, block-bytes}}
+use Rattle.block.specs.Limits.{payload-at, payload-bytes, vector-at, vector-bytes, after-vector, cell-bytes, open-bytes, cells-in, opens-in}
+use Rattle.block.specs.Limits.{blocks-for}
+use Rattle.image.specs.{Encode.{perDesk, blocksOf}, Fields.{vecOf, marksOf, cellRead, openRead}, Decode.{nIn, mIn, countIn, deskPlace}}
+use Rattle.image.specs.Decode.{cellPlace, placesIn, openPlace}
 
 abbrev pub wordAt : List ℕ → ℕ → ℕ
 wordAt b p = getD b p 0 + 256 * getD b (p + 1) 0

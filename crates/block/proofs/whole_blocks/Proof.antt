@@ -1,0 +1,13 @@
+use Rattle.block.specs.Damage.{no-bytes, by-multiple}
+use Rattle.laws.specs.Kit.{needs}
+use Rattle.block.proofs.whole_blocks.Statement.{statement}
+use Rattle.block.proofs.whole_blocks.Tie as tie
+
+returns : tie.Need-returns
+returns c = no-bytes _ (c .if1 .taken)
+
+returns-2 : tie.Need-returns-2
+returns-2 c = by-multiple _ (c .if1 .left)
+
+pub whole-blocks-spec : {M : Type 1} → statement M
+whole-blocks-spec = tie.close (tie.spec returns returns-2)

@@ -1,0 +1,7 @@
+pub mod Limits
+pub mod Check
+pub mod Block
+pub mod Damage
+pub mod Stands
+pub mod Link
+pub mod Mirror

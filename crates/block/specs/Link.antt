@@ -1,0 +1,2 @@
+pub mod BlockFill
+pub mod BlockPlaces

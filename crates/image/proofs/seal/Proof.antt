@@ -1,8 +1,0 @@
-use Rattle.laws.specs.Kit.{needs}
-use Rattle.image.proofs.seal.Statement.{statement}
-use Rattle.image.proofs.seal.Tie as tie
-
-pub seal-spec : {M : Type 1} → statement M
-seal-spec = tie.close (tie.spec (λ c κs. search needs) (λ c. search needs) (λ c. search needs) (λ c. search needs) (λ c. search needs)
-    (λ c. search needs) (λ c. search needs) (λ c. search needs) (λ c. search needs) (λ c. search needs) (λ c. search needs)
-    (λ c. search needs) (λ c. rw (c .check .ensures)))
