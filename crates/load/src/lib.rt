@@ -1,5 +1,6 @@
 // A table read from its saved image (document 01, "Saved image").
 ghost use mathlib.Core.Path.{_≡_};
+ghost use mathlib.Core.List.{[], _∷_};
 ghost use Prim.Native.Nat.{_+_, _*_, _/_, _<_, _≤_};
 ghost use lib.ListN.{length, replicate};
 ghost use Rattle.laws.specs.Says.{Says};
@@ -11,11 +12,13 @@ ghost use Rattle.table.specs.Sound.{SoundTable};
 ghost use Rattle.table.specs.Beginning.{freshTable};
 ghost use Rattle.block.specs.Limits.{block-bytes, payload-at, payload-bytes, vector-bytes, cell-bytes, open-bytes};
 ghost use Rattle.image.specs.Encode.{encode};
-ghost use Rattle.image.specs.Decode.{placesIn, openPlace};
+ghost use Rattle.image.specs.Decode.{nIn, mIn, countIn, placesIn, openPlace};
+ghost use Rattle.image.specs.Load.{load};
 ghost use Rattle.load.specs.Mirror.ImageRead.{wordAt, wordsFrom, bytesFrom, cellFrom, openFrom, deskFrom, deskFor, cellFor, Fits, SizesOf, CellsRead};
 ghost use Rattle.load.specs.Link.EntryEach.{OpensRead};
 ghost use Rattle.load.specs.Link.ReadsBack.{ReadAs};
 ghost use Rattle.load.specs.Loading.{Answers, BrokenAt};
+ghost use Rattle.load.specs.Finding.{findingOf, numbersOf};
 use block::BLOCK;
 use block::PAYLOAD_AT;
 use block::Test;
@@ -418,5 +421,56 @@ pub fn load(b: &[u8]) -> Loading
     Loading {
         answer: answer,
         table: table,
+    }
+}
+
+// What there is to tell of an image: the number and place of its refusal (0 where there is none), and the sizes of its table (0 where it is refused).
+pub struct Finding {
+    pub number: usize,
+    pub place: usize,
+    pub n: usize,
+    pub m: usize,
+    pub open: usize,
+}
+
+fn fault(number: usize, place: usize) -> Finding
+    ensures { λ r. ⌜ numbersOf r ≡ number ∷ place ∷ 0 ∷ 0 ∷ 0 ∷ [] ⌝ }
+{
+    Finding {
+        number: number,
+        place: place,
+        n: 0,
+        m: 0,
+        open: 0,
+    }
+}
+
+// The sizes that an image tells of itself: those of its table.
+fn found(b: &[u8]) -> Finding
+    requires { ⌜ Fits (placesIn (now b)) (now b) ⌝ }
+    ensures { λ r. ⌜ numbersOf r ≡ 0 ∷ 0 ∷ nIn (now (b .entry)) ∷ mIn (now (b .entry)) ∷ countIn (now (b .entry)) ∷ [] ⌝ }
+{
+    let z = sizes_of(b);
+    Finding {
+        number: 0,
+        place: 0,
+        n: z.n,
+        m: z.m,
+        open: z.count,
+    }
+}
+
+pub fn inspect(b: &[u8]) -> Finding
+    ensures { λ r. ⌜ numbersOf r ≡ findingOf (load (now (b .entry))) ⌝ }
+{
+    let mut cells = [0u16; PLACES * CELLS * CELL];
+    let mut opens = [0u16; OPENS * OPEN];
+    let l = load_into(b, &mut cells, &mut opens);
+    let o = l.answer;
+    match o {
+        Outcome::WrongLength => fault(15, 0),
+        Outcome::Damaged(k) => fault(12, k),
+        Outcome::Broken(k) => fault(13, k),
+        Outcome::Accepted => found(b),
     }
 }

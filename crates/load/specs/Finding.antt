@@ -1,0 +1,46 @@
+-- Document 02, T-01: what there is to tell of an image, as five numbers.
+use Rattle.laws.specs.Kit.{ℕ, _≡_, refl, sym, ap, _∙_, List, [], _∷_, Option, none, some}
+use Rattle.machine.specs.{Answer.{numberOf}, Steps.{openCount}}
+use Rattle.table.specs.{declared.Table.{Table}, Model.{modelOf}}
+use Rattle.block.specs.Limits.{placesFor}
+use Rattle.image.specs.{Encode.{encode}, Decode.{nIn, mIn, countIn, placesIn, n-back, m-back, count-back}}
+use Rattle.image.specs.Load.{faultRefusal, faultPlace, Loaded, refused, loaded, load}
+use Rattle.load.specs.{declared.Outcome.{Outcome}, declared.Finding.{Finding}, Loading.{loadedOf, Answers}, Unique.{loaded-is}}
+use Rattle.load.specs.{declared.Outcome.the-variants.{Accepted, WrongLength, Damaged, Broken}, Link.ReadsBack.{fits-so}, Mirror.ImageRead.{Fits}}
+
+-- "its place (0 where there is none)"
+abbrev pub orZero : Option ℕ → ℕ
+orZero none = 0
+orZero (some k) = k
+
+-- "the number (0 for an image that is loaded), its place .., then n, m and the open count of the table (0 where it is refused)"
+abbrev pub findingOf : Loaded → List ℕ
+findingOf (refused f) = numberOf (faultRefusal f) ∷ orZero (faultPlace f) ∷ 0 ∷ 0 ∷ 0 ∷ []
+findingOf (loaded s) = 0 ∷ 0 ∷ s .setup .desks ∷ s .setup .cells ∷ openCount s ∷ []
+
+-- the code's value
+abbrev pub numbersOf : Finding → List ℕ
+numbersOf f = f .number ∷ f .place ∷ f .n ∷ f .m ∷ f .open ∷ []
+
+-- of what load answers
+pub found-as : (b : List ℕ) (o : Outcome) (t : Table) {l : List ℕ} → Answers b o t → l ≡ findingOf (loadedOf o t) → l ≡ findingOf (load b)
+found-as b o t h e = e ∙ ap findingOf (loaded-is b o t h)
+
+-- each refusal
+module _ (b : List ℕ) (o : Outcome) (t : Table) {l : List ℕ} (h : Answers b o t) where
+  pub found-length : o ≡ WrongLength → l ≡ 15 ∷ 0 ∷ 0 ∷ 0 ∷ 0 ∷ [] → l ≡ findingOf (load b)
+  found-length q e = found-as b o t h (rw q e)
+
+  pub found-check : (k : ℕ) → o ≡ Damaged k → l ≡ 12 ∷ k ∷ 0 ∷ 0 ∷ 0 ∷ [] → l ≡ findingOf (load b)
+  found-check k q e = found-as b o t h (rw q e)
+
+  pub found-rule : (k : ℕ) → o ≡ Broken k → l ≡ 13 ∷ k ∷ 0 ∷ 0 ∷ 0 ∷ [] → l ≡ findingOf (load b)
+  found-rule k q e = found-as b o t h (rw q e)
+
+-- an image that is loaded tells its table's sizes
+module _ (b : List ℕ) (t : Table) (h : Answers b Accepted t) where
+  pub fits-found : Fits (placesIn b) b
+  fits-found = fits-so b (modelOf t) (h .0 .rules) (h .1)
+
+  pub sizes-found : {l : List ℕ} → l ≡ 0 ∷ 0 ∷ nIn b ∷ mIn b ∷ countIn b ∷ [] → l ≡ findingOf (load b)
+  sizes-found e = let p = placesFor (t .core .n) in found-as b Accepted t h (e ∙ rw (← (h .1), n-back p (modelOf t), m-back p (modelOf t), count-back p (modelOf t)))
