@@ -1,8 +1,10 @@
--- `access_run`: the table saved in an image, run over a schedule; its answers and the table saved after it.
+-- `access_run`: the table saved in an image, run over a schedule; its answers and the table saved after it. And `access_inspect`: what is wrong with
+-- an image, or the sizes of its table.
 use Rattle.laws.specs.{Kit.{Bool, _&&_, List, [], _∷_, none, some, ℕ, leb, length, sets}, Loop.{pick}}
 use Rattle.machine.specs.Answer.{Refusal, numberOf, short}
 use Rattle.session.specs.{Session.{Session}, Transcript.{transcriptFrom, sessionFrom, most-text}}
-use Rattle.image.specs.{Encode.{encode}, Load.{Loaded, loaded, refused, load}}
+use Rattle.image.specs.{Encode.{encode}, Load.{faultRefusal, Loaded, loaded, refused, load}}
+use Rattle.load.specs.Finding.{findingOf}
 
 -- what a call leaves: the number that it returns, and each lent buffer
 pub record Left : Type 0 where
@@ -19,13 +21,13 @@ abbrev pub imageOf : Session → List ℕ
 imageOf none = []
 imageOf (some s) = encode s
 
--- "12 or 13 for the image", or the session to begin with
+-- "15, 12 or 13" for the image, or the session to begin with
 pub data Start : Type 0 where
   refuse : Refusal → Start
   begin : Session → Start
 
 abbrev pub started : Loaded → Start
-started (refused r) = refuse r
+started (refused f) = refuse (faultRefusal f)
 started (loaded s) = begin (some s)
 
 -- "from the table in `image` (empty: no table yet)"
@@ -58,3 +60,19 @@ runStarted (begin z) text answers image lengths = runFrom z text answers image l
 -- all that a call returns and leaves, as a function of all that it is given
 unfoldable pub accessRun : (saved text answers image lengths : List ℕ) → Left
 accessRun saved text answers image lengths = runStarted (startOf saved) text answers image lengths
+
+-- what a call of `access_inspect` leaves: the number that it returns, and the lent numbers
+pub record Inspected : Type 0 where
+  pub number : ℕ
+  pub finding : List ℕ
+
+abbrev pub inspected : ℕ → List ℕ → Inspected
+inspected r f = record { number = r; finding = f }
+
+abbrev pub five : ℕ
+five = 5
+
+-- "writes five numbers and returns 0, or returns 14 where `finding` is shorter than 5, untouched"
+unfoldable pub accessInspect : (saved finding : List ℕ) → Inspected
+accessInspect saved finding =
+    pick (leb five (length finding)) (inspected 0 (sets finding 0 (findingOf (load saved)))) (inspected (numberOf short) finding)

@@ -1,7 +1,7 @@
 -- Buffers that are never too short: the header's ACCESS_ANSWERS_BOUND and ACCESS_MAX_IMAGE.
 use Rattle.laws.specs.Kit.{_≡_, refl, sym, ap, _∙_, List, [], _∷_, none, some, ℕ, _≤_, arith, length}
 use Rattle.block.specs.Limits.{broad, image-bytes}
-use Rattle.image.specs.{Editions.{image-largest}, Load.{Loaded, refused, loaded, load, load-is}}
+use Rattle.image.specs.{Editions.{image-largest}, Load.{faultRefusal, Loaded, refused, loaded, load, load-is}}
 use Rattle.session.specs.{Session.{Session}, Transcript.{sessionFrom, most-text}, Link.SessionRules.{SessionKept, session-kept}}
 use Rattle.session.specs.AnswersBound.{answersBound, answers-fit}
 use Rattle.capi.specs.{Access.{imageOf, refuse, begin, started, startOf, runFrom, accessRun}, Link.CallFrom.{CallRoom, says-fits}}
@@ -13,7 +13,7 @@ start-kept [] z e = let q : none ≡ z = cc in rw (← q) tt
 start-kept (b ∷ l) z e = go (load (b ∷ l)) refl
   where
     go : (x : Loaded) → load (b ∷ l) ≡ x → SessionKept z
-    go (refused r) h = let q : refuse r ≡ begin z = ap started (sym h) ∙ e in absurd (let y : _≡_ {A = ℕ} 0 1 = cc in omega arith)
+    go (refused r) h = let q : refuse (faultRefusal r) ≡ begin z = ap started (sym h) ∙ e in absurd (let y : _≡_ {A = ℕ} 0 1 = cc in omega arith)
     go (loaded s) h = let q : begin (some s) ≡ begin z = ap started (sym h) ∙ e in let y : some s ≡ z = cc in rw (← y) (load-is (b ∷ l) s .0 h .0)
 
 -- "The largest image is 105 blocks."

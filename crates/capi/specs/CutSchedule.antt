@@ -1,6 +1,6 @@
 -- A schedule cut between two lines, and run by two calls.
 use Rattle.laws.specs.Kit.{_≡_, refl, sym, ap, _∙_, List, [], _∷_, _++_, none, some, ℕ, arith}
-use Rattle.image.specs.{Encode.{encode}, Load.{image-sound, load-encode}}
+use Rattle.image.specs.{Encode.{encode}, Load.{load-encode}, Link.EachBlock.{image-sound}}
 use Rattle.schedule.specs.Lines.{LF}
 use Rattle.session.specs.{Session.{Session}, Transcript.{linesOf, transcriptFrom, sessionFrom}, Link.SessionRules.{SessionKept}}
 use Rattle.session.specs.Link.SessionRules.{session-kept}
@@ -24,7 +24,7 @@ session-cut z a b = rw (lines-cut a b) (session-append z (linesOf (ended a)) (li
 pub start-image : (z : Session) → SessionKept z → startOf (imageOf z) ≡ begin z
 unfolding startOf
 start-image none k = refl
-start-image (some s) k = start-load (encode s) (λ e. omega (arith, image-sound s .nonzero)) ∙ ap started (load-encode s k)
+start-image (some s) k = start-load (encode s) (λ e. omega (arith, image-sound s .whole .nonzero)) ∙ ap started (load-encode s k)
 
 -- The lines a by one call, and b by a second from the image that the first wrote: where no call is refused, the answers of the two, one after the
 -- other, are those of one call over all the lines, and so is the image that the second wrote.

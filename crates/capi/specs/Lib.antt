@@ -3,5 +3,6 @@ pub mod Calls
 pub mod TextDemand3
 pub mod CutSchedule
 pub mod BuffersEnough
+pub mod InspectTells
 pub mod Mirror
 pub mod Link

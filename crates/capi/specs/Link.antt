@@ -4,3 +4,4 @@ pub mod SessionImage
 pub mod RunsOfLines
 pub mod CallFrom
 pub mod ImageStart
+pub mod Inspecting

@@ -3,12 +3,15 @@ ghost use mathlib.Core.Path.{_≡_};
 ghost use mathlib.Core.Bool.{true};
 ghost use Prim.Native.Nat.{ℕ, _+_, _≤_};
 ghost use lib.ListN.{length, take};
+ghost use lib.Seq.{sets};
 ghost use Rattle.session.specs.Holds.{SomeSession};
 ghost use Rattle.session.specs.Transcript.{most-text};
-ghost use Rattle.capi.specs.Access.{left, accessRun};
+ghost use Rattle.capi.specs.Access.{left, accessRun, five, inspected, accessInspect};
+ghost use Rattle.load.specs.Finding.{numbersOf};
 ghost use Rattle.capi.specs.Mirror.AccessParts.{most-kept, most-part, RoomFor, Lined, SomeCore, ImageSize, ImageRoom, ImageSaved};
 ghost use Rattle.capi.specs.Mirror.AccessParts.{BothPut, Finishes, Ends, RunsFrom, ImageStarts};
 use clock::PLACES;
+use load::Finding;
 use load::Outcome;
 use load::Taken;
 use table::CELL;
@@ -30,6 +33,9 @@ const KEPT: usize = 81920;
 
 // The answers of one run behind those.
 const PART: usize = 16384;
+
+// The numbers that tell of an image.
+const FINDING: usize = 5;
 
 // The table after a text, and how many bytes its answers take.
 struct Ended {
@@ -331,8 +337,9 @@ pub extern "C" fn access_run(
     let o = l.answer;
     let core = l.core;
     match o {
-        Outcome::Damaged => 12,
-        Outcome::Broken => 13,
+        Outcome::WrongLength => 15,
+        Outcome::Damaged(_place) => 12,
+        Outcome::Broken(_place) => 13,
         Outcome::Accepted => run_from(
             core,
             &mut cells,
@@ -343,4 +350,28 @@ pub extern "C" fn access_run(
             lengths,
         ),
     }
+}
+
+// At the front of a buffer that has room for it.
+fn put_finding(f: Finding, out: &mut [u64])
+    requires { ⌜ five ≤ length (now out) ⌝ }
+    ensures { λ _. ⌜ now (out .exit) ≡ sets (now (out .entry)) 0 (numbersOf f) ⌝ }
+{
+    out[0] = f.number as u64;
+    out[1] = f.place as u64;
+    out[2] = f.n as u64;
+    out[3] = f.m as u64;
+    out[4] = f.open as u64;
+}
+
+// What is wrong with an image, or the sizes of its table.
+#[no_mangle]
+pub extern "C" fn access_inspect(image: &[u8], finding: &mut [u64]) -> u64
+    ensures { λ r. ⌜ inspected r (now (finding .exit)) ≡ accessInspect (now (image .entry)) (now (finding .entry)) ⌝ }
+{
+    if finding.len() < FINDING {
+        return 14;
+    }
+    put_finding(load::inspect(image), finding);
+    0
 }

@@ -33,11 +33,19 @@ fn saving(s: Saving) {
     }
 }
 
+fn at(number: &[u8], place: usize) {
+    say(number);
+    say(b" at block ");
+    io::print_decimal(STDOUT_FILENO, place as u64);
+    say(b"\n");
+}
+
 fn loading(o: Outcome) {
     match o {
         Outcome::Accepted => say(b"loaded\n"),
-        Outcome::Damaged => say(b"12\n"),
-        Outcome::Broken => say(b"13\n"),
+        Outcome::WrongLength => say(b"15\n"),
+        Outcome::Damaged(k) => at(b"12", k),
+        Outcome::Broken(k) => at(b"13", k),
     }
 }
 

@@ -19,5 +19,6 @@ live-begun r b = rw (b .is) live-none
 
 pub live-loaded : (b : List ℕ) (o : Outcome) (t : Table) → Answers b o t → Live t
 live-loaded b outcome.Accepted t a = record { session = some (modelOf t); holds = record { model-is = refl; sound = a .0 } }
-live-loaded b outcome.Damaged t a = rw (a .1) live-none
-live-loaded b outcome.Broken t a = rw (a .1) live-none
+live-loaded b outcome.WrongLength t a = rw (a .1) live-none
+live-loaded b (outcome.Damaged k) t a = rw (a .1) live-none
+live-loaded b (outcome.Broken k) t a = rw (a .1) live-none

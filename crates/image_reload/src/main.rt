@@ -108,8 +108,9 @@ fn same_image(a: Table, b: Table) -> bool {
 fn say_outcome(o: Outcome) {
     match o {
         Outcome::Accepted => say(b" | reloaded"),
-        Outcome::Damaged => say(b" | NOT RELOADED: 12"),
-        Outcome::Broken => say(b" | NOT RELOADED: 13"),
+        Outcome::WrongLength => say(b" | NOT RELOADED: 15"),
+        Outcome::Damaged(_place) => say(b" | NOT RELOADED: 12"),
+        Outcome::Broken(_place) => say(b" | NOT RELOADED: 13"),
     }
 }
 

@@ -60,11 +60,18 @@ fn seal(b: &mut [u8; IMAGE], len: usize) {
     }
 }
 
+fn say_place(number: &[u8], place: usize) {
+    say(number);
+    say(b" at ");
+    io::print_decimal(STDOUT_FILENO, place as u64);
+}
+
 fn say_outcome(o: Outcome) {
     match o {
         Outcome::Accepted => say(b" loaded"),
-        Outcome::Damaged => say(b" 12"),
-        Outcome::Broken => say(b" 13"),
+        Outcome::WrongLength => say(b" 15"),
+        Outcome::Damaged(k) => say_place(b" 12", k),
+        Outcome::Broken(k) => say_place(b" 13", k),
     }
 }
 

@@ -1,10 +1,10 @@
 -- Document 02, T-01: what there is to tell of an image, as five numbers.
-use Rattle.laws.specs.Kit.{ℕ, _≡_, refl, sym, ap, _∙_, List, [], _∷_, Option, none, some}
-use Rattle.machine.specs.{Answer.{numberOf}, Steps.{openCount}}
+use Rattle.laws.specs.{Kit.{ℕ, _≡_, refl, ap, _∙_, List, [], _∷_, Option, none, some, arith, eqb}, Loop.{pick}}
+use Rattle.machine.specs.{Answer.{wrong-length, damaged, numberOf}, Steps.{openCount}}
 use Rattle.table.specs.{declared.Table.{Table}, Model.{modelOf}}
 use Rattle.block.specs.Limits.{placesFor}
 use Rattle.image.specs.{Encode.{encode}, Decode.{nIn, mIn, countIn, placesIn, n-back, m-back, count-back}}
-use Rattle.image.specs.Load.{faultRefusal, faultPlace, Loaded, refused, loaded, load}
+use Rattle.image.specs.Load.{Fault, length-fault, check-fault, rule-fault, faultRefusal, faultPlace, Loaded, refused, loaded, load}
 use Rattle.load.specs.{declared.Outcome.{Outcome}, declared.Finding.{Finding}, Loading.{loadedOf, Answers}, Unique.{loaded-is}}
 use Rattle.load.specs.{declared.Outcome.the-variants.{Accepted, WrongLength, Damaged, Broken}, Link.ReadsBack.{fits-so}, Mirror.ImageRead.{Fits}}
 
@@ -17,6 +17,20 @@ orZero (some k) = k
 abbrev pub findingOf : Loaded → List ℕ
 findingOf (refused f) = numberOf (faultRefusal f) ∷ orZero (faultPlace f) ∷ 0 ∷ 0 ∷ 0 ∷ []
 findingOf (loaded s) = 0 ∷ 0 ∷ s .setup .desks ∷ s .setup .cells ∷ openCount s ∷ []
+
+-- a refusal's number is not 0, and with its place it tells what is wrong
+pub fault-number : (f : Fault) → numberOf (faultRefusal f) ≡ 0 → ⊥
+fault-number length-fault e = omega arith
+fault-number (check-fault k) e = omega arith
+fault-number (rule-fault k) e = omega arith
+
+abbrev pub faultFrom : ℕ → ℕ → Fault
+faultFrom number place = pick (eqb number (numberOf wrong-length)) length-fault (pick (eqb number (numberOf damaged)) (check-fault place) (rule-fault place))
+
+pub fault-back : (f : Fault) → faultFrom (numberOf (faultRefusal f)) (orZero (faultPlace f)) ≡ f
+fault-back length-fault = refl
+fault-back (check-fault k) = refl
+fault-back (rule-fault k) = refl
 
 -- the code's value
 abbrev pub numbersOf : Finding → List ℕ

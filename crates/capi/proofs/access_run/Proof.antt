@@ -1,6 +1,6 @@
 use Rattle.laws.specs.Kit.{refl, _∙_, needs}
 use Rattle.table.specs.{Beginning.{freshTable}, Model.{tableWith}}
-use Rattle.capi.specs.Link.ImageStart.{start-begun, call-damaged, call-broken, call-begun}
+use Rattle.capi.specs.Link.ImageStart.{start-begun, call-length, call-damaged, call-broken, call-begun}
 use Rattle.capi.proofs.access_run.Statement.{statement}
 use Rattle.capi.proofs.access_run.Tie as tie
 
@@ -12,7 +12,7 @@ run-from-requires : tie.Need-run-from-requires
 run-from-requires c κs =
     let q = c .before .before .before .before .before .before .before .before in
     let l = q .start in
-    let s = start-begun (q .before .before .before .before .before .before .before .before .args .image .now) (l .result .answer) (tableWith (l .result .core) (l .last .1 .0) (l .last .1 .1 .0)) (l .ensures) (c .before .before .before .before .before .enum-told3 .given .1) in
+    let s = start-begun (q .before .before .before .before .before .before .before .before .args .image .now) (l .result .answer) (tableWith (l .result .core) (l .last .1 .0) (l .last .1 .1 .0)) (l .ensures) (c .before .before .before .before .before .enum-told2 .given .1) in
     record { session = s .session; holds = s .holds }
 
 returns : tie.Need-returns
@@ -20,24 +20,31 @@ returns c =
     let q = c .before .before .before in
     let a = q .before .before .before .before .before .before .before .before .args in
     let l = q .start in
-    call-damaged (a .image .now) (a .schedule .now) (a .answers .now) (a .image-out .now) (a .lengths .now) (l .result .answer) (tableWith (l .result .core) (l .last .1 .0) (l .last .1 .1 .0)) (l .ensures) (c .enum-told .given .1)
+    call-length (a .image .now) (a .schedule .now) (a .answers .now) (a .image-out .now) (a .lengths .now) (l .result .answer) (tableWith (l .result .core) (l .last .1 .0) (l .last .1 .1 .0)) (l .ensures) (c .enum-told .given .1)
 
 returns-2 : tie.Need-returns-2
 returns-2 c =
-    let q = c .before .before .before in
+    let q = c .before .before .before .before in
     let a = q .before .before .before .before .before .before .before .before .args in
     let l = q .start in
-    call-broken (a .image .now) (a .schedule .now) (a .answers .now) (a .image-out .now) (a .lengths .now) (l .result .answer) (tableWith (l .result .core) (l .last .1 .0) (l .last .1 .1 .0)) (l .ensures) (c .enum-told2 .given .1)
+    call-damaged (a .image .now) (a .schedule .now) (a .answers .now) (a .image-out .now) (a .lengths .now) (l .result .answer) (tableWith (l .result .core) (l .last .1 .0) (l .last .1 .1 .0)) (l .ensures) _ (c .before .o .given .1)
 
 returns-3 : tie.Need-returns-3
 returns-3 c =
+    let q = c .before .before .before .before in
+    let a = q .before .before .before .before .before .before .before .before .args in
+    let l = q .start in
+    call-broken (a .image .now) (a .schedule .now) (a .answers .now) (a .image-out .now) (a .lengths .now) (l .result .answer) (tableWith (l .result .core) (l .last .1 .0) (l .last .1 .1 .0)) (l .ensures) _ (c .before .o2 .given .1)
+
+returns-4 : tie.Need-returns-4
+returns-4 c =
     let f = c .before .before .before .before .before .before in
     let q = f .before .before .before .before .before .before .before .before .before in
     let a = q .before .before .before .before .before .before .before .before .args in
     let l = q .start in
-    let s = start-begun (a .image .now) (l .result .answer) (tableWith (l .result .core) (l .last .1 .0) (l .last .1 .1 .0)) (l .ensures) (f .before .before .before .before .before .before .enum-told3 .given .1) in
+    let s = start-begun (a .image .now) (l .result .answer) (tableWith (l .result .core) (l .last .1 .0) (l .last .1 .1 .0)) (l .ensures) (f .before .before .before .before .before .before .enum-told2 .given .1) in
     f .run-from .ensures (s .session) (s .holds) ∙ call-begun (a .image .now) (a .schedule .now) (a .answers .now) (a .image-out .now) (a .lengths .now) s
 
 pub access-run-spec : {M : Type 1} → statement M
-access-run-spec = tie.close (tie.spec start-requires (λ c. search needs) (λ c. search needs) (λ c. search needs) run-from-requires
-    returns returns-2 (λ c. search needs) (λ c. search needs) (λ c. search needs) returns-3)
+access-run-spec = tie.close (tie.spec start-requires (λ c. search needs) (λ c. search needs) (λ c. search needs) (λ c. search needs)
+    run-from-requires returns returns-2 returns-3 (λ c. search needs) (λ c. search needs) (λ c. search needs) returns-4)

@@ -1,7 +1,7 @@
 -- What a call that is not refused wrote.
 use Rattle.laws.specs.Kit.{_≡_, refl, ap, _∙_, List, [], _∷_, none, some, ℕ, _≤_, arith, length, take, getD, set, length-set, sets}
 use Rattle.laws.specs.{Kit.{getD-set-same, getD-set-other}, Loop.{cases}}
-use Rattle.image.specs.Load.{Loaded, load, Loads, by-damage, by-rule, as-saved, load-loads}
+use Rattle.image.specs.Load.{Loaded, load, Loads, by-length, by-check, by-rule, as-saved, load-loads}
 use Rattle.load.specs.Loading.{saved-part}
 use Rattle.session.specs.{Session.{Session}, Transcript.{transcriptFrom, sessionFrom}, Link.SessionRules.{SessionKept}}
 use Rattle.capi.specs.{Access.{Left, imageOf, begin, started, startOf, fits, runFrom, accessRun}, Link.CallFrom.{CallRoom, says-fits}}
@@ -22,8 +22,9 @@ pub record Began (saved : List ℕ) : Type 0 where
 module _ (saved text answers image lengths : List ℕ) where
   began-load : (x : Loaded) → Loads saved x → startOf saved ≡ started x → accessRun saved text answers image lengths .number ≡ 0 → Began saved
   unfolding accessRun
-  began-load x (by-damage h) e n = absurd (let k = rw e at n in omega arith)
-  began-load x (by-rule h f) e n = absurd (let k = rw e at n in omega arith)
+  began-load x (by-length h) e n = absurd (let k = rw e at n in omega arith)
+  began-load x (by-check j w h f) e n = absurd (let k = rw e at n in omega arith)
+  began-load x (by-rule j u g f) e n = absurd (let k = rw e at n in omega arith)
   began-load x (as-saved s r i) e n = record { session = some s; starts = e; kept = r }
 
 pub began : (saved text answers image lengths : List ℕ) → accessRun saved text answers image lengths .number ≡ 0 → Began saved

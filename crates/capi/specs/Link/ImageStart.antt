@@ -1,9 +1,9 @@
 -- The session that an image starts with, and the call from it.
 use Rattle.laws.specs.Kit.{_≡_, refl, ap, _∙_, List, [], _∷_, none, some, ℕ, arith, length}
-use Rattle.machine.specs.Answer.{damaged, broken}
+use Rattle.machine.specs.Answer.{wrong-length, damaged, broken}
 use Rattle.table.specs.{declared.Table.{Table}, Beginning.{freshTable}, Model.{modelOf}}
 use Rattle.image.specs.Load.{load, one-load, load-loads}
-use Rattle.load.specs.{declared.Outcome.{Outcome}, declared.Outcome.the-variants.{Accepted, Damaged, Broken}}
+use Rattle.load.specs.{declared.Outcome.{Outcome}, declared.Outcome.the-variants.{Accepted, WrongLength, Damaged, Broken}}
 use Rattle.load.specs.Loading.{loadedOf, Answers, answers-loads}
 use Rattle.capi.specs.Access.{left, Start, refuse, begin, started, startOf, runFrom, runStarted, accessRun}
 use Rattle.capi.specs.Mirror.AccessParts.{SomeStart, ImageStarts}
@@ -28,8 +28,9 @@ image-starts saved o t f h = go o h (start-load saved f ∙ ap started (one-load
   where
     go : (o : Outcome) → Answers saved o t → startOf saved ≡ started (loadedOf o t) → ImageStarts saved o t
     go Accepted h e = record { session = some (modelOf t); starts = e; holds = record { model-is = refl; sound = h .0 } }
-    go Damaged h e = e
-    go Broken h e = e
+    go WrongLength h e = e
+    go (Damaged k) h e = e
+    go (Broken k) h e = e
 
 pub start-begun : (saved : List ℕ) (o : Outcome) (t : Table) → ImageStarts saved o t → o ≡ Accepted → SomeStart saved t
 start-begun saved o t h e = rw e at h
@@ -40,11 +41,15 @@ module _ (saved text answers image lengths : List ℕ) where
   unfolding accessRun
   called s e = rw e
 
-  pub call-damaged : (o : Outcome) (t : Table) → ImageStarts saved o t → o ≡ Damaged → left 12 answers image lengths ≡ accessRun saved text answers image lengths
-  call-damaged o t h e = called (refuse damaged) (rw e at h)
+  module _ (o : Outcome) (t : Table) (h : ImageStarts saved o t) where
+    pub call-length : o ≡ WrongLength → left 15 answers image lengths ≡ accessRun saved text answers image lengths
+    call-length e = called (refuse wrong-length) (rw e at h)
 
-  pub call-broken : (o : Outcome) (t : Table) → ImageStarts saved o t → o ≡ Broken → left 13 answers image lengths ≡ accessRun saved text answers image lengths
-  call-broken o t h e = called (refuse broken) (rw e at h)
+    pub call-damaged : (k : ℕ) → o ≡ Damaged k → left 12 answers image lengths ≡ accessRun saved text answers image lengths
+    call-damaged k e = called (refuse damaged) (rw e at h)
+
+    pub call-broken : (k : ℕ) → o ≡ Broken k → left 13 answers image lengths ≡ accessRun saved text answers image lengths
+    call-broken k e = called (refuse broken) (rw e at h)
 
   pub call-begun : {t : Table} (s : SomeStart saved t) → runFrom (s .session) text answers image lengths ≡ accessRun saved text answers image lengths
   call-begun s = called (begin (s .session)) (s .starts)

@@ -1,8 +1,8 @@
 -- The parts of `access_run`, for every session that the values at hand hold.
 use Rattle.laws.specs.{Kit.{_≡_, Bool, true, List, _++_, ℕ, _+_, _*_, _≤_, length, sets}, Loop.{pick}}
-use Rattle.machine.specs.Answer.{damaged, broken}
+use Rattle.machine.specs.Answer.{wrong-length, damaged, broken}
 use Rattle.table.specs.{declared.Core.{Core}, declared.Table.{Table}, Model.{tableWith}}
-use Rattle.load.specs.{declared.Outcome.{Outcome}, declared.Outcome.the-variants.{Accepted, Damaged, Broken}}
+use Rattle.load.specs.{declared.Outcome.{Outcome}, declared.Outcome.the-variants.{Accepted, WrongLength, Damaged, Broken}}
 use Rattle.session.specs.{Session.{Session}, Transcript.{transcriptFrom, sessionFrom, most-text}, Holds.{Holds}}
 use Rattle.capi.specs.Access.{Left, imageOf, refuse, begin, startOf, runFrom}
 
@@ -75,5 +75,6 @@ pub record SomeStart (saved : List ℕ) (t : Table) : Type 0 where
 
 abbrev pub ImageStarts : List ℕ → Outcome → Table → Type 0
 ImageStarts saved Accepted t = SomeStart saved t
-ImageStarts saved Damaged t = startOf saved ≡ refuse damaged
-ImageStarts saved Broken t = startOf saved ≡ refuse broken
+ImageStarts saved WrongLength t = startOf saved ≡ refuse wrong-length
+ImageStarts saved (Damaged k) t = startOf saved ≡ refuse damaged
+ImageStarts saved (Broken k) t = startOf saved ≡ refuse broken
