@@ -1,25 +1,28 @@
 /*
- * The replicated access table: one call of the static library capi.
+ * The replicated access table: two calls of the static library capi.
+ * access_run runs a schedule from a saved table to the next; access_inspect says
+ * what is wrong with a saved table, and where.
  *
  * `rt staticlib capi` proves the library and writes target/staticlib/libcapi.a
- * (x86-64 code). What is proved of the call is the definition accessRun in
- * crates/capi/specs/Access.antt: the number that it returns and every byte of
- * every lent buffer, as a function of all that it is given. The words below
- * say the same.
+ * (x86-64 code). What is proved of the calls are the definitions accessRun and
+ * accessInspect in crates/capi/specs/Access.antt: the number that a call returns
+ * and every byte of every lent buffer, as a function of all that it is given. The
+ * words below say the same.
  *
  * What the proof does not cover, and a caller in C owes:
  *
  * - every pointer is valid for its length, not null and aligned, even where
  *   the length is 0;
- * - no lent buffer (answers, image_out, lengths) overlaps another one or an
- *   input. image and schedule are only read, and may overlap each other;
- * - nobody else writes to any of the five, or reads a lent one, during the
- *   call;
- * - this declaration itself: nothing holds it against the Rattle source.
+ * - no lent buffer (answers, image_out, lengths; finding) overlaps another one
+ *   or an input. image and schedule are only read, and may overlap each other;
+ * - nobody else writes to anything that a call is given, or reads a lent one,
+ *   during the call;
+ * - these declarations themselves: nothing holds them against the Rattle source.
  *
  * Nothing is kept between two calls, so calls on different buffers may run at
- * the same time. As compiled today a call uses less than 256 kilobytes of stack,
- * and no heap; the archive needs memcpy and memset and nothing else.
+ * the same time. As compiled today a call of access_run uses less than 256
+ * kilobytes of stack, and no heap; the archive needs memcpy and memset and nothing
+ * else.
  */
 #ifndef ACCESS_TABLE_H
 #define ACCESS_TABLE_H
@@ -48,14 +51,19 @@ extern "C" {
  * holds this line against it.) */
 #define ACCESS_ANSWERS_BOUND(S) (5 * (S) + 9 * 64 * 15)
 
-/* The numbers that access_run returns. */
+/* How many numbers access_inspect writes. */
+#define ACCESS_FINDING 5
+
+/* The numbers that access_run returns, and access_inspect finds. */
 #define ACCESS_DONE 0
-/* The image's length is not a multiple of 512, or a block check is wrong. */
+/* The image's length is not a multiple of 512 (to access_inspect: or is 0). */
+#define ACCESS_CUT 15
+/* A block check of the image is wrong. */
 #define ACCESS_DAMAGED 12
 /* The image breaks another rule. */
 #define ACCESS_BROKEN 13
-/* The schedule is longer than ACCESS_MAX_SCHEDULE, or answers, image_out or
- * lengths is too short. */
+/* The schedule is longer than ACCESS_MAX_SCHEDULE, or answers, image_out,
+ * lengths or finding is too short. */
 #define ACCESS_SHORT 14
 
 /*
@@ -70,7 +78,7 @@ extern "C" {
  *
  * What lies behind these bytes, and behind the two numbers, stays.
  *
- * Returns 0, or the refusal: 12 or 13 for the image, and then 14. On a refusal
+ * Returns 0, or the refusal: 15, 12 or 13 for the image, and then 14. On a refusal
  * every lent buffer is as found. A refused line is no refusal of the call: its
  * answer is `E` and its number, and the run goes on behind it.
  */
@@ -79,6 +87,28 @@ uint64_t access_run(const uint8_t *image, size_t image_len,
                     uint8_t *answers, size_t answers_len,
                     uint8_t *image_out, size_t image_out_len,
                     uint64_t *lengths, size_t lengths_len);
+
+/*
+ * Looks at `image`, and writes five numbers to the front of `finding`:
+ *
+ * - finding[0]: 0 if the image would be loaded, or 15, 12 or 13, tested in this
+ *   order: the length, then the check of every block, then all else. No bytes
+ *   are 15 here;
+ * - finding[1]: the place, a block's number from 0. For 12 the first block whose
+ *   check is wrong. For 13 the first block whose place, edition or kind cannot
+ *   stand there (its place is its number, its edition is 1 or 2, its kind is 1 in
+ *   block 0 and 2, 3 or 4 behind it); or, if there is no such block and only other
+ *   rules are broken, the number of blocks, image_len / 512. For 15 and 0 it is 0;
+ * - finding[2], [3] and [4]: how many desks, cells and open writes the table has,
+ *   each 0 if the image is refused.
+ *
+ * finding_len counts numbers. What lies behind the five stays.
+ *
+ * Returns 0, or 14 if finding_len is less than ACCESS_FINDING; finding is then as
+ * found.
+ */
+uint64_t access_inspect(const uint8_t *image, size_t image_len,
+                        uint64_t *finding, size_t finding_len);
 
 #ifdef __cplusplus
 }

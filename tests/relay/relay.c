@@ -1,8 +1,9 @@
-/* The near end of the relay: `access_run` for a machine that is no x86-64 one.
- * Hands each call to the program that the environment's ACCESS_RELAY names
+/* The near end of the relay: `access_run` and `access_inspect` for a machine that
+ * is no x86-64 one. Hands each call to the program that the environment's ACCESS_RELAY names
  * (serve.c under an emulator), and everything that it left in the lent buffers
  * back. For tests: a call costs a pipe, and a failure ends the program. */
 #include "access_table.h"
+#include "calls.h"
 
 #include <errno.h>
 #include <fcntl.h>
@@ -70,18 +71,24 @@ static void take(void *bytes, size_t len) {
     }
 }
 
+/* Begins a call with its lengths. Nobody else has the pipes until it is done. */
+static void begin(uint64_t which, const uint64_t *len, size_t parts) {
+    pthread_mutex_lock(&one_at_a_time);
+    if (to < 0) {
+        start();
+    }
+    give(&which, sizeof which);
+    give(len, parts * sizeof *len);
+}
+
 uint64_t access_run(const uint8_t *image, size_t image_len,
                     const uint8_t *schedule, size_t schedule_len,
                     uint8_t *answers, size_t answers_len,
                     uint8_t *image_out, size_t image_out_len,
                     uint64_t *lengths, size_t lengths_len) {
-    uint64_t len[5] = {image_len, schedule_len, answers_len, image_out_len, lengths_len};
+    uint64_t len[5] = {image_len, schedule_len, answers_len, image_out_len, lengths_len * sizeof *lengths};
     uint64_t number;
-    pthread_mutex_lock(&one_at_a_time);
-    if (to < 0) {
-        start();
-    }
-    give(len, sizeof len);
+    begin(RELAY_RUN, len, 5);
     give(image, image_len);
     give(schedule, schedule_len);
     give(answers, answers_len);
@@ -91,6 +98,19 @@ uint64_t access_run(const uint8_t *image, size_t image_len,
     take(answers, answers_len);
     take(image_out, image_out_len);
     take(lengths, lengths_len * sizeof *lengths);
+    pthread_mutex_unlock(&one_at_a_time);
+    return number;
+}
+
+uint64_t access_inspect(const uint8_t *image, size_t image_len,
+                        uint64_t *finding, size_t finding_len) {
+    uint64_t len[2] = {image_len, finding_len * sizeof *finding};
+    uint64_t number;
+    begin(RELAY_INSPECT, len, 2);
+    give(image, image_len);
+    give(finding, finding_len * sizeof *finding);
+    take(&number, sizeof number);
+    take(finding, finding_len * sizeof *finding);
     pthread_mutex_unlock(&one_at_a_time);
     return number;
 }

@@ -2,6 +2,7 @@
  * calls from standard input and writes what each gave to standard output. It
  * is compiled without a C library's headers, so what it needs is declared. */
 #include "access_table.h"
+#include "calls.h"
 
 extern long read(int file, void *bytes, size_t len);
 extern long write(int file, const void *bytes, size_t len);
@@ -67,23 +68,41 @@ static void give_back(uint8_t *bytes, size_t len) {
     free(bytes - GUARD);
 }
 
+/* A call whose parts are these: takes them, and gives the number that the call
+ * returned and the parts from `written` on. */
+static void serve(uint64_t which, int parts, int written) {
+    uint64_t len[5], number;
+    uint8_t *part[5];
+    if (!take(len, (size_t)parts * sizeof *len)) {
+        fail("serve: a call was cut off\n", 26);
+    }
+    for (int i = 0; i < parts; i++) {
+        part[i] = lend(len[i]);
+    }
+    if (which == RELAY_RUN) {
+        number = access_run(part[0], len[0], part[1], len[1], part[2], len[2], part[3], len[3],
+                            (uint64_t *)part[4], len[4] / sizeof(uint64_t));
+    } else {
+        number = access_inspect(part[0], len[0], (uint64_t *)part[1], len[1] / sizeof(uint64_t));
+    }
+    give(&number, sizeof number);
+    for (int i = written; i < parts; i++) {
+        give(part[i], len[i]);
+    }
+    for (int i = 0; i < parts; i++) {
+        give_back(part[i], len[i]);
+    }
+}
+
 int main(void) {
-    /* The lengths of image, schedule, answers, image_out, and how many lengths. */
-    uint64_t len[5];
-    while (take(len, sizeof len)) {
-        uint8_t *part[5];
-        len[4] *= sizeof(uint64_t);
-        for (int i = 0; i < 5; i++) {
-            part[i] = lend(len[i]);
-        }
-        uint64_t number = access_run(part[0], len[0], part[1], len[1], part[2], len[2], part[3],
-                                     len[3], (uint64_t *)part[4], len[4] / sizeof(uint64_t));
-        give(&number, sizeof number);
-        for (int i = 2; i < 5; i++) {
-            give(part[i], len[i]);
-        }
-        for (int i = 0; i < 5; i++) {
-            give_back(part[i], len[i]);
+    uint64_t which;
+    while (take(&which, sizeof which)) {
+        if (which == RELAY_RUN) {
+            serve(which, 5, 2);
+        } else if (which == RELAY_INSPECT) {
+            serve(which, 2, 1);
+        } else {
+            fail("serve: no such call\n", 20);
         }
     }
     return 0;

@@ -1,7 +1,8 @@
 //! Lengths at their edges: buffers, schedules, answers, images.
 
 use access_table::{
-    answers_bound, raw, run, run_into, Lengths, Refusal, Run, Table, BLOCK, MAX_IMAGE, MAX_SCHEDULE,
+    answers_bound, inspect, raw, run, run_into, Finding, Lengths, Refusal, Run, Table, BLOCK,
+    MAX_IMAGE, MAX_SCHEDULE,
 };
 use evidence::gen::{in_edition, odd_image, schedule_from, worn_image};
 use evidence::image::{check_of, load, to_vec, Edition};
@@ -48,7 +49,8 @@ fn sixteen_desks() {
     assert_eq!(answers, b"A 16.1 2.1\nT no\nE 1\n");
 }
 
-/// 9 desks in edition 1 and 8 in edition 2: 13, and so is any mixture.
+/// 9 desks in edition 1 and 8 in edition 2: 13, and so is any mixture. A block
+/// is named only where its edition is neither.
 #[test]
 fn an_edition_that_does_not_fit() {
     for (desks, right, wrong) in [
@@ -60,16 +62,23 @@ fn an_edition_that_does_not_fit() {
             assert!(run(Some(&image), b"").is_ok());
             let whole = in_edition(&image, right, wrong).unwrap();
             assert_eq!(run(Some(&whole), b""), Err(Refusal::Broken));
+            assert_eq!(inspect(&whole), Finding::Broken);
             let mut all = image.clone();
             for block in 0..image.len() / BLOCK {
                 let mut one = image.clone();
                 for edition in [0, 3, 255, wrong.number] {
                     set_edition(&mut one, block, edition);
                     assert_eq!(run(Some(&one), b""), Err(Refusal::Broken), "{block}");
+                    let finding = match edition {
+                        1 | 2 => Finding::Broken,
+                        _ => Finding::Misplaced { block },
+                    };
+                    assert_eq!(inspect(&one), finding, "{block}");
                 }
                 // The blocks up to this one, and at the end all.
                 set_edition(&mut all, block, wrong.number);
                 assert_eq!(run(Some(&all), b""), Err(Refusal::Broken), "{block}");
+                assert_eq!(inspect(&all), Finding::Broken, "{block}");
             }
         }
     }
@@ -129,8 +138,10 @@ fn far_too_many_blocks() {
             image.extend(block);
         }
         assert_eq!(run(Some(&image), b""), Err(Refusal::Broken));
+        assert_eq!(inspect(&image), Finding::Broken);
         *image.last_mut().unwrap() ^= 1;
         assert_eq!(run(Some(&image), b""), Err(Refusal::Damaged));
+        assert_eq!(inspect(&image), Finding::Damaged { block: 249 });
     }
 }
 

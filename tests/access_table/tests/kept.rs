@@ -3,7 +3,7 @@
 #[path = "../../kept/list.rs"]
 mod list;
 
-use access_table::{run, Table, MAX_SCHEDULE};
+use access_table::{inspect, run, Finding, Table, MAX_SCHEDULE};
 
 #[test]
 fn all_are_there() {
@@ -17,6 +17,12 @@ fn each_is_loaded_and_saved_byte_for_byte() {
         let image = list::image(&name);
         let found = run(Some(&image), b"").unwrap_or_else(|refusal| panic!("{name}: {refusal}"));
         assert!(found.answers.is_empty(), "{name}");
+        let size = Finding::Table {
+            desks: image[4].into(),
+            cells: image[5].into(),
+            open: image[6].into(),
+        };
+        assert_eq!(inspect(&image), size, "{name}");
         assert!(found.image == Some(image), "{name}");
     }
 }

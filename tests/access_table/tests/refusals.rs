@@ -36,7 +36,7 @@ fn refused(image: &[u8], schedule: &[u8], sizes: [usize; 3], number: u64) {
 }
 
 #[test]
-fn twelve_and_thirteen_come_before_fourteen() {
+fn the_images_refusals_come_before_fourteen() {
     let mut damaged = saved();
     damaged[600] ^= 1;
     let long = vec![b'\n'; MAX_SCHEDULE + 1];
@@ -44,7 +44,8 @@ fn twelve_and_thirteen_come_before_fourteen() {
     for sizes in buffers {
         for schedule in [&b""[..], b"R 1 1\n", &long] {
             refused(&damaged, schedule, sizes, 12);
-            refused(&saved()[..511], schedule, sizes, 12);
+            refused(&saved()[..511], schedule, sizes, 15);
+            refused(&damaged[..damaged.len() - 1], schedule, sizes, 15);
             refused(&[0; 512], schedule, sizes, 12);
             refused(&broken(), schedule, sizes, 13);
         }
@@ -78,16 +79,19 @@ fn the_wrapper_gives_the_same() {
     let mut damaged = saved();
     damaged[600] ^= 1;
     let long = vec![b'\n'; MAX_SCHEDULE + 1];
+    assert_eq!(run(Some(&damaged[1..]), b""), Err(Refusal::Cut));
     assert_eq!(run(Some(&damaged), b""), Err(Refusal::Damaged));
     assert_eq!(run(Some(&broken()), b""), Err(Refusal::Broken));
     assert_eq!(run(Some(&saved()), &long), Err(Refusal::Short));
     assert_eq!(run(None, &long), Err(Refusal::Short));
+    assert_eq!(Table::load(&damaged[1..]), Err(Refusal::Cut));
     assert_eq!(Table::load(&damaged), Err(Refusal::Damaged));
     assert_eq!(Table::load(&broken()), Err(Refusal::Broken));
 
     let (mut answers, mut after) = ([1; 64], [2; 4096]);
     for (image, schedule) in [
-        (&damaged, &b"R 1 1\n"[..]),
+        (&damaged[1..].to_vec(), &b"R 1 1\n"[..]),
+        (&damaged, b"R 1 1\n"),
         (&broken(), b"R 1 1\n"),
         (&saved(), &long),
         (&saved(), &[b'\n'; 13]),
@@ -101,8 +105,12 @@ fn the_wrapper_gives_the_same() {
 #[test]
 fn no_image_and_an_empty_one() {
     assert_eq!(run(None, b"").map(|run| run.image), Ok(None));
-    assert_eq!(run(Some(b""), b""), Err(Refusal::Damaged));
-    assert_eq!(Table::load(b""), Err(Refusal::Damaged));
+    assert_eq!(run(Some(b""), b""), Err(Refusal::Cut));
+    assert_eq!(Table::load(b""), Err(Refusal::Cut));
+    assert_eq!(
+        run_into(Some(b""), b"", &mut [], &mut []),
+        Err(Refusal::Cut)
+    );
     assert_eq!(Table::new().image(), None);
 }
 
@@ -117,10 +125,10 @@ fn a_refused_run_leaves_the_table() {
 
 #[test]
 fn numbers_and_words() {
-    assert_eq!(Refusal::ALL.map(Refusal::number), [12, 13, 14]);
+    assert_eq!(Refusal::ALL.map(Refusal::number), [15, 12, 13, 14]);
     for number in 0..20 {
         let back = Refusal::from_number(number).map(Refusal::number);
-        assert_eq!(back, (12..=14).contains(&number).then_some(number));
+        assert_eq!(back, (12..=15).contains(&number).then_some(number));
     }
     assert_eq!(Refusal::from_number(12 + (1 << 32)), None);
     for refusal in Refusal::ALL {

@@ -5,6 +5,7 @@
 
 use crate::table::{Cell, Entry, Mark, Table, Vector, MAX_CELLS, MAX_DESKS, MAX_OPEN};
 use crate::Refusal;
+use std::fmt;
 
 /// The length of a block, its check included.
 pub const BLOCK: usize = 512;
@@ -173,24 +174,91 @@ pub fn to_vec(table: &Table) -> Result<Vec<u8>, Refusal> {
     Ok(buffer)
 }
 
-/// Loads an image. Refusals in order: 12, 13. An image is accepted exactly if
-/// it is, byte for byte, the image of a table that keeps the rules.
-pub fn load(image: &[u8]) -> Result<Table, Refusal> {
+/// What is wrong with an image, and where. Blocks count from 0.
+#[derive(Clone, Copy, Debug, PartialEq, Eq, PartialOrd, Ord, Hash)]
+pub enum Fault {
+    /// 15: the length is not a nonzero multiple of 512. It has no place.
+    WrongLength,
+    /// 12: the check of this block is wrong, and every one before it is right.
+    Check(usize),
+    /// 13: this block is the first whose place, edition or kind cannot stand
+    /// there; or there is none, only other rules break, and this is the count
+    /// of blocks.
+    Rule(usize),
+}
+
+impl Fault {
+    /// The refusal that it is.
+    pub const fn refusal(self) -> Refusal {
+        match self {
+            Fault::WrongLength => Refusal::ImageLength,
+            Fault::Check(_) => Refusal::ImageDamaged,
+            Fault::Rule(_) => Refusal::RuleBroken,
+        }
+    }
+
+    /// Its place, if it has one.
+    pub const fn place(self) -> Option<usize> {
+        match self {
+            Fault::WrongLength => None,
+            Fault::Check(place) | Fault::Rule(place) => Some(place),
+        }
+    }
+}
+
+impl fmt::Display for Fault {
+    fn fmt(&self, f: &mut fmt::Formatter<'_>) -> fmt::Result {
+        match self.place() {
+            None => write!(f, "{}", self.refusal()),
+            Some(place) => write!(f, "{} (place {place})", self.refusal()),
+        }
+    }
+}
+
+impl std::error::Error for Fault {}
+
+impl From<Fault> for Refusal {
+    fn from(fault: Fault) -> Refusal {
+        fault.refusal()
+    }
+}
+
+/// Loads an image. Refusals in order: 15, 12, 13, all checks before any 13. An
+/// image is accepted exactly if it is, byte for byte, the image of a table that
+/// keeps the rules.
+pub fn load(image: &[u8]) -> Result<Table, Fault> {
     let blocks = image.chunks_exact(BLOCK);
     if image.is_empty() || !blocks.remainder().is_empty() {
-        return Err(Refusal::ImageDamaged);
+        return Err(Fault::WrongLength);
     }
-    for block in blocks {
-        if block[CHECK..] != check_of(block).to_le_bytes() {
-            return Err(Refusal::ImageDamaged);
-        }
+    let count = blocks.len();
+    let wrong = |block: &[u8]| block[CHECK..] != check_of(block).to_le_bytes();
+    if let Some(place) = blocks.clone().position(wrong) {
+        return Err(Fault::Check(place));
+    }
+    let mut placed = blocks.enumerate();
+    if let Some(place) = placed.position(|(place, block)| !stands(block, place)) {
+        return Err(Fault::Rule(place));
     }
     // Byte 4 of the first block is n.
     let table = match Edition::of(image[PAYLOAD].into()) {
         Edition::ONE => parse::<8>(image),
         _ => parse::<16>(image),
     };
-    table.ok_or(Refusal::RuleBroken)
+    table.ok_or(Fault::Rule(count))
+}
+
+/// Whether a block's place, edition and kind can stand at a place. Either edition
+/// can; what the other blocks are is not asked.
+fn stands(block: &[u8], place: usize) -> bool {
+    let kind_fits = match block[0] {
+        1 => place == 0,
+        2..=4 => place > 0,
+        _ => false,
+    };
+    kind_fits
+        && (block[1] == Edition::ONE.number || block[1] == Edition::TWO.number)
+        && usize::from(u16::from_le_bytes([block[2], block[3]])) == place
 }
 
 /// Whether a table keeps the rules of document 01. Every table that the steps
@@ -274,8 +342,8 @@ fn at_most(a: &Vector, b: &Vector) -> bool {
     (a.iter().zip(b)).fold(0, |over, (x, y)| over | x.saturating_sub(*y)) == 0
 }
 
-/// Takes an image with good checks apart, whose vectors have P places; `None` is
-/// refusal 13.
+/// Takes an image with good checks apart, whose vectors have P places; `None` if it
+/// breaks a rule.
 fn parse<const P: usize>(image: &[u8]) -> Option<Table> {
     let edition = const { Edition::of(P) };
     let mut blocks = BlockReader {

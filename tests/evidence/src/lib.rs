@@ -1,16 +1,16 @@
-//! Independent evidence for the desk table of document 01, with T-04 and T-06.
+//! Independent evidence for the desk table of document 01, with T-01, T-04 and T-06.
 //!
 //! This package is a second implementation of the step machine, its schedule
-//! text and its saved image, written from document 01, T-04 and T-06 of document
-//! 02, the list of readings and sections 1 to 4.2 of source document 003 (OptP).
-//! It carries no proofs.
+//! text and its saved image, written from document 01, T-01, T-04 and T-06 of
+//! document 02, the list of readings and sections 1 to 4.2 of source document 003
+//! (OptP). It carries no proofs.
 //! It is there to be held against a proved implementation: by comparing
 //! answers byte for byte, by comparing speed, and by a checker of causal order
 //! that uses no vectors at all.
 //!
 //! * [`table`] is the machine, in place and without heap use.
 //! * [`text`] reads schedules and holds [`text::replay`].
-//! * [`image`] saves and loads.
+//! * [`image`] saves and loads, and says what is wrong with an image and where.
 //! * [`gen`] makes schedules and damaged images from a seed.
 //! * [`causal`] checks the answers of any implementation.
 //!

@@ -2,7 +2,8 @@
 
 use std::fmt;
 
-/// A refusal; [`Refusal::number`] is its number in document 01.
+/// A refusal; [`Refusal::number`] is its number in document 01, with 15 and the
+/// narrower 12 of T-01.
 #[derive(Clone, Copy, Debug, PartialEq, Eq, PartialOrd, Ord, Hash)]
 #[repr(u8)]
 pub enum Refusal {
@@ -28,17 +29,19 @@ pub enum Refusal {
     NoStep = 10,
     /// 11: n or m is outside its range.
     TableSize = 11,
-    /// 12: the image has a wrong length or a wrong block check.
+    /// 12: a block check of the image is wrong.
     ImageDamaged = 12,
     /// 13: the image, or a table value, breaks another rule.
     RuleBroken = 13,
     /// 14: the lent buffer is too short, or `replay`'s input too long.
     Length = 14,
+    /// 15: the image's length is not a nonzero multiple of 512.
+    ImageLength = 15,
 }
 
 impl Refusal {
     /// All refusals, by number.
-    pub const ALL: [Refusal; 14] = [
+    pub const ALL: [Refusal; 15] = [
         Refusal::Desk,
         Refusal::Cell,
         Refusal::Status,
@@ -53,9 +56,10 @@ impl Refusal {
         Refusal::ImageDamaged,
         Refusal::RuleBroken,
         Refusal::Length,
+        Refusal::ImageLength,
     ];
 
-    /// The number that document 01 gives this refusal.
+    /// The number of this refusal.
     pub const fn number(self) -> u8 {
         self as u8
     }
@@ -80,9 +84,10 @@ impl fmt::Display for Refusal {
             Refusal::TripLength => "a trip has 0 or more than 16 cells",
             Refusal::NoStep => "the line is no step",
             Refusal::TableSize => "n or m is outside its range",
-            Refusal::ImageDamaged => "image length or block check wrong",
+            Refusal::ImageDamaged => "a block check of the image is wrong",
             Refusal::RuleBroken => "the image or table breaks a rule",
             Refusal::Length => "buffer too short or input too long",
+            Refusal::ImageLength => "the image is no whole number of blocks",
         };
         write!(f, "{}: {}", self.number(), words)
     }

@@ -3,7 +3,7 @@
 mod common;
 
 use common::{answers, last};
-use evidence::image::{image_len, load, save, to_vec, BLOCK};
+use evidence::image::{image_len, load, save, to_vec, Fault, BLOCK};
 use evidence::table::{Delivery, Name, Table, Verdict};
 use evidence::text::{replay_in, Reader, Session};
 use evidence::Refusal;
@@ -317,17 +317,17 @@ fn with_one_desk_5_is_not_met() {
 
 #[test]
 fn an_all_zero_block_is_damaged() {
-    assert_eq!(load(&[0; BLOCK]), Err(Refusal::ImageDamaged));
-    assert_eq!(load(&[0; 3 * BLOCK]), Err(Refusal::ImageDamaged));
+    assert_eq!(load(&[0; BLOCK]), Err(Fault::Check(0)));
+    assert_eq!(load(&[0; 3 * BLOCK]), Err(Fault::Check(0)));
     let good = to_vec(&Table::new(2, 2).unwrap()).unwrap();
     for block in 0..good.len() / BLOCK {
         let mut image = good.clone();
         image[block * BLOCK..][..BLOCK].fill(0);
-        assert_eq!(load(&image), Err(Refusal::ImageDamaged));
+        assert_eq!(load(&image), Err(Fault::Check(block)));
     }
     let mut image = good.clone();
     image.extend([0; BLOCK]);
-    assert_eq!(load(&image), Err(Refusal::ImageDamaged));
+    assert_eq!(load(&image), Err(Fault::Check(good.len() / BLOCK)));
 }
 
 #[test]

@@ -2,11 +2,12 @@
 
 mod common;
 
-use common::rules::{broken, Rule};
+use common::rules::{broken, finding, Rule};
 use evidence::gen::{damage, damaged_image, in_edition, odd_image, schedule, schedule_from};
 use evidence::gen::{schedule_of, table, worn_image, Damage, Kind, Rng};
 use evidence::image::{
-    block_count, check_of, image_len, keeps_rules, load, save, to_vec, Edition, BLOCK, MAX_BLOCKS,
+    block_count, check_of, image_len, keeps_rules, load, save, to_vec, Edition, Fault, BLOCK,
+    MAX_BLOCKS,
 };
 use evidence::table::{Mark, Table};
 use evidence::text::{replay, replay_in, Reader, Session};
@@ -223,7 +224,12 @@ fn a_wrong_shape_is_refused() {
             assert!(load(&slow.image()).is_ok(), "{what}");
             let image = slow.image_in(shape);
             let told = format!("{what}, seed {seed}");
-            assert_eq!(load(&image), Err(Refusal::RuleBroken), "{told}");
+            // An edition that is none stands nowhere; all other shapes can stand.
+            let place = match shape.edition {
+                1 | 2 => image.len() / BLOCK,
+                _ => 0,
+            };
+            assert_eq!(load(&image), Err(Fault::Rule(place)), "{told}");
             assert_ne!(broken(&image), [], "{told}");
             let made = match (shape.edition, shape.places) {
                 (1, 8) => in_edition(&slow.image(), Edition::TWO, Edition::ONE),
@@ -269,18 +275,19 @@ fn an_edition_that_does_not_fit_is_13() {
         let slow = replay(text.as_bytes()).1.unwrap();
         let (good, bad) = (slow.image_in(right), slow.image_in(other));
         assert!(load(&good).is_ok());
-        assert_eq!(load(&bad), Err(Refusal::RuleBroken));
+        let count = good.len() / BLOCK;
+        assert_eq!(load(&bad), Err(Fault::Rule(count)));
         assert_eq!(broken(&bad), [Rule::Edition]);
         // Only the edition bytes differ, and the checks over them.
         assert_eq!(good.len(), bad.len());
         let differ = (0..good.len()).filter(|&at| good[at] != bad[at]);
         assert!(differ.map(|at| at % BLOCK).all(|at| at == 1 || at >= 508));
         // Mixed: any one block in the other edition.
-        for block in 0..good.len() / BLOCK {
+        for block in 0..count {
             let mut mixed = good.clone();
             let place = block * BLOCK..(block + 1) * BLOCK;
             mixed[place.clone()].copy_from_slice(&bad[place]);
-            assert_eq!(load(&mixed), Err(Refusal::RuleBroken), "{block}");
+            assert_eq!(load(&mixed), Err(Fault::Rule(count)), "{block}");
         }
     }
 }
@@ -449,15 +456,16 @@ fn save_refuses_and_leaves_the_buffer() {
 }
 
 #[test]
-fn wrong_lengths_are_12() {
+fn wrong_lengths_are_15() {
     let good = to_vec(&table(3)).unwrap();
-    assert_eq!(load(&[]), Err(Refusal::ImageDamaged));
+    assert_eq!(load(&[]), Err(Fault::WrongLength));
     for length in (1..good.len()).filter(|l| l % BLOCK != 0) {
-        assert_eq!(load(&good[..length]), Err(Refusal::ImageDamaged));
+        assert_eq!(load(&good[..length]), Err(Fault::WrongLength));
     }
-    // Whole blocks cut off: the checks are right, the blocks too few.
+    // Whole blocks cut off: each that is left can stand, and there are too few.
     for blocks in 1..good.len() / BLOCK {
-        assert_eq!(load(&good[..blocks * BLOCK]), Err(Refusal::RuleBroken));
+        let answer = load(&good[..blocks * BLOCK]);
+        assert_eq!(answer, Err(Fault::Rule(blocks)));
     }
 }
 
@@ -467,12 +475,17 @@ fn every_damaged_bit_is_noticed() {
     for at in 0..good.len() {
         let mut image = good.clone();
         image[at] ^= 1 << (at % 8);
-        assert_eq!(load(&image), Err(Refusal::ImageDamaged), "byte {at}");
+        assert_eq!(load(&image), Err(Fault::Check(at / BLOCK)), "byte {at}");
     }
 }
 
+/// A fault as the slow version tells it: number and place.
+fn told_as(fault: Fault) -> (u8, Option<usize>) {
+    (fault.refusal().number(), fault.place())
+}
+
 /// Each written rule, broken in images of random tables, is refused by its
-/// number; and for each rule there are samples that break that rule alone.
+/// number and place; and for each rule there are samples that break that rule alone.
 #[test]
 fn each_rule_broken_alone() {
     let alone = [
@@ -520,6 +533,9 @@ fn each_rule_broken_alone() {
         (Damage::ZeroBlockAdded, Rule::Blocks),
         (Damage::KindsSwapped, Rule::Blocks),
         (Damage::PlacesSwapped, Rule::Blocks),
+        (Damage::TailCut, Rule::Blocks),
+        (Damage::BlockDoubled, Rule::Blocks),
+        (Damage::ForeignElsewhere, Rule::Blocks),
         (Damage::OpenCountWrong, Rule::Blocks),
         (Damage::DesksRange, Rule::HeadRange),
         (Damage::CellsRange, Rule::HeadRange),
@@ -530,19 +546,24 @@ fn each_rule_broken_alone() {
     let mut editions = BTreeSet::new();
     for what in Damage::ALL {
         for good in &goods {
-            let Some(image) = damage(good, what, &mut rng) else {
+            let Some(sample) = damage(good, what, &mut rng) else {
                 continue;
             };
+            let image = sample.image;
             let rules = broken(&image);
             let answer = load(&image).map(|t| to_vec(&t).unwrap());
             let told = format!("{what:?} {rules:?}");
+            let refusal = answer.as_ref().err().map(|fault| fault.refusal());
             match &rules[..] {
                 [] => assert_eq!(answer.as_ref(), Ok(&image), "{told}"),
-                [Rule::LengthOrCheck] => assert_eq!(answer, Err(Refusal::ImageDamaged), "{told}"),
-                _ => assert_eq!(answer, Err(Refusal::RuleBroken), "{told}"),
+                [Rule::Length] => assert_eq!(refusal, Some(Refusal::ImageLength), "{told}"),
+                [Rule::Check] => assert_eq!(refusal, Some(Refusal::ImageDamaged), "{told}"),
+                _ => assert_eq!(refusal, Some(Refusal::RuleBroken), "{told}"),
             }
-            if let Some(foretold) = what.foretold() {
-                assert_eq!(load(&image).map(drop), foretold, "{told}");
+            let answer = answer.map(drop);
+            assert_eq!(answer.err().map(told_as), finding(&image), "{told}");
+            if let Some(foretold) = sample.foretold {
+                assert_eq!(answer, foretold, "{told}");
             }
             editions.insert((format!("{what:?}"), good[1]));
             let (all, single) = counts.entry(format!("{what:?}")).or_insert((0, 0));
@@ -575,22 +596,29 @@ fn load_agrees_with_the_rules_one_by_one() {
         let sample = damaged_image(seed);
         let rules = broken(&sample.image);
         let answer = load(&sample.image);
+        let refusal = answer.as_ref().err().map(|fault| fault.refusal());
         let expect = match &rules[..] {
             [] => None,
-            [Rule::LengthOrCheck] => Some(Refusal::ImageDamaged),
+            [Rule::Length] => Some(Refusal::ImageLength),
+            [Rule::Check] => Some(Refusal::ImageDamaged),
             _ => Some(Refusal::RuleBroken),
         };
-        assert_eq!(answer.as_ref().err(), expect.as_ref(), "{seed} {rules:?}");
-        if let Some(foretold) = sample.damage.foretold() {
-            assert_eq!(expect, foretold.err(), "{seed} {:?}", sample.damage);
+        assert_eq!(refusal, expect, "{seed} {rules:?}");
+        let fault = answer.as_ref().err().copied();
+        assert_eq!(fault.map(told_as), finding(&sample.image), "{seed}");
+        if let Some(foretold) = sample.foretold {
+            assert_eq!(fault, foretold.err(), "{seed} {:?}", sample.damage);
         }
         if let Ok(t) = answer {
             assert_eq!(to_vec(&t).unwrap(), sample.image);
         }
-        *refusals.entry(expect).or_insert(0) += 1;
+        // By number and, for 13, by whether a block is named.
+        let blocks = sample.image.len() / BLOCK;
+        let named = fault.is_some_and(|fault| matches!(fault, Fault::Rule(at) if at < blocks));
+        *refusals.entry((expect, named)).or_insert(0) += 1;
     }
     assert!(
-        refusals.len() == 3 && refusals.values().all(|&c| c >= 25),
+        refusals.len() == 5 && refusals.values().all(|&c| c >= 25),
         "{refusals:?}"
     );
 }
@@ -604,9 +632,10 @@ fn scribbles() {
         let good = to_vec(&table(500 + seed)).unwrap();
         for _ in 0..60 {
             let what = *rng.pick(&[Damage::Scribble, Damage::Scribble, Damage::SameKindSwapped]);
-            let Some(image) = damage(&good, what, &mut rng) else {
+            let Some(sample) = damage(&good, what, &mut rng) else {
                 continue;
             };
+            let image = sample.image;
             match load(&image) {
                 Ok(t) => {
                     assert_eq!(broken(&image), []);
@@ -614,8 +643,9 @@ fn scribbles() {
                     assert_eq!(to_vec(&t).unwrap(), image);
                     kept += usize::from(image != good);
                 }
-                Err(refusal) => {
-                    assert_eq!(refusal, Refusal::RuleBroken);
+                Err(fault) => {
+                    assert_eq!(fault.refusal(), Refusal::RuleBroken);
+                    assert_eq!(Some(told_as(fault)), finding(&image));
                     assert_ne!(broken(&image), []);
                     refused += 1;
                 }

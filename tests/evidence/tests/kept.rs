@@ -17,7 +17,7 @@ fn all_are_there() {
 fn each_is_loaded_and_saved_byte_for_byte() {
     for name in list::names() {
         let image = list::image(&name);
-        let table = load(&image).unwrap_or_else(|refusal| panic!("{name}: {refusal}"));
+        let table = load(&image).unwrap_or_else(|fault| panic!("{name}: {fault}"));
         assert!(to_vec(&table).unwrap() == image, "{name}");
         assert!(image.chunks(BLOCK).all(|block| block[1] == 1), "{name}");
     }

@@ -303,11 +303,12 @@ fn eleven_in_its_condition() {
 
 #[test]
 fn the_numbers_are_the_papers() {
+    assert_eq!(Refusal::ALL.len(), 15);
     for (refusal, number) in Refusal::ALL.into_iter().zip(1u8..) {
         assert_eq!(refusal.number(), number);
         assert_eq!(Refusal::from_number(number), Some(refusal));
         assert!(refusal.to_string().starts_with(&format!("{number}: ")));
     }
     assert_eq!(Refusal::from_number(0), None);
-    assert_eq!(Refusal::from_number(15), None);
+    assert_eq!(Refusal::from_number(16), None);
 }

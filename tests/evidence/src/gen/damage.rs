@@ -1,7 +1,8 @@
-//! Damaged images: each written rule broken, in a field of its own.
+//! Damaged images: each written rule broken, in a field of its own; and what
+//! happens to images on their way, with the number and the place that a load gives.
 
 use super::Rng;
-use crate::image::{self, check_of, Edition, BLOCK, CHECK, PAYLOAD};
+use crate::image::{self, check_of, Edition, Fault, BLOCK, CHECK, PAYLOAD};
 use crate::table::MAX_DESKS;
 use crate::Refusal;
 
@@ -11,21 +12,37 @@ use crate::Refusal;
 /// other rules kept, and put the block checks right.
 #[derive(Clone, Copy, Debug, PartialEq, Eq, Hash)]
 pub enum Damage {
-    // Length and checks: refusal 12.
+    // The length: refusal 15.
     /// No bytes at all.
     Empty,
     /// 1 to 511 bytes cut off.
     CutBytes,
     /// 1 to 511 bytes too many.
     ExtraBytes,
+    /// The tail cut off inside any block, the first one included.
+    TailInside,
+    /// A check wrong in one block, another that cannot stand there, and a wrong
+    /// length: 15, not 12 or 13.
+    LengthBeforeCheck,
+
+    // The checks: refusal 12.
     /// A bit of a check changed.
     CheckByte,
     /// A bit of a block changed, its check left.
     ContentByte,
     /// A block of zeros, check included.
     ZeroBlock,
+    /// Every bit of a block turned over, its check's too.
+    BlockFlipped,
+    /// Two blocks exchanged and their places put right, the checks left.
+    SwapUnsealed,
+    /// The checks of two blocks wrong: the first is named.
+    TwoChecks,
     /// A rule broken in the first block and a check in the last: 12, not 13.
     CheckBeforeRule,
+    /// One block cannot stand there and another, before or behind it, has a
+    /// wrong check: 12, not 13.
+    CheckAndStray,
 
     // The blocks: refusal 13 from here on.
     /// A block's kind is another.
@@ -40,18 +57,31 @@ pub enum Damage {
     EditionOther,
     /// A block's place is another.
     PlaceWrong,
+    /// Every bit of a block turned over, its check put right.
+    FlippedSealed,
     /// The last block is missing.
     BlockCut,
+    /// The tail cut off at a block's end, one block at least being left.
+    TailCut,
     /// Some block is missing, the places put right or not.
     BlockDropped,
-    /// A block stands twice.
+    /// A block stands twice, the places put right.
     BlockAdded,
+    /// A block stands twice, one behind the other, as it is.
+    BlockDoubled,
     /// A block without content behind the last, its check right.
     ZeroBlockAdded,
     /// Two blocks of different kinds exchanged, the places put right.
     KindsSwapped,
-    /// Two blocks exchanged with their places.
+    /// Two blocks exchanged with their places: every check is right.
     PlacesSwapped,
+    /// A block of another table in another place than its own, as it is.
+    ForeignElsewhere,
+    /// Two blocks that cannot stand there: the first is named.
+    TwoStrays,
+    /// A block that cannot stand there, and in another, before or behind it, a
+    /// byte that has to be zero: the first of these is named.
+    StrayAndRule,
 
     // Kind 1.
     /// n is not 1 to 16.
@@ -150,30 +180,44 @@ pub enum Damage {
     /// The blocks of the other edition under the number of its own. Where all
     /// that differs is zero they are the same.
     BlocksOther,
+    /// A block of another table in its own place, as it is.
+    ForeignBlock,
 }
 
 impl Damage {
     /// All ways.
-    pub const ALL: [Damage; 62] = [
+    pub const ALL: [Damage; 75] = [
         Damage::Empty,
         Damage::CutBytes,
         Damage::ExtraBytes,
+        Damage::TailInside,
+        Damage::LengthBeforeCheck,
         Damage::CheckByte,
         Damage::ContentByte,
         Damage::ZeroBlock,
+        Damage::BlockFlipped,
+        Damage::SwapUnsealed,
+        Damage::TwoChecks,
         Damage::CheckBeforeRule,
+        Damage::CheckAndStray,
         Damage::KindWrong,
         Damage::EditionWrong,
         Damage::EditionMixed,
         Damage::EditionUnfit,
         Damage::EditionOther,
         Damage::PlaceWrong,
+        Damage::FlippedSealed,
         Damage::BlockCut,
+        Damage::TailCut,
         Damage::BlockDropped,
         Damage::BlockAdded,
+        Damage::BlockDoubled,
         Damage::ZeroBlockAdded,
         Damage::KindsSwapped,
         Damage::PlacesSwapped,
+        Damage::ForeignElsewhere,
+        Damage::TwoStrays,
+        Damage::StrayAndRule,
         Damage::DesksRange,
         Damage::DesksUnfit,
         Damage::CellsRange,
@@ -217,33 +261,46 @@ impl Damage {
         Damage::Scribble,
         Damage::SameKindSwapped,
         Damage::BlocksOther,
+        Damage::ForeignBlock,
     ];
 
-    /// What a load of an image so damaged has to answer; `None` if it depends
-    /// on the bytes.
+    /// What a load of an image so damaged has to answer, without the place;
+    /// `None` if it depends on the bytes.
     pub fn foretold(self) -> Option<Result<(), Refusal>> {
         match self {
-            Damage::Scribble | Damage::SameKindSwapped | Damage::BlocksOther => None,
+            Damage::Scribble
+            | Damage::SameKindSwapped
+            | Damage::BlocksOther
+            | Damage::ForeignBlock => None,
             Damage::Allowed => Some(Ok(())),
             Damage::Empty
             | Damage::CutBytes
             | Damage::ExtraBytes
-            | Damage::CheckByte
+            | Damage::TailInside
+            | Damage::LengthBeforeCheck => Some(Err(Refusal::ImageLength)),
+            Damage::CheckByte
             | Damage::ContentByte
             | Damage::ZeroBlock
-            | Damage::CheckBeforeRule => Some(Err(Refusal::ImageDamaged)),
+            | Damage::BlockFlipped
+            | Damage::SwapUnsealed
+            | Damage::TwoChecks
+            | Damage::CheckBeforeRule
+            | Damage::CheckAndStray => Some(Err(Refusal::ImageDamaged)),
             _ => Some(Err(Refusal::RuleBroken)),
         }
     }
 }
 
 /// A damaged image.
-#[derive(Clone, Debug)]
+#[derive(Clone, Debug, PartialEq, Eq)]
 pub struct Sample {
     /// What was done to it.
     pub damage: Damage,
     /// Its bytes.
     pub image: Vec<u8>,
+    /// What a load has to answer, with the place, by what was done; `None` if it
+    /// depends on the bytes.
+    pub foretold: Option<Result<(), Fault>>,
 }
 
 /// A damaged image of a random table.
@@ -253,18 +310,36 @@ pub fn damaged_image(seed: u64) -> Sample {
         let what = *rng.pick(&Damage::ALL);
         let table = super::table(rng.bits());
         let good = image::to_vec(&table).expect("a table that a schedule gave keeps the rules");
-        if let Some(image) = damage(&good, what, &mut rng) {
-            return Sample {
-                damage: what,
-                image,
-            };
+        if let Some(sample) = damage(&good, what, &mut rng) {
+            return sample;
         }
     }
 }
 
 /// Damages a good image; `None` if it has no place for that.
-pub fn damage(good: &[u8], what: Damage, rng: &mut Rng) -> Option<Vec<u8>> {
+pub fn damage(good: &[u8], what: Damage, rng: &mut Rng) -> Option<Sample> {
+    let (image, place) = damaged(good, what, rng)?;
+    // Where no block is named only other rules break: the block count.
+    let place = place.unwrap_or(image.len() / BLOCK);
+    let foretold = what.foretold().map(|verdict| {
+        verdict.map_err(|refusal| match refusal {
+            Refusal::ImageLength => Fault::WrongLength,
+            Refusal::ImageDamaged => Fault::Check(place),
+            _ => Fault::Rule(place),
+        })
+    });
+    Some(Sample {
+        damage: what,
+        image,
+        foretold,
+    })
+}
+
+/// The bytes of a damaged image, and the block that a load has to name, if it has
+/// to name one.
+fn damaged(good: &[u8], what: Damage, rng: &mut Rng) -> Option<(Vec<u8>, Option<usize>)> {
     let mut f = Fields::of(good);
+    let mut named = None;
     let (n, m, open) = (f.n, f.m, f.open);
     let blocks = good.len() / BLOCK;
     let block = rng.below(blocks);
@@ -272,33 +347,76 @@ pub fn damage(good: &[u8], what: Damage, rng: &mut Rng) -> Option<Vec<u8>> {
         Damage::Empty => f.image.clear(),
         Damage::CutBytes => f.image.truncate(good.len() - rng.range(1, BLOCK - 1)),
         Damage::ExtraBytes => f.image.resize(good.len() + rng.range(1, BLOCK - 1), 0),
+        Damage::TailInside => {
+            let inside = block * BLOCK + rng.range(1, BLOCK - 1);
+            f.image.truncate(inside);
+        }
+        Damage::LengthBeforeCheck => {
+            let stray = other_block(block, blocks, rng);
+            f.make_stray(stray, rng);
+            f.put_checks_right();
+            f.spoil_check(block, rng);
+            let length = match rng.chance(1, 2) {
+                true => good.len() - rng.range(1, BLOCK - 1),
+                false => good.len() + rng.range(1, BLOCK - 1),
+            };
+            f.image.resize(length, 0);
+            return Some((f.image, None));
+        }
         Damage::CheckByte => {
-            f.image[block * BLOCK + rng.range(CHECK, BLOCK - 1)] ^= 1 << rng.below(8);
-            return Some(f.image);
+            f.spoil_check(block, rng);
+            return Some((f.image, Some(block)));
         }
         Damage::ContentByte => {
             f.image[block * BLOCK + rng.below(CHECK)] ^= 1 << rng.below(8);
-            return Some(f.image);
+            return Some((f.image, Some(block)));
         }
         Damage::ZeroBlock => {
             f.image[block * BLOCK..][..BLOCK].fill(0);
-            return Some(f.image);
+            return Some((f.image, Some(block)));
+        }
+        Damage::BlockFlipped => {
+            f.flip(block);
+            return Some((f.image, Some(block)));
+        }
+        Damage::SwapUnsealed => {
+            let with = other_block(block, blocks, rng);
+            f.swap_blocks(block, with);
+            f.put_places_right();
+            return Some((f.image, Some(block.min(with))));
+        }
+        Damage::TwoChecks => {
+            let with = other_block(block, blocks, rng);
+            f.spoil_check(block, rng);
+            f.spoil_check(with, rng);
+            return Some((f.image, Some(block.min(with))));
         }
         Damage::CheckBeforeRule => {
             // A rule broken in the first block, a check wrong in the last.
             f.image[PAYLOAD] = 17;
             f.put_checks_right();
             f.image[good.len() - BLOCK + CHECK] ^= 1;
-            return Some(f.image);
+            return Some((f.image, Some(blocks - 1)));
+        }
+        Damage::CheckAndStray => {
+            let stray = other_block(block, blocks, rng);
+            f.make_stray(stray, rng);
+            f.put_checks_right();
+            f.spoil_check(block, rng);
+            return Some((f.image, Some(block)));
         }
 
         Damage::KindWrong => {
             let byte = &mut f.image[block * BLOCK];
             *byte = other(*byte, &[0, 1, 2, 3, 4, 5, 255], rng);
+            // Behind the first block 2, 3 and 4 can stand anywhere.
+            let stands = block > 0 && (2..=4).contains(byte);
+            named = (!stands).then_some(block);
         }
         Damage::EditionWrong => {
             let (edition, all) = (*rng.pick(&[0, 3, 255]), rng.chance(1, 3));
             f.set_editions(|at| all || at == block, edition);
+            named = Some(if all { 0 } else { block });
         }
         Damage::EditionMixed => {
             // The first block, as often as all others together.
@@ -314,19 +432,37 @@ pub fn damage(good: &[u8], what: Damage, rng: &mut Rng) -> Option<Vec<u8>> {
         Damage::PlaceWrong => {
             let at = block * BLOCK + rng.range(2, 3);
             f.image[at] = f.image[at].wrapping_add(1 + rng.below(255) as u8);
+            named = Some(block);
+        }
+        Damage::FlippedSealed => {
+            f.flip(block);
+            named = Some(block);
         }
         Damage::BlockCut => f.image.truncate(good.len() - BLOCK),
+        Damage::TailCut => f.image.truncate(rng.range(1, blocks - 1) * BLOCK),
         Damage::BlockDropped => {
             f.image.drain(block * BLOCK..(block + 1) * BLOCK);
-            if rng.chance(1, 2) {
+            let placed = rng.chance(1, 2);
+            if placed {
                 f.put_places_right();
             }
+            // The block behind it stands there now: of another kind than 1, and
+            // with a place that is one too high.
+            let shown = block == 0 || (!placed && block + 1 < blocks);
+            named = shown.then_some(block);
         }
         Damage::BlockAdded => {
             let copy = good[block * BLOCK..][..BLOCK].to_vec();
-            let at = rng.pick(&[block, blocks]) * BLOCK;
-            f.image.splice(at..at, copy);
+            let at = *rng.pick(&[block, blocks]);
+            f.image.splice(at * BLOCK..at * BLOCK, copy);
             f.put_places_right();
+            // A second head.
+            named = (block == 0).then_some(at.max(1));
+        }
+        Damage::BlockDoubled => {
+            let copy = good[block * BLOCK..][..BLOCK].to_vec();
+            f.image.splice(block * BLOCK..block * BLOCK, copy);
+            named = Some(block + 1);
         }
         Damage::ZeroBlockAdded => {
             // Zero but for its check, and perhaps a head.
@@ -335,6 +471,8 @@ pub fn damage(good: &[u8], what: Damage, rng: &mut Rng) -> Option<Vec<u8>> {
                 f.image[good.len()] = 4;
                 f.image[good.len() + 1] = f.edition.number;
                 f.put_places_right();
+            } else {
+                named = Some(blocks);
             }
         }
         Damage::KindsSwapped => {
@@ -344,13 +482,38 @@ pub fn damage(good: &[u8], what: Damage, rng: &mut Rng) -> Option<Vec<u8>> {
             }
             f.swap_blocks(block, with);
             f.put_places_right();
+            named = (block == 0 || with == 0).then_some(0);
         }
         Damage::PlacesSwapped => {
-            let with = rng.below(blocks);
-            if block == with {
-                return None;
-            }
+            let with = other_block(block, blocks, rng);
             f.swap_blocks(block, with);
+            named = Some(block.min(with));
+            return Some((f.image, named));
+        }
+        Damage::ForeignElsewhere | Damage::ForeignBlock => {
+            let foreign = foreign(good, rng);
+            let elsewhere = what == Damage::ForeignElsewhere;
+            let places = 0..foreign.len() / BLOCK;
+            let places: Vec<usize> = places.filter(|&at| (at != block) == elsewhere).collect();
+            let from = choose(&places, rng)?;
+            f.image[block * BLOCK..][..BLOCK].copy_from_slice(&foreign[from * BLOCK..][..BLOCK]);
+            named = elsewhere.then_some(block);
+            return Some((f.image, named));
+        }
+        Damage::TwoStrays => {
+            let with = other_block(block, blocks, rng);
+            f.make_stray(block, rng);
+            f.make_stray(with, rng);
+            named = Some(block.min(with));
+        }
+        Damage::StrayAndRule => {
+            // A byte of the head or of a desk that has to be zero.
+            let broken = rng.range(0, n);
+            let at = broken * BLOCK + PAYLOAD + if broken == 0 { 3 } else { 1 };
+            f.image[at] = nonzero(rng);
+            let stray = other_block(broken, blocks, rng);
+            f.make_stray(stray, rng);
+            named = Some(stray);
         }
 
         Damage::DesksRange => f.image[PAYLOAD] = *rng.pick(&[0, 17, 255]),
@@ -630,7 +793,7 @@ pub fn damage(good: &[u8], what: Damage, rng: &mut Rng) -> Option<Vec<u8>> {
             f.image[at] = 1;
         }
 
-        Damage::Allowed => return Some(changed(f.image, rng)),
+        Damage::Allowed => return Some((changed(f.image, rng), None)),
         Damage::Scribble => {
             for _ in 0..rng.range(1, 3) {
                 let at = f.interesting_byte(rng);
@@ -651,7 +814,23 @@ pub fn damage(good: &[u8], what: Damage, rng: &mut Rng) -> Option<Vec<u8>> {
         }
     }
     f.put_checks_right();
-    Some(f.image)
+    Some((f.image, named))
+}
+
+/// An image of another table than this one.
+fn foreign(good: &[u8], rng: &mut Rng) -> Vec<u8> {
+    loop {
+        let table = super::table(rng.bits());
+        let image = image::to_vec(&table).expect("a table that a schedule gave keeps the rules");
+        if image != good {
+            return image;
+        }
+    }
+}
+
+/// Another block than this one.
+fn other_block(block: usize, blocks: usize, rng: &mut Rng) -> usize {
+    (block + rng.range(1, blocks - 1)) % blocks
 }
 
 /// A good image with the numbers of desk u moved up by `up[u]` in all counts,
@@ -1019,6 +1198,31 @@ impl Fields {
                 None => self.applied(i, i),
             },
             _ => rng.below(self.image.len() / BLOCK) * BLOCK + rng.below(CHECK),
+        }
+    }
+
+    /// Turns over every bit of a block.
+    fn flip(&mut self, block: usize) {
+        let bytes = &mut self.image[block * BLOCK..][..BLOCK];
+        bytes.iter_mut().for_each(|byte| *byte = !*byte);
+    }
+
+    /// Changes a bit of a block's check.
+    fn spoil_check(&mut self, block: usize, rng: &mut Rng) {
+        self.image[block * BLOCK + rng.range(CHECK, BLOCK - 1)] ^= 1 << rng.below(8);
+    }
+
+    /// Gives a block a kind, an edition or a place that cannot stand there.
+    fn make_stray(&mut self, block: usize, rng: &mut Rng) {
+        let head = &mut self.image[block * BLOCK..][..PAYLOAD];
+        match rng.below(3) {
+            0 if block == 0 => head[0] = *rng.pick(&[0, 2, 3, 4, 5, 255]),
+            0 => head[0] = *rng.pick(&[0, 1, 5, 255]),
+            1 => head[1] = *rng.pick(&[0, 3, 255]),
+            _ => {
+                let byte = &mut head[rng.range(2, 3)];
+                *byte = byte.wrapping_add(nonzero(rng));
+            }
         }
     }
 

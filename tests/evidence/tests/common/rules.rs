@@ -3,8 +3,10 @@
 /// A rule that an image breaks.
 #[derive(Clone, Copy, Debug, PartialEq, Eq, PartialOrd, Ord, Hash)]
 pub enum Rule {
+    /// Refusal 15.
+    Length,
     /// Refusal 12.
-    LengthOrCheck,
+    Check,
     /// n, m or the open count is out of range.
     HeadRange,
     /// Not the blocks that n, m and the open count ask for.
@@ -47,16 +49,52 @@ fn vector(bytes: &[u8], places: usize) -> Vec<u32> {
         .collect()
 }
 
+/// What a load has to answer: nothing if the image is accepted, or the number and
+/// its place. Goes over the blocks from the last to the first, so that what is
+/// written down last is the first; the check is the handbook's, two running sums.
+pub fn finding(image: &[u8]) -> Option<(u8, Option<usize>)> {
+    let (count, rest) = (image.len() / 512, image.len() % 512);
+    if count == 0 || rest != 0 {
+        return Some((15, None));
+    }
+    let (mut wrong_check, mut cannot_stand) = (None, None);
+    for at in (0..count).rev() {
+        let block = &image[512 * at..512 * at + 512];
+        let (mut so_far, mut sums) = (0u64, 0u64);
+        for j in (0..508).rev() {
+            so_far += u64::from(block[j]);
+            sums += so_far;
+        }
+        let check = (508..512)
+            .rev()
+            .fold(0, |all, j| all * 256 + u64::from(block[j]));
+        if check != sums + 1 {
+            wrong_check = Some(at);
+        }
+        let kinds: &[u8] = if at == 0 { &[1] } else { &[2, 3, 4] };
+        let place = block[2] as usize + 256 * block[3] as usize;
+        if place != at || ![1, 2].contains(&block[1]) || !kinds.contains(&block[0]) {
+            cannot_stand = Some(at);
+        }
+    }
+    match (wrong_check, cannot_stand) {
+        (Some(at), _) => Some((12, Some(at))),
+        (None, Some(at)) => Some((13, Some(at))),
+        (None, None) if broken(image).is_empty() => None,
+        (None, None) => Some((13, Some(count))),
+    }
+}
+
 /// All rules that the image breaks; those about blocks come alone.
 pub fn broken(image: &[u8]) -> Vec<Rule> {
     if image.is_empty() || image.len() / 512 * 512 != image.len() {
-        return vec![Rule::LengthOrCheck];
+        return vec![Rule::Length];
     }
     for block in image.chunks(512) {
         let sum: u64 = (0..508).map(|j| (j as u64 + 1) * u64::from(block[j])).sum();
         let check: u64 = (0..4).map(|j| u64::from(block[508 + j]) << (8 * j)).sum();
         if check != sum + 1 {
-            return vec![Rule::LengthOrCheck];
+            return vec![Rule::Check];
         }
     }
     let (n, m, open) = (image[4] as usize, image[5] as usize, image[6] as usize);

@@ -1,6 +1,7 @@
 //! What a run consisted of, so that an empty test is seen.
 
 use crate::calls::Tally;
+use crate::findings;
 use crate::images::Way;
 use evidence::causal::Holds;
 use evidence::gen::Kind;
@@ -64,22 +65,51 @@ pub struct Counts {
     pub longest: usize,
     pub one_over: usize,
     pub over: usize,
-    /// Images by verdict: 12, 13, accepted; and those of no bytes, which are
-    /// no table yet.
-    pub damaged: usize,
-    pub broken: usize,
-    pub accepted: usize,
-    pub empty: usize,
+    /// Images by verdict.
+    pub verdicts: Verdicts,
     /// Accepted images of edition 2, and refused ones with a block whose edition
     /// is not that of their n.
     pub second: usize,
     pub unfit: usize,
-    /// Damaged images whose checks are all right.
+    /// Images by the ways of damage, and those of them whose length and checks are
+    /// right.
+    pub damaged: usize,
     pub checks_right: usize,
     /// Images of each way.
     pub ways: BTreeMap<String, usize>,
-    /// Calls, by what was lent.
+    /// Calls of `access_run`, by what was lent.
     pub calls: Tally,
+    /// Calls of `access_inspect`, by what was lent.
+    pub findings: findings::Tally,
+}
+
+/// Images by verdict.
+#[derive(Clone, Copy, Debug, Default, PartialEq, Eq)]
+pub struct Verdicts {
+    /// 15: no bytes, which are no table yet to `access_run`; and all others.
+    pub empty: usize,
+    pub cut: usize,
+    /// 12 at block 0, at the last block, and between them.
+    pub check_first: usize,
+    pub check_last: usize,
+    pub check_between: usize,
+    /// 13 at block 0, at a later block, and at the block count.
+    pub stray_first: usize,
+    pub stray_later: usize,
+    pub rule: usize,
+    pub accepted: usize,
+}
+
+impl Verdicts {
+    /// Refused with 12, wherever.
+    fn damaged(&self) -> usize {
+        self.check_first + self.check_last + self.check_between
+    }
+
+    /// Refused with 13, wherever.
+    fn broken(&self) -> usize {
+        self.stray_first + self.stray_later + self.rule
+    }
 }
 
 impl Counts {
@@ -101,19 +131,19 @@ impl Counts {
 
     /// All images.
     pub fn images(&self) -> usize {
-        self.damaged + self.broken + self.accepted + self.empty
+        let v = &self.verdicts;
+        v.empty + v.cut + v.damaged() + v.broken() + v.accepted
     }
 
-    /// The classes that were not met, and have to be in a run of full length.
-    pub fn missing(&self) -> Vec<String> {
+    /// The classes of schedules that were not met, and have to be in a run of full
+    /// length.
+    pub fn missing_of_schedules(&self) -> Vec<String> {
         let mut missing: Vec<String> = Vec::new();
         let answers = ANSWERS.iter().zip(self.answers);
         missing.extend((answers.filter(|a| a.1 == 0)).map(|a| format!("an answer {}", a.0)));
         let kinds = Kind::ALL.iter().map(|k| k.name());
         missing
             .extend((kinds.filter(|k| !self.kinds.contains_key(k))).map(|k| format!("kind {k}")));
-        let ways = Way::all().map(|w| w.to_string());
-        missing.extend((ways.filter(|w| !self.ways.contains_key(w))).map(|w| format!("way {w}")));
         let counted = [
             ("a piece from no table", self.from_nothing),
             ("a piece from an image", self.from_image),
@@ -127,12 +157,6 @@ impl Counts {
             ("a schedule of 65,537 bytes", self.one_over),
             ("a longer schedule", self.over),
             ("a run checked for causal order", self.causal),
-            ("an image refused with 12", self.damaged),
-            ("an image refused with 13", self.broken),
-            ("an accepted image", self.accepted),
-            ("an accepted image of edition 2", self.second),
-            ("an image refused for its edition", self.unfit),
-            ("an image of no bytes", self.empty),
             ("room to the byte", self.calls.exact),
             ("answers one short", self.calls.short_answers),
             ("image_out one short", self.calls.short_image),
@@ -142,6 +166,35 @@ impl Counts {
         missing.extend((counted.iter().filter(|c| c.1 == 0)).map(|c| c.0.to_string()));
         let holds = self.holds.rare(1).into_iter();
         missing.extend(holds.map(|class| format!("a held answer with {class}")));
+        missing
+    }
+
+    /// The same of images.
+    pub fn missing_of_images(&self) -> Vec<String> {
+        let ways = Way::all().map(|w| w.to_string());
+        let ways = ways.filter(|w| !self.ways.contains_key(w));
+        let mut missing: Vec<String> = ways.map(|w| format!("way {w}")).collect();
+        let v = &self.verdicts;
+        let counted = [
+            ("an image of no bytes", v.empty),
+            ("an image refused with 15", v.cut),
+            ("an image refused with 12 at block 0", v.check_first),
+            (
+                "an image refused with 12 at a middle block",
+                v.check_between,
+            ),
+            ("an image refused with 12 at the last block", v.check_last),
+            ("an image refused with 13 at block 0", v.stray_first),
+            ("an image refused with 13 at a later block", v.stray_later),
+            ("an image refused with 13 at the block count", v.rule),
+            ("an accepted image", v.accepted),
+            ("an accepted image of edition 2", self.second),
+            ("an image refused for its edition", self.unfit),
+            ("a finding of five numbers", self.findings.exact),
+            ("a finding too short", self.findings.short),
+            ("a longer finding", self.findings.longer),
+        ];
+        missing.extend((counted.iter().filter(|c| c.1 == 0)).map(|c| c.0.to_string()));
         missing
     }
 
@@ -156,7 +209,7 @@ impl Counts {
         let answers = answers.map(|(a, c)| (a.to_string(), c));
         let fewest = self.ways.iter().min_by_key(|w| w.1);
         let (fewest, count) = fewest.map_or(("none", 0), |(way, count)| (way, *count));
-        let c = &self.calls;
+        let (c, v, f) = (&self.calls, &self.verdicts, &self.findings);
         format!(
             "schedules: {}\n\
              answers: {}\n\
@@ -165,7 +218,9 @@ impl Counts {
              9 to 16 desks: {} schedules, {} pieces from an image, {} of them with 64 open; {} images of edition 2 accepted, {} refused for an edition\n\
              sizes: {} pieces of 65,536 bytes, {} of 65,537, {} longer\n\
              calls: {}; {} with room to the byte, {} longer, one short: {} answers, {} image_out, {} lengths\n\
-             images: {} damaged with checks right; {} ways, fewest {} ({})",
+             images: {} by the ways of damage, {} of them with checks right; {} ways, fewest {} ({})\n\
+             places: 12 at block 0 {}, between {}, at the last {}; 13 at block 0 {}, later {}, at the block count {}\n\
+             findings: {} in five numbers, {} in fewer, {} in more",
             list(kinds.collect()),
             list(answers.collect()),
             self.holds,
@@ -188,26 +243,37 @@ impl Counts {
             c.short_answers,
             c.short_image,
             c.short_lengths,
+            self.damaged,
             self.checks_right,
             self.ways.len(),
             fewest,
             count,
+            v.check_first,
+            v.check_between,
+            v.check_last,
+            v.stray_first,
+            v.stray_later,
+            v.rule,
+            f.exact,
+            f.short,
+            f.longer,
         )
     }
 
     /// The counts in one line.
     pub fn line(&self) -> String {
         format!(
-            "{} schedules, {} pieces, {} lines ({} runs by the definition of causal order); {} images: {} refused with 12, {} with 13, {} accepted, {} of no bytes",
+            "{} schedules, {} pieces, {} lines ({} runs by the definition of causal order); {} images: {} refused with 15, {} with 12, {} with 13, {} accepted, {} of no bytes",
             self.schedules(),
             self.pieces,
             self.lines,
             self.causal,
             self.images(),
-            self.damaged,
-            self.broken,
-            self.accepted,
-            self.empty
+            self.verdicts.cut,
+            self.verdicts.damaged(),
+            self.verdicts.broken(),
+            self.verdicts.accepted,
+            self.verdicts.empty
         )
     }
 }

@@ -4,9 +4,8 @@ use crate::calls::{Call, Expect, Held};
 use crate::counts::Counts;
 use crate::pieces::{self, image_of, Case};
 use evidence::gen::{damage, odd_image, schedule_from, table, worn_image, Damage, Rng};
-use evidence::image::{self, check_of, Edition, BLOCK, CHECK, PAYLOAD};
+use evidence::image::{self, check_of, Edition, Fault, BLOCK, CHECK, PAYLOAD};
 use evidence::text::MAX_INPUT;
-use evidence::Refusal;
 use std::fmt;
 
 /// Where an image comes from.
@@ -45,6 +44,8 @@ pub struct Sample {
     pub seed: u64,
     pub good: Vec<u8>,
     pub image: Vec<u8>,
+    /// What a load has to answer by what was done, if that tells it.
+    pub foretold: Option<Result<(), Fault>>,
 }
 
 impl Sample {
@@ -63,12 +64,13 @@ impl Sample {
                 1 => odd_image(rng.bits()),
                 _ => image_of(&table(rng.bits())),
             };
-            if let Some(image) = damage(&good, what, &mut rng) {
+            if let Some(damaged) = damage(&good, what, &mut rng) {
                 return Sample {
                     way,
                     seed,
                     good,
-                    image,
+                    image: damaged.image,
+                    foretold: damaged.foretold,
                 };
             }
         }
@@ -80,35 +82,46 @@ impl Sample {
             seed,
             good: image.clone(),
             image,
+            foretold: Some(Ok(())),
+        }
+    }
+
+    /// The good image as a sample of its own.
+    pub fn undamaged(&self) -> Sample {
+        Sample {
+            image: self.good.clone(),
+            foretold: Some(Ok(())),
+            ..self.clone()
         }
     }
 
     /// A sample that shows a fault with fewer bytes changed, if this one does:
-    /// bytes are put back as long as there is one, and checks put right.
+    /// bytes are put back as long as there is one. Checks are put right, if all of
+    /// them are in this one; else they are bytes as all others.
     pub fn shortest(&self, fault: &dyn Fn(&[u8]) -> Option<String>) -> Sample {
-        let checked = |image: &[u8]| {
-            let blocks = image.chunks_exact(BLOCK);
-            blocks.remainder().is_empty() && blocks.into_iter().all(check_right)
-        };
-        if self.image.len() != self.good.len() || !checked(&self.image) {
+        if self.image.len() != self.good.len() {
             return self.clone();
         }
+        let sealed = self.image.chunks_exact(BLOCK).all(check_right);
         let image_with = |changed: &[usize]| {
             let mut image = self.good.clone();
             for &at in changed {
                 image[at] = self.image[at];
             }
-            put_checks_right(&mut image);
+            if sealed {
+                put_checks_right(&mut image);
+            }
             image
         };
         let changed: Vec<usize> = (0..self.good.len())
-            .filter(|&at| at % BLOCK < CHECK && self.good[at] != self.image[at])
+            .filter(|&at| self.good[at] != self.image[at] && !(sealed && at % BLOCK >= CHECK))
             .collect();
         let changed = pieces::shrink(changed, &mut |changed| {
             Some(fault(&image_with(changed)).is_some())
         });
         Sample {
             image: image_with(&changed),
+            foretold: None,
             ..self.clone()
         }
     }
@@ -136,10 +149,16 @@ impl Sample {
             })
             .collect();
         out += &format!("; {} bytes changed\n", changed.len());
-        for line in changed.iter().take(40) {
+        // Behind a block too many or too few every byte may be another.
+        let shown = if self.image.len() == self.good.len() {
+            40
+        } else {
+            8
+        };
+        for line in changed.iter().take(shown) {
             out += &format!("{line}\n");
         }
-        if changed.len() > 40 {
+        if changed.len() > shown {
             out += "    and so on\n";
         }
         out
@@ -158,29 +177,46 @@ impl Sample {
         Case::cut(image.clone(), &text, 3, &mut rng)
     }
 
-    /// Counts the sample by its way and verdict.
-    pub fn count(&self, counts: &mut Counts) {
+    /// Counts the sample by its way and verdict. A verdict of the independent
+    /// implementation that is not the foretold one is a fault.
+    pub fn count(&self, counts: &mut Counts) -> Result<(), String> {
         *counts.ways.entry(self.way.to_string()).or_default() += 1;
-        match verdict(&self.image) {
-            Err(Refusal::ImageDamaged) => counts.damaged += 1,
-            Err(_) => {
-                counts.broken += 1;
+        let damaged = matches!(self.way, Way::Damaged(_));
+        counts.damaged += usize::from(damaged);
+        let verdict = image::load(&self.image).map(drop);
+        if self.foretold.is_some_and(|foretold| foretold != verdict) {
+            let (foretold, shown) = (self.foretold, self.show());
+            return Err(format!(
+                "the independent implementation says {verdict:?}, and {foretold:?} is foretold of\n{shown}"
+            ));
+        }
+        let blocks = self.image.len() / BLOCK;
+        let verdicts = &mut counts.verdicts;
+        match verdict {
+            Err(Fault::WrongLength) if self.image.is_empty() => verdicts.empty += 1,
+            Err(Fault::WrongLength) => verdicts.cut += 1,
+            Err(Fault::Check(0)) => verdicts.check_first += 1,
+            Err(Fault::Check(place)) if place + 1 < blocks => verdicts.check_between += 1,
+            Err(Fault::Check(_)) => verdicts.check_last += 1,
+            Err(Fault::Rule(0)) => verdicts.stray_first += 1,
+            Err(Fault::Rule(place)) if place < blocks => verdicts.stray_later += 1,
+            Err(Fault::Rule(_)) => verdicts.rule += 1,
+            Ok(()) => verdicts.accepted += 1,
+        }
+        match verdict {
+            Ok(()) => counts.second += usize::from(self.image[1] == 2),
+            Err(Fault::Rule(_)) => {
                 counts.unfit += usize::from(editions(&self.image).any(|fits| !fits));
             }
-            Ok(()) if self.image.is_empty() => counts.empty += 1,
-            Ok(()) => {
-                counts.accepted += 1;
-                counts.second += usize::from(self.image[1] == 2);
-            }
+            Err(_) => return Ok(()),
         }
-        let checks_right = !matches!(image::load(&self.image), Err(Refusal::ImageDamaged));
-        let damaged = matches!(self.way, Way::Damaged(_));
-        counts.checks_right += usize::from(damaged && checks_right);
+        counts.checks_right += usize::from(damaged);
+        Ok(())
     }
 }
 
 /// The verdict on an image as `access_run` takes it: no bytes are no table.
-pub fn verdict(image: &[u8]) -> Result<(), Refusal> {
+pub fn verdict(image: &[u8]) -> Result<(), Fault> {
     if image.is_empty() {
         return Ok(());
     }
@@ -195,7 +231,7 @@ pub fn hold(call: Call, image: &[u8], counts: &mut Counts) -> Result<(), String>
             answers: Vec::new(),
             image: image.to_vec(),
         },
-        Err(refusal) => Expect::Refused(refusal.number().into()),
+        Err(fault) => Expect::Refused(fault.refusal().number().into()),
     };
     let held = |schedule| Held {
         call,

@@ -2,6 +2,7 @@
 
 use crate::calls::{Call, Expect, Held};
 use crate::counts::Counts;
+use crate::findings::{self, Inspect};
 use evidence::gen::Rng;
 use evidence::table::{Mark, Table};
 use evidence::text::{replay, Reader, Session, MAX_INPUT};
@@ -169,9 +170,15 @@ pub enum Depth {
     All,
 }
 
-/// Runs a case through the call, and holds every piece, the answers of all
-/// pieces together, and their causal order.
-pub fn hold(call: Call, case: &Case, depth: Depth, counts: &mut Counts) -> Result<(), String> {
+/// Runs a case through the call, and holds every piece, what is found in the
+/// image behind it, the answers of all pieces together, and their causal order.
+pub fn hold(
+    call: Call,
+    inspect: Inspect,
+    case: &Case,
+    depth: Depth,
+    counts: &mut Counts,
+) -> Result<(), String> {
     let mut session = session_of(&case.start);
     let mut carried = case.start.clone();
     let (mut ran, mut answered) = (Vec::new(), Vec::new());
@@ -197,6 +204,8 @@ pub fn hold(call: Call, case: &Case, depth: Depth, counts: &mut Counts) -> Resul
             ran.extend_from_slice(piece);
             answered.extend(answers);
             carried = image;
+            findings::hold(inspect, &carried, &mut counts.findings)
+                .map_err(|fault| format!("behind piece {}: {fault}", at + 1))?;
         }
     }
     if case.start.is_empty() {

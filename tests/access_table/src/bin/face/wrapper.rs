@@ -3,8 +3,8 @@
 use crate::calls::Expect;
 use crate::images::verdict;
 use crate::pieces::{expected, Case};
-use access_table::{answers_bound, Table};
-use evidence::image;
+use access_table::{answers_bound, inspect, Finding, Table};
+use evidence::image::{self, Fault, BLOCK};
 use evidence::text::Session;
 
 /// A `Table` that goes through the pieces of a case.
@@ -34,16 +34,31 @@ pub fn hold(case: &Case) -> Result<(), String> {
     Ok(())
 }
 
-/// `Table::load` of an image. No bytes are no image to it.
+/// `Table::load` of an image, and `inspect`. No bytes are no image to either.
 pub fn hold_image(image: &[u8]) -> Result<(), String> {
     let found = Table::load(image);
     let same = match verdict(image) {
-        Ok(()) if image.is_empty() => found.map_err(|r| r.number()) == Err(12),
+        Ok(()) if image.is_empty() => found.map_err(|r| r.number()) == Err(15),
         Ok(()) => found.is_ok_and(|table| table.image() == Some(image)),
-        Err(refusal) => found.map_err(|r| r.number()) == Err(refusal.number().into()),
+        Err(fault) => found.map_err(|r| r.number()) == Err(fault.refusal().number().into()),
     };
-    match same {
-        true => Ok(()),
-        false => Err("Table::load gives something else".into()),
+    if !same {
+        return Err("Table::load gives something else".into());
+    }
+    let blocks = image.len() / BLOCK;
+    let finding = match image::load(image) {
+        Ok(table) => Finding::Table {
+            desks: table.desks().into(),
+            cells: table.cells().into(),
+            open: table.open_count(),
+        },
+        Err(Fault::WrongLength) => Finding::Cut { bytes: image.len() },
+        Err(Fault::Check(block)) => Finding::Damaged { block },
+        Err(Fault::Rule(block)) if block < blocks => Finding::Misplaced { block },
+        Err(Fault::Rule(_)) => Finding::Broken,
+    };
+    match inspect(image) {
+        found if found == finding => Ok(()),
+        found => Err(format!("inspect gives {found:?} in place of {finding:?}")),
     }
 }

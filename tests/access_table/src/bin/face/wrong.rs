@@ -1,16 +1,16 @@
 //! Deliberately wrong libraries. The program has to see each of them, and to
 //! show it in few lines or bytes; and to find nothing wrong with the right one.
 
-use crate::calls::{Call, Expect};
+use crate::calls::Expect;
 use crate::counts::Counts;
+use crate::findings;
 use crate::images::put_checks_right;
 use crate::pieces::expected;
 use crate::{all, Library};
 use evidence::gen::in_edition;
-use evidence::image::{self, block_count, Edition, BLOCK, PAYLOAD};
+use evidence::image::{self, block_count, check_of, Edition, Fault, BLOCK, CHECK, PAYLOAD};
 use evidence::table::Table;
 use evidence::text::{Session, MAX_INPUT};
-use evidence::Refusal;
 
 #[derive(Clone, Copy, Debug, PartialEq, Eq)]
 enum Wrong {
@@ -68,6 +68,44 @@ enum Wrong {
     HeadEdition,
     OtherEdition,
     PlacesPastN,
+    // The image's number.
+    LengthIs12,
+    StrayBeforeCheck,
+    EmptyIs15,
+    // What is found: which block is named.
+    LastCheckNamed,
+    LastStrayNamed,
+    StrayFoundFirst,
+    CheckPlusOne,
+    StrayPlusOne,
+    CountLessOne,
+    CountAlways,
+    CountNever,
+    CountOfHead,
+    HeadBeforePlaces,
+    // What can stand there.
+    EqualEditions,
+    EditionOfN,
+    EditionOneStands,
+    EditionNotTested,
+    KindsInOrder,
+    SecondHeadStands,
+    KindNotTested,
+    PlaceLowByte,
+    PlaceNotTested,
+    // The numbers, and where they go.
+    NumbersSwapped,
+    CutFoundAs12,
+    CutHasPlace,
+    EmptyIsNoFault,
+    SizeOfRefused,
+    NoSize,
+    SizesSwapped,
+    FifthMissing,
+    ShortWritten,
+    FourAreEnough,
+    FindingTail,
+    ReturnsNumber,
 }
 
 /// `access_run` over the independent implementation, wrong in one way.
@@ -152,7 +190,10 @@ fn seventeen(text: &[u8], answers: &[u8]) -> Vec<u8> {
 /// The session that an image gives.
 fn start(wrong: Wrong, image: &[u8]) -> Result<Session, u64> {
     if image.is_empty() {
-        return Ok(Session::new());
+        return match wrong {
+            Wrong::EmptyIs15 => Err(15),
+            _ => Ok(Session::new()),
+        };
     }
     if wrong == Wrong::ThirtySevenBlocks && image.len() > 37 * BLOCK {
         return Err(13);
@@ -161,10 +202,16 @@ fn start(wrong: Wrong, image: &[u8]) -> Result<Session, u64> {
         (Ok(table), Wrong::EightDesks) if table.desks() > 8 => return Err(13),
         (Ok(table), Wrong::Refuses65535) if spent(&table) => return Err(13),
         (Ok(table), _) => table,
-        (Err(Refusal::ImageDamaged), Wrong::Always13) => return Err(13),
-        (Err(refusal), _) => {
+        (Err(Fault::Check(_)), Wrong::Always13) => return Err(13),
+        (Err(Fault::WrongLength), Wrong::LengthIs12) => return Err(12),
+        (Err(Fault::Check(place)), Wrong::StrayBeforeCheck)
+            if strays(wrong, image).iter().any(|&stray| stray < place) =>
+        {
+            return Err(13)
+        }
+        (Err(fault), _) => {
             let mended = mend(wrong, image).and_then(|image| image::load(&image).ok());
-            mended.ok_or(u64::from(refusal.number()))?
+            mended.ok_or(u64::from(fault.refusal().number()))?
         }
     };
     Ok(Session::with_table(table))
@@ -381,7 +428,7 @@ fn open_writes(image: &[u8]) -> Vec<usize> {
 fn mend(wrong: Wrong, image: &[u8]) -> Option<Vec<u8>> {
     if image.is_empty()
         || !image.len().is_multiple_of(BLOCK)
-        || image::load(image) != Err(Refusal::RuleBroken)
+        || !matches!(image::load(image), Err(Fault::Rule(_)))
     {
         return None;
     }
@@ -442,28 +489,147 @@ fn mend(wrong: Wrong, image: &[u8]) -> Option<Vec<u8>> {
     Some(image)
 }
 
-/// A library without the wrapper, which has the linked one under it.
-fn library(call: Call) -> Library {
-    Library {
-        call,
-        wrapped: false,
+/// `access_inspect` over the independent implementation, wrong in one way.
+fn inspect(wrong: Wrong, image: &[u8], finding: &mut [u64]) -> u64 {
+    let five = found(wrong, image);
+    match finding {
+        [front @ .., _] if wrong == Wrong::ShortWritten && front.len() == 3 => {
+            front.copy_from_slice(&five[..3]);
+            14
+        }
+        [_, _, _, _] if wrong == Wrong::FourAreEnough => {
+            finding.copy_from_slice(&five[..4]);
+            0
+        }
+        [front @ .., _] if front.len() < 4 => 14,
+        [] => 14,
+        _ => {
+            let written = if wrong == Wrong::FifthMissing { 4 } else { 5 };
+            finding[..written].copy_from_slice(&five[..written]);
+            if wrong == Wrong::FindingTail {
+                finding[5..].fill(0);
+            }
+            match wrong {
+                Wrong::ReturnsNumber => five[0],
+                _ => 0,
+            }
+        }
     }
+}
+
+/// The five numbers of a wrong library.
+fn found(wrong: Wrong, image: &[u8]) -> [u64; 5] {
+    let right = findings::expected(image);
+    let refused = |number: u64, place: usize| [number, place as u64, 0, 0, 0];
+    let blocks = image.len() / BLOCK;
+    let Err(fault) = image::load(image) else {
+        let [number, place, n, m, open] = right;
+        return match wrong {
+            Wrong::NoSize => refused(0, 0),
+            Wrong::SizesSwapped => [number, place, m, n, open],
+            _ => right,
+        };
+    };
+    let strays = strays(wrong, image);
+    match (fault, wrong) {
+        (_, Wrong::EmptyIsNoFault) if image.is_empty() => refused(0, 0),
+        (_, Wrong::SizeOfRefused) if blocks > 0 => {
+            let [n, m, open] = [4, 5, 6].map(|at| u64::from(image[at]));
+            [right[0], right[1], n, m, open]
+        }
+        (Fault::WrongLength, Wrong::NumbersSwapped | Wrong::CutFoundAs12) => refused(12, 0),
+        (Fault::WrongLength, Wrong::CutHasPlace) => refused(15, blocks),
+        (Fault::WrongLength, _) => right,
+        (Fault::Check(place), Wrong::NumbersSwapped) => refused(15, place),
+        (Fault::Check(_), Wrong::LastCheckNamed) => {
+            let wrong_check = |at: &usize| {
+                let block = &image[at * BLOCK..][..BLOCK];
+                block[CHECK..] != check_of(block).to_le_bytes()
+            };
+            let last = (0..blocks).rev().find(wrong_check);
+            refused(12, last.unwrap_or_default())
+        }
+        (Fault::Check(place), Wrong::StrayFoundFirst) => match strays.first() {
+            Some(&stray) if stray < place => refused(13, stray),
+            _ => right,
+        },
+        (Fault::Check(place), Wrong::CheckPlusOne) => refused(12, place + 1),
+        (Fault::Check(_), _) => right,
+        (Fault::Rule(_), Wrong::LastStrayNamed) => refused(13, *strays.last().unwrap_or(&blocks)),
+        (Fault::Rule(place), Wrong::StrayPlusOne) => refused(13, (place + 1).min(blocks)),
+        (Fault::Rule(place), Wrong::CountLessOne) => refused(13, place.min(blocks - 1)),
+        (Fault::Rule(_), Wrong::CountAlways) => refused(13, blocks),
+        (Fault::Rule(_), Wrong::CountNever) => refused(13, *strays.first().unwrap_or(&0)),
+        (Fault::Rule(place), Wrong::CountOfHead) if place == blocks => {
+            let [n, m, open] = [4, 5, 6].map(|at| usize::from(image[at]));
+            refused(13, block_count(n, m, open))
+        }
+        (Fault::Rule(_), Wrong::HeadBeforePlaces)
+            if !(1..=16).contains(&image[4]) || image[7..CHECK].iter().any(|&byte| byte != 0) =>
+        {
+            refused(13, blocks)
+        }
+        (Fault::Rule(_), _) => refused(13, *strays.first().unwrap_or(&blocks)),
+    }
+}
+
+/// The blocks that cannot stand where they are, by a wrong library.
+fn strays(wrong: Wrong, image: &[u8]) -> Vec<usize> {
+    let n_fits = |edition| edition == Edition::of(image[PAYLOAD].into()).number;
+    let stands = |&at: &usize| {
+        let block = &image[at * BLOCK..][..BLOCK];
+        let kind = match (wrong, block[0]) {
+            (Wrong::KindNotTested, _) => true,
+            (Wrong::SecondHeadStands, 1) => true,
+            (_, 1) => at == 0,
+            (Wrong::KindsInOrder, kind @ 2..=4) => at > 0 && kind >= image[(at - 1) * BLOCK],
+            (_, 2..=4) => at > 0,
+            _ => false,
+        };
+        let edition = match (wrong, block[1]) {
+            (Wrong::EditionNotTested, _) => true,
+            (Wrong::EqualEditions, edition @ 1..=2) => edition == image[1],
+            (Wrong::EditionOfN, edition @ 1..=2) => n_fits(edition),
+            (Wrong::EditionOneStands, edition) => edition == 1,
+            (_, edition) => (1..=2).contains(&edition),
+        };
+        let place = match wrong {
+            Wrong::PlaceNotTested => true,
+            Wrong::PlaceLowByte => usize::from(block[2]) == at,
+            _ => usize::from(u16::from_le_bytes([block[2], block[3]])) == at,
+        };
+        kind && edition && place
+    };
+    (0..image.len() / BLOCK).filter(|at| !stands(at)).collect()
+}
+
+/// A library without the wrapper, which has the linked one under it.
+macro_rules! library {
+    ($wrong:expr) => {
+        Library {
+            call: |i, s, a, o, l| run($wrong, i, s, a, o, l),
+            inspect: |i, f| inspect($wrong, i, f),
+            wrapped: false,
+        }
+    };
 }
 
 /// Each wrong library, with how many schedules and images it is tried on.
 macro_rules! libraries {
     ($($wrong:ident $sizes:expr;)*) => {
-        [$((Wrong::$wrong, library(|i, s, a, o, l| run(Wrong::$wrong, i, s, a, o, l)), $sizes)),*]
+        [$((Wrong::$wrong, library!(Wrong::$wrong), $sizes)),*]
     };
 }
 
 #[test]
 fn the_right_library_passes() {
-    let right = library(|i, s, a, o, l| run(Wrong::Nothing, i, s, a, o, l));
+    let right = library!(Wrong::Nothing);
     let mut counts = Counts::default();
     all(right, [140, 240], 5, &mut counts).unwrap();
     assert_eq!((counts.schedules(), counts.images()), (140, 240));
-    assert!(!Counts::default().missing().is_empty());
+    assert_eq!(counts.missing_of_images(), [""; 0]);
+    assert!(!Counts::default().missing_of_schedules().is_empty());
+    assert!(!Counts::default().missing_of_images().is_empty());
 }
 
 #[test]
@@ -482,6 +648,15 @@ fn every_wrong_library_is_caught_and_shown_in_short() {
         ClocksPlacesLost texts; MarksLost texts; LastCellLost texts; LastOpenLost texts;
         ThirtySevenBlocks texts; AnyEdition images; HeadEdition images; OtherEdition images;
         PlacesPastN images;
+        LengthIs12 images; StrayBeforeCheck images; EmptyIs15 images;
+        LastCheckNamed images; LastStrayNamed images; StrayFoundFirst images; CheckPlusOne images;
+        StrayPlusOne images; CountLessOne images; CountAlways images; CountNever images;
+        CountOfHead images; HeadBeforePlaces images; EqualEditions images; EditionOfN images;
+        EditionOneStands images; EditionNotTested images; KindsInOrder images;
+        SecondHeadStands images; KindNotTested images; PlaceLowByte images; PlaceNotTested images;
+        NumbersSwapped images; CutFoundAs12 images; CutHasPlace images; EmptyIsNoFault images;
+        SizeOfRefused images; NoSize texts; SizesSwapped texts; FifthMissing images;
+        ShortWritten images; FourAreEnough images; FindingTail images; ReturnsNumber images;
     ];
     for (wrong, library, sizes) in libraries {
         let Err(report) = all(library, sizes, 1, &mut Counts::default()) else {
