@@ -6,6 +6,7 @@ pub mod Editions
 pub mod Saving
 pub mod Unique
 pub mod Examples
+pub mod FaultExamples
 pub mod Reload
 pub mod ImageSize
 pub mod OpenNames
