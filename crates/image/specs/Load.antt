@@ -138,7 +138,7 @@ pub first-bad : (b : List ℕ) (k : ℕ) → load b ≡ refused (check-fault k) 
 first-bad b k e = let h = load-12 b k .0 e in (h .1, h .2 .fails (h .1), h .2 .before)
 
 -- a block that cannot stand where it is is in no image
-misplaced-no-image : (b : List ℕ) (k : ℕ) → k < blocksIn b → (StandsAt b k → ⊥) → NoImage b
+pub misplaced-no-image : (b : List ℕ) (k : ℕ) → k < blocksIn b → (StandsAt b k → ⊥) → NoImage b
 misplaced-no-image b k h f s r e = f (rw e at (image-stands s k (rw e h)))
 
 -- 13 below the block count: exactly where nothing is damaged and a block, the first such, cannot stand where it is

@@ -63,12 +63,9 @@ pub damaged-so : (b : List ℕ) (o : Outcome) (t : Table) (k : ℕ) → o ≡ ou
     → FirstNot (RightAt b) (blocksIn b) k → Answers b o t
 damaged-so b o t k eo et w h f = rw eo ((w, h, f), et)
 
--- 13, and the place that goes with it
-abbrev pub BrokenAt : List ℕ → Outcome → Type 0
-BrokenAt b o = (k : ℕ) × (o ≡ outcome.Broken k) × FirstNot (StandsAt b) (blocksIn b) k
-
-pub broken-so : (b : List ℕ) (o : Outcome) (t : Table) → BrokenAt b o → t ≡ freshTable 0 0 → Undamaged b → NoImage b → Answers b o t
-broken-so b o t h et u f = rw (h .1) ((u, f, h .2), et)
+pub broken-so : (b : List ℕ) (o : Outcome) (t : Table) (k : ℕ) → o ≡ outcome.Broken k → t ≡ freshTable 0 0 → Undamaged b → NoImage b
+    → FirstNot (StandsAt b) (blocksIn b) k → Answers b o t
+broken-so b o t k eo et u f h = rw eo ((u, f, h), et)
 
 -- no check was found wrong
 pub all-right : (b : List ℕ) (k : ℕ) → WholeBlocks b → blocksIn b ≤ k → FirstNot (RightAt b) (blocksIn b) k → Undamaged b

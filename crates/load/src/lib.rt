@@ -17,7 +17,7 @@ ghost use Rattle.image.specs.Load.{load};
 ghost use Rattle.load.specs.Mirror.ImageRead.{wordAt, wordsFrom, bytesFrom, cellFrom, openFrom, deskFrom, deskFor, cellFor, Fits, SizesOf, CellsRead};
 ghost use Rattle.load.specs.Link.EntryEach.{OpensRead};
 ghost use Rattle.load.specs.Link.ReadsBack.{ReadAs};
-ghost use Rattle.load.specs.Loading.{Answers, BrokenAt};
+ghost use Rattle.load.specs.Loading.{Answers};
 ghost use Rattle.load.specs.Finding.{findingOf, numbersOf};
 use block::BLOCK;
 use block::PAYLOAD_AT;
@@ -369,14 +369,7 @@ fn refused(o: Outcome) -> Taken
     }
 }
 
-fn broken(b: &[u8]) -> Taken
-    ensures { λ r. ⌜ BrokenAt (now (b .entry)) (r .answer) × (r .core ≡ freshTable 0 0 .core) ⌝ }
-{
-    let place = block::first_not(b, Test::Place);
-    refused(Outcome::Broken(place))
-}
-
-// The length, then the checks; then the fields are read, the rules tested, and the image of what was read compared. The arrays come as zeros,
+// The length, then the checks, then where each block stands; then the fields are read, the rules tested, and the image of what was read compared. The arrays come as zeros,
 // and a refusal leaves them so.
 pub fn load_into(b: &[u8], cells: &mut Cells, opens: &mut Opens) -> Taken
     requires { ⌜ (now cells ≡ freshTable 0 0 .cells) × (now opens ≡ freshTable 0 0 .opens) ⌝ }
@@ -385,12 +378,17 @@ pub fn load_into(b: &[u8], cells: &mut Cells, opens: &mut Opens) -> Taken
     if !block::whole_blocks(b) {
         return refused(Outcome::WrongLength);
     }
-    let place = block::first_not(b, Test::Check);
-    if place < b.len() / BLOCK {
-        return refused(Outcome::Damaged(place));
+    let count = b.len() / BLOCK;
+    let wrong = block::first_not(b, Test::Check);
+    if wrong < count {
+        return refused(Outcome::Damaged(wrong));
+    }
+    let misplaced = block::first_not(b, Test::Place);
+    if misplaced < count {
+        return refused(Outcome::Broken(misplaced));
     }
     if !sizes_fit(b) {
-        return broken(b);
+        return refused(Outcome::Broken(misplaced));
     }
     let core = read_table(b, cells, opens);
     if saved_as(core, cells, opens, b) {
@@ -401,7 +399,7 @@ pub fn load_into(b: &[u8], cells: &mut Cells, opens: &mut Opens) -> Taken
     }
     clear(cells);
     clear(opens);
-    broken(b)
+    refused(Outcome::Broken(misplaced))
 }
 
 // The same with the table by value.

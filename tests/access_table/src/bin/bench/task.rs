@@ -30,7 +30,7 @@ impl Side {
 
 /// What grows, and the sizes at which it is measured.
 pub fn points() -> Vec<(&'static str, usize)> {
-    let sizes: [(&'static str, &[usize]); 8] = [
+    let sizes: [(&'static str, &[usize]); 10] = [
         ("lines", &[0, 500, 1000, 2000, 3000, 4000, 5000, 6000]),
         ("desks", &[1, 2, 3, 4, 5, 6, 7, 8, 9, 10, 12, 14, 16]),
         ("open", &[0, 8, 16, 24, 32, 40, 48, 56, 63]),
@@ -39,6 +39,8 @@ pub fn points() -> Vec<(&'static str, usize)> {
         ("load+save", &[0, 16, 32, 48, 64]),
         ("load16", &[0, 16, 32, 48, 64]),
         ("load16+save", &[0, 16, 32, 48, 64]),
+        ("inspect16", &[0, 64]),
+        ("misplaced16", &[0, 64]),
     ];
     let each = |(what, sizes): (&'static str, &'static [usize])| {
         sizes.iter().map(move |size| (what, *size))
@@ -51,6 +53,8 @@ pub struct Task {
     schedule: Vec<u8>,
     /// The image is loaded, and the call then refused: `lengths` is too short.
     only_load: bool,
+    /// The image is inspected.
+    inspect: bool,
     answers: Vec<u8>,
     image_out: Vec<u8>,
 }
@@ -63,7 +67,8 @@ impl Task {
             "open" => (Vec::new(), [undelivered(size), delivered(size)].concat()),
             "open+load" => (saved(&undelivered(size)), delivered(size)),
             "load" | "load+save" => (largest(8, size), Vec::new()),
-            "load16" | "load16+save" => (largest(16, size), Vec::new()),
+            "load16" | "load16+save" | "inspect16" => (largest(16, size), Vec::new()),
+            "misplaced16" => (misplaced(largest(16, size)), Vec::new()),
             _ => return None,
         };
         assert!(
@@ -74,6 +79,7 @@ impl Task {
             answers: vec![0; answers_bound(schedule.len())],
             image_out: vec![0; MAX_IMAGE],
             only_load: matches!(what, "load" | "load16"),
+            inspect: matches!(what, "inspect16" | "misplaced16"),
             image,
             schedule,
         })
@@ -81,7 +87,15 @@ impl Task {
 
     pub fn call(&mut self, side: Side) {
         match side {
+            Side::Proved if self.inspect => {
+                let mut finding = [0; 5];
+                assert_eq!(raw::access_inspect(&self.image, &mut finding), 0);
+                black_box(finding);
+            }
             Side::Proved => self.proved(),
+            Side::Plain if self.inspect => {
+                let _ = black_box(image::load(&self.image));
+            }
             Side::Plain => self.plain(),
         }
     }
@@ -170,4 +184,14 @@ fn largest(desks: u16, open: usize) -> Vec<u8> {
         table.write(1 + k % desks, 1 + k % 64, 2).expect("a write");
     }
     image::to_vec(&table).expect("an image")
+}
+
+/// The last block is of kind 1, with its check made right.
+fn misplaced(mut image: Vec<u8>) -> Vec<u8> {
+    let last = image.len() - image::BLOCK;
+    let block = &mut image[last..];
+    block[0] = 1;
+    let check = image::check_of(block);
+    block[image::BLOCK - 4..].copy_from_slice(&check.to_le_bytes());
+    image
 }
