@@ -21,8 +21,8 @@
  *
  * Nothing is kept between two calls, so calls on different buffers may run at
  * the same time. As compiled today a call of access_run uses less than 256
- * kilobytes of stack, and no heap; the archive needs memcpy and memset and nothing
- * else.
+ * kilobytes of stack, one of access_inspect less than 64, and no heap; the archive
+ * needs memcpy and memset and nothing else.
  */
 #ifndef ACCESS_TABLE_H
 #define ACCESS_TABLE_H

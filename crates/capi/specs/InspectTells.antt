@@ -1,5 +1,5 @@
 -- `access_inspect` and `access_run` tell the same of an image.
-use Rattle.laws.specs.Kit.{ℕ, _≡_, refl, sym, ap, _∙_, List, [], _∷_, none, some, length, getD}
+use Rattle.laws.specs.Kit.{ℕ, _≡_, refl, sym, ap, _∙_, List, [], _∷_, some, length, getD}
 use Rattle.machine.specs.{Table.{State}, Steps.{openCount}}
 use Rattle.image.specs.Load.{Loaded, refused, loaded, load}
 use Rattle.load.specs.Finding.{findingOf, fault-number}

@@ -6,7 +6,7 @@ use Rattle.block.specs.{Check.{Bytes}, Block.{block}, Damage.{blockIn, blocksIn
 use Rattle.block.specs.{Stands.{first-misplaced}, Limits.{narrow, broad, placesFor, editionOf, edition-1, edition-2, desks-placed}}
 use Rattle.block.specs.Limits.{one-edition, Wide, wide, wide-for, image-bytes}
 use Rattle.image.specs.{Encode.{blocks, encodeAt, encode}, Decode.{nIn, n-back}, ImageSize.{most-blocks, bytes-encode}}
-use Rattle.image.specs.{Load.{rule-fault, refused, loaded, load, NoImage, load-13, other-rules, load-is, encode-load}}
+use Rattle.image.specs.Load.{rule-fault, refused, loaded, load, NoImage, load-13, other-rules, load-is, encode-load}
 use Rattle.image.specs.{Link.EachBlock.{image-sound}, Link.FieldPlaces.{length-encode, block-at, every-block}}
 
 -- "Tables with n up to 8 save in edition 1, byte for byte as today. Larger ones save in edition 2"

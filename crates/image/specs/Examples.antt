@@ -3,8 +3,8 @@ use Rattle.laws.specs.{Kit.{_*_, _≡_, refl, true, false, none, [], _∷_, _++
 use Rattle.laws.specs.{Loop.{scan, turns}, All.{all}, Tab.{tab, tabFrom}, Cat.{cat, part}, FirstNot.{firstNot}}
 use Rattle.machine.specs.{Table.{zeros, sized, State, fresh}, Steps.{openCount, everywhere, failing, write, step, Write}}
 use Rattle.machine.specs.{Steps.{Deliver, settle, firstDue}, History.{run, take-step}, RulesTest.{keeps}}
-use Rattle.block.specs.{Check.{checkOf}, Block.{vectorWords, markBytes, block}, Damage.{checkIn, wholeBlocks}, Limits.{placesFor, editionOf}}
-use Rattle.block.specs.Limits.{block-bytes, check-at}
+use Rattle.block.specs.{Check.{checkOf}, Block.{vectorWords, markBytes, block}, Damage.{checkIn, wholeBlocks}, Limits.{placesFor}}
+use Rattle.block.specs.Limits.{editionOf, block-bytes, check-at}
 use Rattle.image.specs.{OpenNames.{names, namesOfDesk}, Encode.{deskBytes, cellBytes, openBytes, cellPart, openPart, encodeAt}}
 use Rattle.image.specs.{Encode.{encode}, Load.{check-fault, refused, load}}
 

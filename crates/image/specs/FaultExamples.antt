@@ -1,6 +1,6 @@
 -- Document 02, T-01, computed on images of three blocks. The place test by itself: `block/specs/Examples.antt`.
-use Rattle.laws.specs.{Kit.{ℕ, _+_, _≡_, refl, List, [], _∷_, _++_, set, getD}, FirstNot.{firstNot}, Loop.{scan, turns}, All.{all}, Sum.{sum}}
-use Rattle.laws.specs.{Cat.{cat, part}, Tab.{tab, tabFrom}, FromOne.{from1}, Tests.{same}}
+use Rattle.laws.specs.{Kit.{ℕ, _+_, _≡_, refl, List, [], _∷_, _++_, set, getD}, FirstNot.{firstNot}, Loop.{scan, turns}, All.{all}}
+use Rattle.laws.specs.{Sum.{sum}, Cat.{cat, part}, Tab.{tab, tabFrom}, FromOne.{from1}, Tests.{same}}
 use Rattle.machine.specs.{Table.{fresh}, Steps.{openCount, everywhere, failing}, RulesTest.{keeps}}
 use Rattle.block.specs.{Check.{checkOf}, Block.{vectorWords, block}, Damage.{checkIn, wholeBlocks}, Limits.{placesFor, editionOf, check-at}}
 use Rattle.block.specs.Examples.{sizes-block, desk-block, cells-block}

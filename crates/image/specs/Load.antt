@@ -1,10 +1,10 @@
 -- Loading: what an image is accepted as, which number refuses it, and where (document 02, T-01).
-use Rattle.laws.specs.Kit.{ℕ, _<_, _≤_, _≡_, refl, sym, ap, _∙_, _↔_, Bool, true, _&&_, List, Option, none, some, arith, ltb, ltb-true}
+use Rattle.laws.specs.Kit.{ℕ, _<_, _≤_, _≡_, refl, sym, ap, _∙_, _↔_, Bool, _&&_, List, Option, none, some, arith, ltb, ltb-true}
 use Rattle.laws.specs.{Kit.{ltb-false, lt-ltb, le-ltb}, Loop.{pick, cases}, Says.{Says, apart, says-both}, Tests.{same, says-same}}
 use Rattle.laws.specs.FirstNot.{FirstNot, first-as, fails-below, below-fails, all-pass}
 use Rattle.machine.specs.{Table.{State}, Answer.{Refusal, wrong-length, damaged, broken}, Rules.{Rules}, RulesTest.{keeps}}
 use Rattle.machine.specs.Proofs.RulesTestTells.{says-rules}
-use Rattle.block.specs.{Damage.{blocksIn, RightAt, WholeBlocks, Undamaged, wholeBlocks, says-whole, firstWrong, says-right, first-wrong}}
+use Rattle.block.specs.Damage.{blocksIn, RightAt, WholeBlocks, Undamaged, wholeBlocks, says-whole, firstWrong, says-right, first-wrong}
 use Rattle.block.specs.{Stands.{StandsAt, firstMisplaced, says-placed, first-misplaced}, Limits.{places-most}}
 use Rattle.image.specs.{Encode.{encode}, Decode.{decode, decode-encode, nIn, placesIn}, Link.EachBlock.{image-sound, image-stands}}
 use Rattle.image.specs.Link.ReadShape.{shaped}

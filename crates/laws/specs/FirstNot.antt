@@ -1,5 +1,5 @@
 -- The first of the indexes below n that fails a test; n where none does.
-use Rattle.laws.specs.Kit.{ℕ, zero, suc, _+_, _<_, _≤_, _≡_, sym, Bool, not, arith, decLe}
+use Rattle.laws.specs.Kit.{ℕ, zero, suc, _+_, _<_, _≤_, _≡_, Bool, not, arith, decLe}
 use Rattle.laws.specs.{Loop.{scan, turns, cases}, Says.{Says, apart}}
 
 unfoldable pub firstNot : (ℕ → Bool) → ℕ → ℕ

@@ -3,10 +3,11 @@ use Rattle.laws.specs.{Kit.{ℕ, _≡_, refl, ap, _∙_, List, [], _∷_, Optio
 use Rattle.machine.specs.{Answer.{wrong-length, damaged, numberOf}, Steps.{openCount}}
 use Rattle.table.specs.{declared.Table.{Table}, Model.{modelOf}}
 use Rattle.block.specs.Limits.{placesFor}
-use Rattle.image.specs.{Encode.{encode}, Decode.{nIn, mIn, countIn, placesIn, n-back, m-back, count-back}}
-use Rattle.image.specs.Load.{Fault, length-fault, check-fault, rule-fault, faultRefusal, faultPlace, Loaded, refused, loaded, load}
-use Rattle.load.specs.{declared.Outcome.{Outcome}, declared.Finding.{Finding}, Loading.{loadedOf, Answers}, Unique.{loaded-is}}
-use Rattle.load.specs.{declared.Outcome.the-variants.{Accepted, WrongLength, Damaged, Broken}, Link.ReadsBack.{fits-so}, Mirror.ImageRead.{Fits}}
+use Rattle.image.specs.{Decode.{nIn, mIn, countIn, placesIn, n-back, m-back, count-back}, Load.{Fault, length-fault, check-fault}}
+use Rattle.image.specs.Load.{rule-fault, faultRefusal, faultPlace, Loaded, refused, loaded, load}
+use Rattle.load.specs.{declared.Outcome.{Outcome}, declared.Outcome.the-variants.{Accepted, WrongLength, Damaged, Broken}}
+use Rattle.load.specs.{declared.Finding.{Finding}, Loading.{loadedOf, Answers}, Unique.{loaded-is}, Link.ReadsBack.{fits-so}}
+use Rattle.load.specs.Mirror.ImageRead.{Fits}
 
 -- "its place (0 where there is none)"
 abbrev pub orZero : Option ℕ → ℕ

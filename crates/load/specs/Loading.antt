@@ -1,7 +1,6 @@
 -- The answer to a load: document 01's number and values for every case of it.
 use Rattle.laws.specs.Kit.{ℕ, _+_, _*_, _<_, _≤_, _≡_, ap, _∙_, List, arith, zero-add, length, replicate, take, drop, sets, sets-eq}
 use Rattle.laws.specs.{Kit.{take-append-seam}, FirstNot.{FirstNot}}
-use Rattle.machine.specs.{Table.{State}, Rules.{Rules}}
 use Rattle.table.specs.{declared.Core.{Core}, declared.Table.{Table}, Beginning.{freshTable}, Model.{modelOf, tableWith}}
 use Rattle.table.specs.{Sound.{SoundTable}, Value.{all-cells, cell-width, entries, open-width}}
 use Rattle.block.specs.{Damage.{blocksIn, RightAt, WholeBlocks, Undamaged}, Stands.{StandsAt}}

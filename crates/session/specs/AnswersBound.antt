@@ -6,8 +6,8 @@ use Rattle.laws.specs.{Kit.{leb, length, drop, length-append, length-drop, leb-
 use Rattle.machine.specs.{Table.{most-desks, most-open, Name, State}, Answer.{Answer, began, shows, wrote, holds, applies, judged, refused}}
 use Rattle.machine.specs.Answer.{unset, shown, Yes, No, Unknown, Refusal, numberOf, no-desk, no-cell, no-status, spent, full, own-write}
 use Rattle.machine.specs.Answer.{no-write, received, trip-size, no-step, no-size, damaged, broken, short, wrong-length}
-use Rattle.machine.specs.{Rules.{Frame, Rules}, Steps.{step}, Proofs.RulesKept.{step-keeps-rules}, Proofs.Refusals.{begin-cases}, Proofs.HeldCount.{heldCount}}
-use Rattle.machine.specs.Proofs.HeldCount.{held-few, fresh-held, Made, HeldCounted, step-counted}
+use Rattle.machine.specs.{Rules.{Frame, Rules}, Steps.{step}, Proofs.RulesKept.{step-keeps-rules}, Proofs.Refusals.{begin-cases}}
+use Rattle.machine.specs.Proofs.HeldCount.{heldCount, held-few, fresh-held, Made, HeldCounted, step-counted}
 use Rattle.schedule.specs.{Grammar.{Line, begin-line, step-line, lineOf}, Lines.{LF}, LineFacts.{step-bytes}}
 use Rattle.answer.specs.{Bytes.{nameBytes, namesBytes, answerLine}, Link.NameLengths.{name-length, shown-length}}
 use Rattle.session.specs.{Session.{Session, Turn, turn, begun}, Transcript.{TextLine, textLine, ontoLine, linesOf, answersOf}}

@@ -1,6 +1,6 @@
-use Rattle.block.specs.{Limits.{block-bytes}, Damage.{blockIn}, Mirror.BlockTests.{PassesAt}}
-use Rattle.laws.specs.{Cat.{part}, Says.{Says, apart}, Kit.{below-more, length-take, length-drop, not-true, not-false, arith, _≡_, ℕ, _<_, _≤_, _+_}}
-use Rattle.laws.specs.Kit.{_*_, _-_, needs}
+use Rattle.block.specs.{Limits.{block-bytes}, Mirror.BlockTests.{PassesAt}}
+use Rattle.laws.specs.{Cat.{part}, Says.{Says, apart}, Kit.{below-more, length-take, length-drop, not-true, not-false, arith, _≡_, ℕ, _<_}}
+use Rattle.laws.specs.Kit.{_≤_, _+_, _*_, _-_, needs}
 use Rattle.block.proofs.first_not.Statement.{statement}
 use Rattle.block.proofs.first_not.Tie as tie
 

@@ -1,5 +1,4 @@
 use Rattle.block.specs.Stands.{kind-first, kind-low, kind-after}
-use Rattle.laws.specs.Kit.{needs}
 use Rattle.block.proofs.kind_stands.Statement.{statement}
 use Rattle.block.proofs.kind_stands.Tie as tie
 

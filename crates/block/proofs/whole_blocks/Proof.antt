@@ -1,5 +1,4 @@
 use Rattle.block.specs.Damage.{no-bytes, by-multiple}
-use Rattle.laws.specs.Kit.{needs}
 use Rattle.block.proofs.whole_blocks.Statement.{statement}
 use Rattle.block.proofs.whole_blocks.Tie as tie
 

@@ -1,8 +1,8 @@
 -- Of every table's image, whether it keeps the rules or not: no block of it is damaged, and each can stand where it is.
-use Rattle.laws.specs.{Kit.{ℕ, _+_, _*_, _/_, _%_, _<_, _≤_, _≡_, List, arith, length, leb}, Loop.{pick, cases}}
+use Rattle.laws.specs.{Kit.{ℕ, _<_, arith, leb}, Loop.{cases}}
 use Rattle.machine.specs.Table.{State}
 use Rattle.block.specs.{Damage.{Right, blocksIn, Undamaged, right-block}, Stands.{EditionStands, Stands, StandsAt, block-stands}}
-use Rattle.block.specs.Limits.{Wide, wide-for, narrow, placesFor, editionOf, block-bytes}
+use Rattle.block.specs.Limits.{Wide, wide-for, narrow, placesFor, editionOf}
 use Rattle.image.specs.{Encode.{encodeAt, blocks, encode}, Link.FieldPlaces.{length-encode, block-at, every-block}}
 
 pub sound-encode : (ps : ℕ) → Wide ps → (s : State) → Undamaged (encodeAt ps s)

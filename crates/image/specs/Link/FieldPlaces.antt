@@ -1,8 +1,8 @@
 -- Where each field stands in the image.
-use Rattle.laws.specs.Kit.{ℕ, zero, suc, _+_, _-_, _*_, _/_, _%_, _<_, _≤_, _≡_, refl, sym, _∙_, Bool, true, false, List, [], _∷_, append-assoc, map}
-use Rattle.laws.specs.Kit.{arith, eqb, leb, ltb, ne-eqb, le-leb, lt-leb, le-ltb, lt-ltb, length, replicate, length-replicate}
-use Rattle.laws.specs.{Kit.{mul-le-mul-left, mul-add-div, mul-add-mod-self-left, div-eq-of-lt, mod-eq-of-lt, add-zero}, Loop.{pick}}
-use Rattle.laws.specs.{Cat.{cat, cat-same, part, part-cat, piece-cat, length-cat}, Each.{each-at, each-map}}
+use Rattle.laws.specs.Kit.{ℕ, zero, suc, _+_, _-_, _*_, _/_, _%_, _<_, _≤_, _≡_, refl, sym, _∙_, Bool, true, false, List, [], _∷_}
+use Rattle.laws.specs.Kit.{append-assoc, map, arith, eqb, leb, ltb, ne-eqb, le-leb, lt-leb, le-ltb, lt-ltb, length, replicate}
+use Rattle.laws.specs.Kit.{length-replicate, mul-le-mul-left, mul-add-div, mul-add-mod-self-left, div-eq-of-lt, mod-eq-of-lt, add-zero}
+use Rattle.laws.specs.{Loop.{pick}, Cat.{cat, cat-same, part, part-cat, piece-cat, length-cat}, Each.{each-at, each-map}}
 use Rattle.machine.specs.{Table.{State}, Steps.{openCount}}
 use Rattle.block.specs.{Link.BlockPlaces.{length-block, part-block, few-bytes, piece-block, piece-room}, Stands.{KindStands}}
 use Rattle.block.specs.{Block.{blockOf}, Link.BlockFill.{cat-plus, cat-rows}, Limits.{Wide, block-bytes, payload-at}}
