@@ -54,7 +54,7 @@ extern "C" {
 /* How many numbers access_inspect writes. */
 #define ACCESS_FINDING 5
 
-/* The numbers that access_run returns, and access_inspect finds. */
+/* The numbers that a call returns; 0, 15, 12 and 13 are found by access_inspect. */
 #define ACCESS_DONE 0
 /* The image's length is not a multiple of 512 (to access_inspect: or is 0). */
 #define ACCESS_CUT 15

@@ -1,7 +1,7 @@
 -- Document 02, T-01: whether a block can stand where it is, by its own "place, edition or kind".
 use Rattle.laws.specs.Kit.{ℕ, zero, suc, _+_, _*_, _<_, _≤_, _≡_, refl, Bool, false, _&&_, List, arith, div-add-mod', eqb, leb, getD}
-use Rattle.laws.specs.{Says.{Says, clash, says-leb, says-eqb, says-as, says-both}, FirstNot.{firstNot, FirstNot, first-found}}
-use Rattle.laws.specs.Each.{each-at, each-part}
+use Rattle.laws.specs.{Kit.{decLe}, Says.{Says, clash, says-leb, says-eqb, says-as, says-both}, FirstNot.{firstNot, FirstNot}}
+use Rattle.laws.specs.{FirstNot.{first-found}, Each.{each-at, each-part}}
 use Rattle.block.specs.{Check.{Byte, Bytes}, Block.{block}, Damage.{blockIn, blocksIn}}
 
 -- "Byte 0 kind, 1 edition, 2-3 the block's place from 0"
@@ -100,3 +100,11 @@ block-stands edition kind k l e h = record { place = omega (arith, div-add-mod' 
 pub past-all-places : (b : List ℕ) (k : ℕ) → Bytes b → 65535 < k → StandsAt b k → ⊥
 past-all-places b k h l s =
     let byte = each-at Byte (blockIn b k) 0 (omega arith) (each-part Byte _ _ b h) in omega (arith, s .place, byte 2, byte 3)
+
+-- so none is told past block 65,536
+pub places-end : (b : List ℕ) → Bytes b → firstMisplaced b ≤ 65536
+places-end b h = go (decLe (firstMisplaced b) 65536)
+  where
+    go : Dec (firstMisplaced b ≤ 65536) → firstMisplaced b ≤ 65536
+    go (yes a) = a
+    go (no a) = absurd (past-all-places b 65536 h (omega arith) (first-misplaced b .before 65536 (omega arith)))

@@ -1,6 +1,7 @@
 -- Document 02, T-01: what there is to tell of an image, as five numbers.
-use Rattle.laws.specs.{Kit.{ℕ, _≡_, refl, ap, _∙_, List, [], _∷_, Option, none, some, arith, eqb}, Loop.{pick}}
-use Rattle.machine.specs.{Answer.{wrong-length, damaged, numberOf}, Steps.{openCount}}
+use Rattle.laws.specs.Kit.{ℕ, _≡_, refl, ap, _∙_, List, [], _∷_, map, Option, none, some, arith, eqb, getD}
+use Rattle.laws.specs.{Loop.{pick, scan, turns}, All.{all}, Sum.{sum}, Update.{upd, upd2}}
+use Rattle.machine.specs.{Table.{fresh}, Answer.{wrong-length, damaged, numberOf}, Steps.{openCount, everywhere, write}}
 use Rattle.table.specs.{declared.Table.{Table}, Model.{modelOf}}
 use Rattle.block.specs.Limits.{placesFor}
 use Rattle.image.specs.{Decode.{nIn, mIn, countIn, placesIn, n-back, m-back, count-back}, Load.{Fault, length-fault, check-fault}}
@@ -28,10 +29,16 @@ fault-number (rule-fault k) e = omega arith
 abbrev pub faultFrom : ℕ → ℕ → Fault
 faultFrom number place = pick (eqb number (numberOf wrong-length)) length-fault (pick (eqb number (numberOf damaged)) (check-fault place) (rule-fault place))
 
-pub fault-back : (f : Fault) → faultFrom (numberOf (faultRefusal f)) (orZero (faultPlace f)) ≡ f
+pub fault-back : (f : Fault) → faultFrom (getD (findingOf (refused f)) 0 0) (getD (findingOf (refused f)) 1 0) ≡ f
 fault-back length-fault = refl
 fault-back (check-fault k) = refl
 fault-back (rule-fault k) = refl
+
+-- computed, of each case; the table has two desks, three cells and an open write
+pub finding-told : map findingOf (refused length-fault ∷ refused (check-fault 3) ∷ refused (rule-fault 2) ∷ loaded (write (fresh 2 3) 1 1 2) ∷ [])
+    ≡ (15 ∷ 0 ∷ 0 ∷ 0 ∷ 0 ∷ []) ∷ (12 ∷ 3 ∷ 0 ∷ 0 ∷ 0 ∷ []) ∷ (13 ∷ 2 ∷ 0 ∷ 0 ∷ 0 ∷ []) ∷ (0 ∷ 0 ∷ 2 ∷ 3 ∷ 1 ∷ []) ∷ []
+unfolding openCount sum upd upd2 everywhere all scan turns
+finding-told = refl
 
 -- the code's value
 abbrev pub numbersOf : Finding → List ℕ

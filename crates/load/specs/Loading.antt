@@ -19,7 +19,7 @@ loadedOf (outcome.Damaged k) t = refused (check-fault k)
 -- 13
 loadedOf (outcome.Broken k) t = refused (rule-fault k)
 
--- "Load: 15, 12, 13." A table is accepted exactly if it keeps the rules and its image is the bytes; a refusal hands back zeros.
+-- Load: 15, 12, 13. A table is accepted exactly if it keeps the rules and its image is the bytes; a refusal hands back zeros.
 abbrev pub Answers : List ℕ → Outcome → Table → Type 0
 Answers b outcome.Accepted t = SoundTable t × (encode (modelOf t) ≡ b)
 Answers b outcome.WrongLength t = (WholeBlocks b → ⊥) × (t ≡ freshTable 0 0)
