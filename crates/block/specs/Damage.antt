@@ -44,8 +44,8 @@ says-whole b =
     (λ h. record { nonzero = h .0; multiple = h .1 }) (λ h. (h .nonzero, h .multiple))
 
 -- as the code tests it
-pub no-bytes : (b : List ℕ) → length b ≡ 0 → Says false (WholeBlocks b)
-no-bytes b e = record { to = λ z. clash z; from = λ h. absurd (omega (arith, h .nonzero)) }
+pub empty-not-whole : (b : List ℕ) → length b ≡ 0 → Says false (WholeBlocks b)
+empty-not-whole b e = record { to = λ z. clash z; from = λ h. absurd (omega (arith, h .nonzero)) }
 
 pub by-multiple : (b : List ℕ) → (length b ≡ 0 → ⊥) → Says (eqb (length b % block-bytes) 0) (WholeBlocks b)
 by-multiple b f =

@@ -7,7 +7,7 @@ ghost use lib.Seq.{sets};
 ghost use Rattle.session.specs.Holds.{SomeSession};
 ghost use Rattle.session.specs.Transcript.{most-text};
 ghost use Rattle.capi.specs.Access.{left, accessRun, five, inspected, accessInspect};
-ghost use Rattle.load.specs.Finding.{numbersOf};
+ghost use Rattle.load.specs.Finding.{findingNumbers};
 ghost use Rattle.capi.specs.Mirror.AccessParts.{most-kept, most-part, RoomFor, Lined, SomeCore, ImageSize, ImageRoom, ImageSaved};
 ghost use Rattle.capi.specs.Mirror.AccessParts.{BothPut, Finishes, Ends, RunsFrom, ImageStarts};
 use clock::PLACES;
@@ -355,7 +355,7 @@ pub extern "C" fn access_run(
 // At the front of a buffer that has room for it.
 fn put_finding(f: Finding, out: &mut [u64])
     requires { ⌜ five ≤ length (now out) ⌝ }
-    ensures { λ _. ⌜ now (out .exit) ≡ sets (now (out .entry)) 0 (numbersOf f) ⌝ }
+    ensures { λ _. ⌜ now (out .exit) ≡ sets (now (out .entry)) 0 (findingNumbers f) ⌝ }
 {
     out[0] = f.number as u64;
     out[1] = f.place as u64;

@@ -41,8 +41,8 @@ unfolding openCount sum upd upd2 everywhere all scan turns
 finding-told = refl
 
 -- the code's value
-abbrev pub numbersOf : Finding → List ℕ
-numbersOf f = f .number ∷ f .place ∷ f .n ∷ f .m ∷ f .open ∷ []
+abbrev pub findingNumbers : Finding → List ℕ
+findingNumbers f = f .number ∷ f .place ∷ f .n ∷ f .m ∷ f .open ∷ []
 
 -- of what load answers
 pub found-as : (b : List ℕ) (o : Outcome) (t : Table) {l : List ℕ} → Answers b o t → l ≡ findingOf (loadedOf o t) → l ≡ findingOf (load b)

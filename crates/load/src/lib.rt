@@ -18,7 +18,7 @@ ghost use Rattle.load.specs.Mirror.ImageRead.{wordAt, wordsFrom, bytesFr
 ghost use Rattle.load.specs.Link.EntryEach.{OpensRead};
 ghost use Rattle.load.specs.Link.ReadsBack.{ReadAs};
 ghost use Rattle.load.specs.Loading.{Answers};
-ghost use Rattle.load.specs.Finding.{findingOf, numbersOf};
+ghost use Rattle.load.specs.Finding.{findingOf, findingNumbers};
 use block::BLOCK;
 use block::PAYLOAD_AT;
 use block::Test;
@@ -432,7 +432,7 @@ pub struct Finding {
 }
 
 fn fault(number: usize, place: usize) -> Finding
-    ensures { λ r. ⌜ numbersOf r ≡ number ∷ place ∷ 0 ∷ 0 ∷ 0 ∷ [] ⌝ }
+    ensures { λ r. ⌜ findingNumbers r ≡ number ∷ place ∷ 0 ∷ 0 ∷ 0 ∷ [] ⌝ }
 {
     Finding {
         number: number,
@@ -446,7 +446,7 @@ fn fault(number: usize, place: usize) -> Finding
 // The sizes that an image tells of itself: those of its table.
 fn found(b: &[u8]) -> Finding
     requires { ⌜ Fits (placesIn (now b)) (now b) ⌝ }
-    ensures { λ r. ⌜ numbersOf r ≡ 0 ∷ 0 ∷ nIn (now (b .entry)) ∷ mIn (now (b .entry)) ∷ countIn (now (b .entry)) ∷ [] ⌝ }
+    ensures { λ r. ⌜ findingNumbers r ≡ 0 ∷ 0 ∷ nIn (now (b .entry)) ∷ mIn (now (b .entry)) ∷ countIn (now (b .entry)) ∷ [] ⌝ }
 {
     let z = sizes_of(b);
     Finding {
@@ -459,7 +459,7 @@ fn found(b: &[u8]) -> Finding
 }
 
 pub fn inspect(b: &[u8]) -> Finding
-    ensures { λ r. ⌜ numbersOf r ≡ findingOf (load (now (b .entry))) ⌝ }
+    ensures { λ r. ⌜ findingNumbers r ≡ findingOf (load (now (b .entry))) ⌝ }
 {
     let mut cells = [0u16; PLACES * CELLS * CELL];
     let mut opens = [0u16; OPENS * OPEN];
