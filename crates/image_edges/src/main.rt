@@ -33,7 +33,7 @@ fn saving(s: Saving) {
     }
 }
 
-fn at(number: &[u8], place: usize) {
+fn say_place(number: &[u8], place: usize) {
     say(number);
     say(b" at block ");
     io::print_decimal(STDOUT_FILENO, place as u64);
@@ -44,8 +44,8 @@ fn loading(o: Outcome) {
     match o {
         Outcome::Accepted => say(b"loaded\n"),
         Outcome::WrongLength => say(b"15\n"),
-        Outcome::Damaged(k) => at(b"12", k),
-        Outcome::Broken(k) => at(b"13", k),
+        Outcome::Damaged(k) => say_place(b"12", k),
+        Outcome::Broken(k) => say_place(b"13", k),
     }
 }
 

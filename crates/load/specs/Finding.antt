@@ -1,12 +1,12 @@
 -- Document 02, T-01: what there is to tell of an image, as five numbers.
-use Rattle.laws.specs.Kit.{ℕ, _≡_, refl, ap, _∙_, List, [], _∷_, map, Option, none, some, arith, eqb, getD}
+use Rattle.laws.specs.Kit.{ℕ, _≡_, refl, sym, ap, _∙_, List, [], _∷_, map, Option, none, some, arith, eqb, getD}
 use Rattle.laws.specs.{Loop.{pick, scan, turns}, All.{all}, Sum.{sum}, Update.{upd, upd2}}
 use Rattle.machine.specs.{Table.{fresh}, Answer.{wrong-length, damaged, numberOf}, Steps.{openCount, everywhere, write}}
 use Rattle.table.specs.{declared.Table.{Table}, Model.{modelOf}}
 use Rattle.block.specs.Limits.{placesFor}
 use Rattle.image.specs.{Decode.{nIn, mIn, countIn, placesIn, n-back, m-back, count-back}, Load.{Fault, length-fault, check-fault}}
 use Rattle.image.specs.Load.{rule-fault, faultRefusal, faultPlace, Loaded, refused, loaded, load}
-use Rattle.load.specs.{declared.Outcome.{Outcome}, declared.Outcome.the-variants.{Accepted, WrongLength, Damaged, Broken}}
+use Rattle.load.specs.{declared.Outcome.{Outcome}, declared.Outcome.the-variants.{Accepted}}
 use Rattle.load.specs.{declared.Finding.{Finding}, Loading.{loadedOf, Answers}, Unique.{loaded-is}, Link.ReadsBack.{fits-so}}
 use Rattle.load.specs.Mirror.ImageRead.{Fits}
 
@@ -44,20 +44,9 @@ finding-told = refl
 abbrev pub findingNumbers : Finding → List ℕ
 findingNumbers f = f .number ∷ f .place ∷ f .n ∷ f .m ∷ f .open ∷ []
 
--- of what load answers
-pub found-as : (b : List ℕ) (o : Outcome) (t : Table) {l : List ℕ} → Answers b o t → l ≡ findingOf (loadedOf o t) → l ≡ findingOf (load b)
-found-as b o t h e = e ∙ ap findingOf (loaded-is b o t h)
-
--- each refusal
-module _ (b : List ℕ) (o : Outcome) (t : Table) {l : List ℕ} (h : Answers b o t) where
-  pub found-length : o ≡ WrongLength → l ≡ 15 ∷ 0 ∷ 0 ∷ 0 ∷ 0 ∷ [] → l ≡ findingOf (load b)
-  found-length q e = found-as b o t h (rw q e)
-
-  pub found-check : (k : ℕ) → o ≡ Damaged k → l ≡ 12 ∷ k ∷ 0 ∷ 0 ∷ 0 ∷ [] → l ≡ findingOf (load b)
-  found-check k q e = found-as b o t h (rw q e)
-
-  pub found-rule : (k : ℕ) → o ≡ Broken k → l ≡ 13 ∷ k ∷ 0 ∷ 0 ∷ 0 ∷ [] → l ≡ findingOf (load b)
-  found-rule k q e = found-as b o t h (rw q e)
+-- of what load answers, whichever case it is
+pub found-as : (b : List ℕ) (o : Outcome) (t : Table) {l : List ℕ} → Answers b o t → (x : Outcome) → o ≡ x → l ≡ findingOf (loadedOf x t) → l ≡ findingOf (load b)
+found-as b o t h x q e = e ∙ ap (λ (y : Outcome). findingOf (loadedOf y t)) (sym q) ∙ ap findingOf (loaded-is b o t h)
 
 -- an image that is loaded tells its table's sizes
 module _ (b : List ℕ) (t : Table) (h : Answers b Accepted t) where
@@ -65,4 +54,4 @@ module _ (b : List ℕ) (t : Table) (h : Answers b Accepted t) where
   fits-found = fits-so b (modelOf t) (h .0 .rules) (h .1)
 
   pub sizes-found : {l : List ℕ} → l ≡ 0 ∷ 0 ∷ nIn b ∷ mIn b ∷ countIn b ∷ [] → l ≡ findingOf (load b)
-  sizes-found e = let p = placesFor (t .core .n) in found-as b Accepted t h (e ∙ rw (← (h .1), n-back p (modelOf t), m-back p (modelOf t), count-back p (modelOf t)))
+  sizes-found e = let p = placesFor (t .core .n) in found-as b Accepted t h Accepted refl (e ∙ rw (← (h .1), n-back p (modelOf t), m-back p (modelOf t), count-back p (modelOf t)))

@@ -1,6 +1,8 @@
 use Rattle.laws.specs.Kit.{refl, _∙_, needs}
 use Rattle.table.specs.{Beginning.{freshTable}, Model.{tableWith}}
-use Rattle.capi.specs.Link.ImageStart.{start-begun, call-length, call-damaged, call-broken, call-begun}
+use Rattle.load.specs.declared.Outcome.the-variants.{Accepted, WrongLength, Damaged, Broken}
+use Rattle.machine.specs.Answer.{wrong-length, damaged, broken}
+use Rattle.capi.specs.Link.ImageStart.{start-by, call-refused, call-begun}
 use Rattle.capi.proofs.access_run.Statement.{statement}
 use Rattle.capi.proofs.access_run.Tie as tie
 
@@ -12,7 +14,7 @@ run-from-requires : tie.Need-run-from-requires
 run-from-requires c κs =
     let q = c .before .before .before .before .before .before .before .before in
     let l = q .start in
-    let s = start-begun (q .before .before .before .before .before .before .before .before .args .image .now) (l .result .answer) (tableWith (l .result .core) (l .last .1 .0) (l .last .1 .1 .0)) (l .ensures) (c .before .before .before .before .before .enum-told2 .given .1) in
+    let s = start-by (q .before .before .before .before .before .before .before .before .args .image .now) (l .result .answer) (tableWith (l .result .core) (l .last .1 .0) (l .last .1 .1 .0)) (l .ensures) Accepted (c .before .before .before .before .before .enum-told2 .given .1) in
     record { session = s .session; holds = s .holds }
 
 returns : tie.Need-returns
@@ -20,21 +22,21 @@ returns c =
     let q = c .before .before .before in
     let a = q .before .before .before .before .before .before .before .before .args in
     let l = q .start in
-    call-length (a .image .now) (a .schedule .now) (a .answers .now) (a .image-out .now) (a .lengths .now) (l .result .answer) (tableWith (l .result .core) (l .last .1 .0) (l .last .1 .1 .0)) (l .ensures) (c .enum-told .given .1)
+    call-refused (a .image .now) (a .schedule .now) (a .answers .now) (a .image-out .now) (a .lengths .now) wrong-length (start-by (a .image .now) (l .result .answer) (tableWith (l .result .core) (l .last .1 .0) (l .last .1 .1 .0)) (l .ensures) WrongLength (c .enum-told .given .1))
 
 returns-2 : tie.Need-returns-2
 returns-2 c =
     let q = c .before .before .before .before in
     let a = q .before .before .before .before .before .before .before .before .args in
     let l = q .start in
-    call-damaged (a .image .now) (a .schedule .now) (a .answers .now) (a .image-out .now) (a .lengths .now) (l .result .answer) (tableWith (l .result .core) (l .last .1 .0) (l .last .1 .1 .0)) (l .ensures) _ (c .before .o .given .1)
+    call-refused (a .image .now) (a .schedule .now) (a .answers .now) (a .image-out .now) (a .lengths .now) damaged (start-by (a .image .now) (l .result .answer) (tableWith (l .result .core) (l .last .1 .0) (l .last .1 .1 .0)) (l .ensures) (Damaged _) (c .before .o .given .1))
 
 returns-3 : tie.Need-returns-3
 returns-3 c =
     let q = c .before .before .before .before in
     let a = q .before .before .before .before .before .before .before .before .args in
     let l = q .start in
-    call-broken (a .image .now) (a .schedule .now) (a .answers .now) (a .image-out .now) (a .lengths .now) (l .result .answer) (tableWith (l .result .core) (l .last .1 .0) (l .last .1 .1 .0)) (l .ensures) _ (c .before .o2 .given .1)
+    call-refused (a .image .now) (a .schedule .now) (a .answers .now) (a .image-out .now) (a .lengths .now) broken (start-by (a .image .now) (l .result .answer) (tableWith (l .result .core) (l .last .1 .0) (l .last .1 .1 .0)) (l .ensures) (Broken _) (c .before .o2 .given .1))
 
 returns-4 : tie.Need-returns-4
 returns-4 c =
@@ -42,7 +44,7 @@ returns-4 c =
     let q = f .before .before .before .before .before .before .before .before .before in
     let a = q .before .before .before .before .before .before .before .before .args in
     let l = q .start in
-    let s = start-begun (a .image .now) (l .result .answer) (tableWith (l .result .core) (l .last .1 .0) (l .last .1 .1 .0)) (l .ensures) (f .before .before .before .before .before .before .enum-told2 .given .1) in
+    let s = start-by (a .image .now) (l .result .answer) (tableWith (l .result .core) (l .last .1 .0) (l .last .1 .1 .0)) (l .ensures) Accepted (f .before .before .before .before .before .before .enum-told2 .given .1) in
     f .run-from .ensures (s .session) (s .holds) ∙ call-begun (a .image .now) (a .schedule .now) (a .answers .now) (a .image-out .now) (a .lengths .now) s
 
 pub access-run-spec : {M : Type 1} → statement M

@@ -1,6 +1,6 @@
 -- The session that an image starts with, and the call from it.
 use Rattle.laws.specs.Kit.{_≡_, refl, ap, _∙_, List, [], _∷_, none, some, ℕ, arith, length}
-use Rattle.machine.specs.Answer.{wrong-length, damaged, broken}
+use Rattle.machine.specs.Answer.{Refusal, numberOf}
 use Rattle.table.specs.{declared.Table.{Table}, Beginning.{freshTable}, Model.{modelOf}}
 use Rattle.image.specs.Load.{load, one-load, load-loads}
 use Rattle.load.specs.{declared.Outcome.{Outcome}, declared.Outcome.the-variants.{Accepted, WrongLength, Damaged, Broken}}
@@ -32,8 +32,8 @@ image-starts saved o t f h = go o h (start-load saved f ∙ ap started (one-load
     go (Damaged k) h e = e
     go (Broken k) h e = e
 
-pub start-begun : (saved : List ℕ) (o : Outcome) (t : Table) → ImageStarts saved o t → o ≡ Accepted → SomeStart saved t
-start-begun saved o t h e = rw e at h
+pub start-by : (saved : List ℕ) (o : Outcome) (t : Table) → ImageStarts saved o t → (x : Outcome) → o ≡ x → ImageStarts saved x t
+start-by saved o t h x e = rw e at h
 
 -- the call from it
 module _ (saved text answers image lengths : List ℕ) where
@@ -41,15 +41,8 @@ module _ (saved text answers image lengths : List ℕ) where
   unfolding accessRun
   called s e = rw e
 
-  module _ (o : Outcome) (t : Table) (h : ImageStarts saved o t) where
-    pub call-length : o ≡ WrongLength → left 15 answers image lengths ≡ accessRun saved text answers image lengths
-    call-length e = called (refuse wrong-length) (rw e at h)
-
-    pub call-damaged : (k : ℕ) → o ≡ Damaged k → left 12 answers image lengths ≡ accessRun saved text answers image lengths
-    call-damaged k e = called (refuse damaged) (rw e at h)
-
-    pub call-broken : (k : ℕ) → o ≡ Broken k → left 13 answers image lengths ≡ accessRun saved text answers image lengths
-    call-broken k e = called (refuse broken) (rw e at h)
+  pub call-refused : (r : Refusal) → startOf saved ≡ refuse r → left (numberOf r) answers image lengths ≡ accessRun saved text answers image lengths
+  call-refused r = called (refuse r)
 
   pub call-begun : {t : Table} (s : SomeStart saved t) → runFrom (s .session) text answers image lengths ≡ accessRun saved text answers image lengths
   call-begun s = called (begin (s .session)) (s .starts)
