@@ -2,7 +2,7 @@
 -- back the very table.
 use Rattle.laws.specs.{Kit.{ℕ, ◌<◌, ◌≡◌, refl, sym, ap, ◌∙◌, List, [], ◌∷◌, inl, inr, arith, sets}, Loop.{cases}, Says.{apart}}
 use Rattle.machine.specs.{Table.{State}, Steps.{Step, Read, Write, Deliver, Trip, step, answers}, Refusals.{Row, rows_of, FirstFails}}
-use Rattle.machine.specs.Proofs.Refusals.{refusal-exactly}
+use Rattle.machine.proofs.Refusals.{refusal-exactly}
 use Rattle.machine.specs.Answer as machine
 use Rattle.reply.specs.{declared.Answer.{Answer}, declared.Answer.TheVariants.{Refused}, declared.Refusal.{Refusal}}
 use Rattle.reply.specs.{Meaning.{refusal_of, answer_of, Counted}, Unique.{answer_is, Silent, silent_counted}}

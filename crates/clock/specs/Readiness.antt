@@ -4,7 +4,7 @@ use Rattle.laws.specs.Kit.{add-one, ltb-true, lt-ltb, le-ltb, eq-eqb, ne_eqb, le
 use Rattle.laws.specs.{Loop.{pick, cases, scan-short}, All.{all, all-next, all-fails, all_end, all-fails-at, all_same}}
 use Rattle.laws.specs.{All.{all_shift}, Update.{same_or}}
 use Rattle.machine.specs.{Table.{Vec, Name, name}, Steps.{fails, first_unapplied, failing, ready, is_none}, Rules.{In, Flat}}
-use Rattle.machine.specs.Proofs.Ready.{ready-all}
+use Rattle.machine.proofs.Ready.{ready-all}
 use Rattle.clock.specs.{Vectors.{place, places, place_at}, declared.Wait.{Wait}, declared.Wait.TheVariants.{Ready, Fails}}
 
 -- the document's values for each case: none, or the name of the write that is missing

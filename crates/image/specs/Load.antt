@@ -3,7 +3,7 @@ use Rattle.laws.specs.Kit.{ℕ, ◌<◌, ◌≤◌, ◌≡◌, refl, sym, ap, �
 use Rattle.laws.specs.{Kit.{ltb-false, lt-ltb, le-ltb}, Loop.{pick, cases}, Says.{Says, apart, says_both}, Tests.{same, says_same}}
 use Rattle.laws.specs.FirstNot.{FirstNot, first_as, fails-below, below_fails, all_pass}
 use Rattle.machine.specs.{Table.{State}, Answer.{Refusal, wrong_length, damaged, broken}, Rules.{Rules}, RulesTest.{keeps}}
-use Rattle.machine.specs.Proofs.RulesTestTells.{says-rules}
+use Rattle.machine.proofs.RulesTestTells.{says-rules}
 use Rattle.block.specs.Damage.{blocks_in, RightAt, WholeBlocks, Undamaged, whole_blocks, says-whole, first_wrong, says_right, first_wrong_lem}
 use Rattle.block.specs.{Stands.{StandsAt, first_misplaced, says-placed, first_misplaced_lem}, Limits.{places-most}}
 use Rattle.image.specs.{Encode.{encode}, Decode.{decode, decode-encode, n_in, places_in}, Link.EachBlock.{image-sound, image-stands}}

@@ -5,11 +5,11 @@ use Rattle.machine.specs.{Table.{most_desks, most_cells, Name, State, fresh}, An
 use Rattle.machine.specs.{Rules.{In, Rules}, Refusals.{Accepted}, History.{Event, desk_list, Act, run, history}, Blanks.{Unwritten}}
 use Rattle.machine.specs.{Demand3.{Has, Demand3}, HoldNames.{HoldNames}, PaperRuns.{RunsAsPaper, ReceivedIsSent}}
 use Rattle.machine.specs.Past.{X_co_safe, Enabling}
-use Rattle.machine.specs.Proofs.Blanks as blanks
-use Rattle.machine.specs.Proofs.PaperRuns as paper
-use Rattle.machine.specs.Proofs.Past as past
-use Rattle.machine.specs.Proofs.Demand3 as machine
-use Rattle.machine.specs.Proofs.HoldNames as named
+use Rattle.machine.proofs.Blanks as blanks
+use Rattle.machine.proofs.PaperRuns as paper
+use Rattle.machine.proofs.Past as past
+use Rattle.machine.proofs.Demand3 as machine
+use Rattle.machine.proofs.HoldNames as named
 use Rattle.image.specs.{Encode.{encode}, Load.{Loaded, refused, loaded, load, load-encode}}
 
 -- a refused image leaves the table that was

@@ -14,5 +14,4 @@ pub mod Paper
 pub mod PaperRuns
 pub mod Demand3
 pub mod HoldNames
-pub mod Proofs
 pub mod RulesTest

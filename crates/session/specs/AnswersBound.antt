@@ -6,8 +6,11 @@ use Rattle.laws.specs.{Kit.{leb, length, drop, length-append, length-drop, leb-t
 use Rattle.machine.specs.{Table.{most_desks, most_open, Name, State}, Answer.{Answer, began, shows, wrote, holds, applies, judged, refused}}
 use Rattle.machine.specs.Answer.{unset, shown, Yes, No, Unknown, Refusal, number_of, no_desk, no_cell, no_status, spent, full, own_write}
 use Rattle.machine.specs.Answer.{no_write, received, trip_size, no_step, no_size, damaged, broken, short, wrong_length}
-use Rattle.machine.specs.{Rules.{Frame, Rules}, Steps.{step}, Proofs.RulesKept.{step-keeps-rules}, Proofs.Refusals.{begin_cases}}
-use Rattle.machine.specs.Proofs.HeldCount.{held_count, held-few, fresh-held, Made, HeldCounted, step-counted}
+use Rattle.machine.specs.Rules.{Frame, Rules}
+use Rattle.machine.specs.Steps.{step}
+use Rattle.machine.proofs.RulesKept.{step-keeps-rules}
+use Rattle.machine.proofs.Refusals.{begin_cases}
+use Rattle.machine.proofs.HeldCount.{held_count, held-few, fresh-held, Made, HeldCounted, step-counted}
 use Rattle.schedule.specs.{Grammar.{Line, begin_line, step_line, line_of}, Lines.{LF}, LineFacts.{step-bytes}}
 use Rattle.answer.specs.{Bytes.{name_bytes, names_bytes, answer_line}, Link.NameLengths.{name-length, shown-length}}
 use Rattle.session.specs.{Session.{Session, Turn, turn, begun}, Transcript.{TextLine, text_line, onto_line, lines_of, answers_of}}

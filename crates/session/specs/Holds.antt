@@ -2,7 +2,9 @@
 use Rattle.laws.specs.Kit.{◌≡◌, refl, ap, ◌∙◌, List, none, some, ℕ, ◌+◌, ◌-◌, ◌*◌, ◌<◌, ◌≤◌, arith, length, get_or, set, replicate}
 use Rattle.laws.specs.{Kit.{get_or-set_same, get_or-set_other}, Rows.{tab-one, part_at}}
 use Rattle.clock.specs.Vectors.{places, place, place_at}
-use Rattle.machine.specs.{Table.{State, fresh, most_desks, most_cells}, Rules.{In}, Proofs.RulesKept.{fresh-rules}}
+use Rattle.machine.specs.Table.{State, fresh, most_desks, most_cells}
+use Rattle.machine.specs.Rules.{In}
+use Rattle.machine.proofs.RulesKept.{fresh-rules}
 use Rattle.table.specs.{declared.Core.{Core}, declared.Desk.{Desk}, declared.Table.{Table}, Value.{desk0, all_cells, cell_width, entries}}
 use Rattle.table.specs.{Value.{open_width, cell_at, full-cell_at, cell-status, cell-vector}, Model.{model_of, table_of, table_with}}
 use Rattle.table.specs.{Sound.{AllZero, SoundTable}, Beginning.{fresh_desk, fresh_table, fresh-model, zeros-at, unique-zeros}}

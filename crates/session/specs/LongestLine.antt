@@ -3,8 +3,9 @@ use Rattle.laws.specs.{Kit.{ℕ, ◌+◌, ◌-◌, ◌*◌, ◌≤◌, ◌≡◌
 use Rattle.text.specs.Number.{digits, decimal}
 use Rattle.machine.specs.{Table.{most_desks, most_writes, most_open, name, State}, Answer.{Answer, began, shows, wrote, holds, applies}}
 use Rattle.machine.specs.{Answer.{judged, refused, unset, shown, Yes, No, Unknown, no_size, no_step}, Steps.{step}, Rules.{Rules}}
-use Rattle.machine.specs.{Proofs.RulesKept.{step-keeps-rules, at_most_64_applied}, Proofs.Refusals.{begin_cases}}
-use Rattle.machine.specs.Proofs.HeldCount.{HeldCounted, step-counted}
+use Rattle.machine.proofs.RulesKept.{step-keeps-rules, at_most_64_applied}
+use Rattle.machine.proofs.Refusals.{begin_cases}
+use Rattle.machine.proofs.HeldCount.{HeldCounted, step-counted}
 use Rattle.schedule.specs.Grammar.{Line, begin_line, step_line}
 use Rattle.answer.specs.{Bytes.{name_bytes, names_bytes, answer_line}, Link.NameLengths.{shown-length}}
 use Rattle.session.specs.{Session.{Session, turn, begun}, Link.SessionRules.{SessionKept}, LineBounds.{decimal-short}}

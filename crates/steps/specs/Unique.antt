@@ -4,7 +4,7 @@ use Rattle.laws.specs.Kit.{ℕ, ◌-◌, ◌*◌, ◌≡◌, refl, sym, ap, ◌�
 use Rattle.laws.specs.{Kit.{get_or-set_other}, Loop.{cases}, Says.{apart}, Update.{same_or}}
 use Rattle.machine.specs.Answer as machine
 use Rattle.machine.specs.{Table.{State}, Rules.{In}, Steps.{Step, Read, Write, Deliver, Trip, within, step}, Paper.{actor}}
-use Rattle.machine.specs.Proofs.Refusals.{says-within, refusal-exactly, step_cases}
+use Rattle.machine.proofs.Refusals.{says-within, refusal-exactly, step_cases}
 use Rattle.reply.specs.{declared.Answer.{Answer}, declared.Answer.TheVariants.{Refused}, declared.Refusal.{Refusal}}
 use Rattle.reply.specs.{Meaning.{answer_of, refusal_of, Counted}, Unique.{answer_is, Silent, silent_counted}}
 use Rattle.table.specs.{declared.Core.{Core}, declared.Desk.{Desk}, declared.Table.{Table}, Value.{desk0, all_cells, cell_width, entries}}

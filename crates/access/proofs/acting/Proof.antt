@@ -1,6 +1,7 @@
 use Rattle.laws.specs.{Kit.{sym, ◌∙◌, arith, needs}, Says.{apart}}
 use Rattle.clock.specs.Vectors.{places}
-use Rattle.machine.specs.{Rules.{In}, Proofs.Refusals.{says-within}}
+use Rattle.machine.specs.Rules.{In}
+use Rattle.machine.proofs.Refusals.{says-within}
 use Rattle.access.proofs.acting.Statement.{statement}
 use Rattle.access.proofs.acting.Tie as tie
 

@@ -2,7 +2,9 @@
 use Rattle.laws.specs.{Kit.{ℕ, suc, ◌≤◌, ◌≡◌, ◌↔◌, true, ◌&&◌, List, [], some, arith, eqb, get_or}, Loop.{cases}, Says.{says_both}}
 use Rattle.laws.specs.{FromOne.{from1, from1-all}, Find.{first-is}, Cat.{part}}
 use Rattle.machine.specs.{Table.{most_desks, Vec, zeros, Cell, blank, set, Open}, Steps.{within}, Rules.{In, Flat, Rules}}
-use Rattle.machine.specs.{Within.{says-within}, RulesTest.{keeps, ZeroPast}, Proofs.RulesTestTells.{says-rules}}
+use Rattle.machine.specs.Within.{says-within}
+use Rattle.machine.specs.RulesTest.{keeps, ZeroPast}
+use Rattle.machine.proofs.RulesTestTells.{says-rules}
 use Rattle.block.specs.Limits.{vector_at, vector_bytes, after_vector, cell_bytes}
 use Rattle.image.specs.{Fields.{vec_of, marks_of, cell_read, open_read}, Decode.{n_in, m_in, desk_place, cell_place, desk_in_image, cell_in_image}}
 use Rattle.image.specs.Decode.{entries_in_image, bears, opens_in_image, decode_at}

@@ -4,7 +4,7 @@ use Rattle.laws.specs.{Kit.{not, arith, ltb-true, ltb-false, leb-true, leb-false
 use Rattle.laws.specs.{Tab.{get_or-tab}, Says.{all-not, apart}}
 use Rattle.machine.specs.Table.{most_desks, most_cells, most_writes, Vec, Cell, blank, set, done, State, written}
 use Rattle.machine.specs.{Steps.{is_none, everywhere, ready}, Rules.{In, Flat, Lacks}, RulesTest.{ZeroPast}}
-use Rattle.machine.specs.Proofs.RulesTestTells.{to-rules}
+use Rattle.machine.proofs.RulesTestTells.{to-rules}
 use Rattle.machine.specs.Table as machine
 use Rattle.machine.specs.RulesTest as keeps
 use Rattle.clock.specs.{Vectors.{places, place}, Readiness.{ready_at, ready-narrow}}

@@ -2,7 +2,8 @@
 use Rattle.laws.specs.Kit.{ℕ, suc, ◌<◌, ◌≤◌, ◌≡◌, refl, ◌∙◌, List, [], ◌∷◌, ◌⊎◌, inl, inr, Bool, true, false, Option, none, some, bind}
 use Rattle.laws.specs.Kit.{arith, ne_eqb, le-leb, lt-leb, ltb-true, ltb-false, eqb-true, eqb-false, eqb, ltb, length, get_or, drop}
 use Rattle.laws.specs.{Kit.{drop_of_length-le, drop-cons, drop-length, sets}, Loop.{cases}}
-use Rattle.machine.specs.{Steps.{Read, Write, Deliver, Trip}, Proofs.Ready.{option_all}}
+use Rattle.machine.specs.Steps.{Read, Write, Deliver, Trip}
+use Rattle.machine.proofs.Ready.{option_all}
 use Rattle.schedule.specs.{declared.Line.{Line as Answer}, declared.Line.TheVariants.{NoStep}, Grammar.{Line, begin_line, step_line}}
 use Rattle.schedule.specs.{Grammar.{most_bytes, two, three, one_or_more, form, sentence, line_of}, LineValue.{line_value, trip_cells}}
 use Rattle.text.specs.{Number.{number}, Words.{space, onto, words, read_onto, numbers}, Fields.{rest, fields_at, FieldIs}}

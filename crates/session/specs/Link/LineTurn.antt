@@ -3,7 +3,7 @@ use Rattle.laws.specs.Kit.{◌≡◌, refl, sym, ap, subst, ◌∙◌, List, [],
 use Rattle.laws.specs.{Kit.{get_or, set, set-get_or}, Loop.{pick, cases}, Says.{apart}}
 use Rattle.clock.specs.Vectors.{places}
 use Rattle.machine.specs.{Table.{State, fresh}, Rules.{In}, Steps.{Step, within, step, begin, begins}}
-use Rattle.machine.specs.Proofs.Refusals.{says-within, step_cases}
+use Rattle.machine.proofs.Refusals.{says-within, step_cases}
 use Rattle.machine.specs.Answer as machine
 use Rattle.machine.specs.Steps as steps
 use Rattle.reply.specs.{declared.Answer.{Answer}, declared.Answer.TheVariants.{Begun, Unset, Shown, Wrote, Held, Applied, Yes, No}}

@@ -1,6 +1,9 @@
 -- A session whose table keeps the rules: every line leaves one again.
 use Rattle.laws.specs.{Kit.{List, [], ◌∷◌, Option, none, some, ℕ, drop}, Loop.{pick}}
-use Rattle.machine.specs.{Rules.{Rules}, Steps.{begin}, Proofs.RulesKept.{fresh-rules, step-keeps-rules}, Proofs.Refusals.{begin_cases}}
+use Rattle.machine.specs.Rules.{Rules}
+use Rattle.machine.specs.Steps.{begin}
+use Rattle.machine.proofs.RulesKept.{fresh-rules, step-keeps-rules}
+use Rattle.machine.proofs.Refusals.{begin_cases}
 use Rattle.schedule.specs.Grammar.{Line, begin_line, step_line, line_of}
 use Rattle.session.specs.{Session.{Session, turn}, Transcript.{TextLine, lines_of, session_of, session_from}}
 

@@ -7,8 +7,11 @@ use Rattle.clock.specs.{Vectors.{places, place, place_at, raised, place-raised},
 use Rattle.machine.specs.Table as machine
 use Rattle.machine.specs.{Table.{Vec, State, most_open, most_writes, done, held, Name, name, written}, Answer.{name_values}, Steps.{ready}}
 use Rattle.machine.specs.Steps.{everywhere, still_open, mark, apply, due_open, due, first_due, Settled, apply_next, settle_by, settle}
-use Rattle.machine.specs.{Rules.{In, Flat}, Proofs.Apply.{to_be_open, apply-written}, Proofs.RulesKept.{Midway, ReadyAt, ready-next}}
-use Rattle.machine.specs.{Proofs.RulesKept.{apply_midway, left_to_apply, apply-left, left-few}, Proofs.Ready.{option_all}}
+use Rattle.machine.specs.Rules.{In, Flat}
+use Rattle.machine.proofs.Apply.{to_be_open, apply-written}
+use Rattle.machine.proofs.RulesKept.{Midway, ReadyAt, ready-next}
+use Rattle.machine.proofs.RulesKept.{apply_midway, left_to_apply, apply-left, left-few}
+use Rattle.machine.proofs.Ready.{option_all}
 use Rattle.reply.specs.{Meaning.{names_of}, Names.{length-names, names-none, names_more}}
 use Rattle.table.specs.{declared.Cell.{Cell}, declared.Open.{Open}, declared.Found.{Found}, declared.Found.TheVariants.{At, Nothing}}
 use Rattle.table.specs.Value.{desk_cells, all_cells, cell_width, entries, open_width, cell_at, put_cell, cell_at_put, cell_at-other}

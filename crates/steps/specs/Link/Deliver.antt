@@ -5,7 +5,8 @@ use Rattle.clock.specs.Vectors.{places, place}
 use Rattle.machine.specs.Table as machine
 use Rattle.machine.specs.{Table.{State, away, done, written, mark_in}, Answer.{received, no_desk, own_write, no_write}}
 use Rattle.machine.specs.{Steps.{Out, Deliver, step}, Rules.{In}, Refusals.{Row, ◌or◌, rows_of, FirstFails, AllPass}}
-use Rattle.machine.specs.{Proofs.RulesKept.{done-counted}, Proofs.Refusals.{refusal-exactly, accepted-effect, effect_of, deliver_effect}}
+use Rattle.machine.proofs.RulesKept.{done-counted}
+use Rattle.machine.proofs.Refusals.{refusal-exactly, accepted-effect, effect_of, deliver_effect}
 use Rattle.machine.specs.Answer as machineAnswer
 use Rattle.reply.specs.{declared.Refusal.{Refusal}, Meaning.{refusal_of, answer_of, Counted}}
 use Rattle.table.specs.{declared.Desk.{Desk}, declared.Table.{Table}, Value.{entries, open_at}, EntryNames.{named_at}, Model.{applied_m}}

@@ -3,8 +3,11 @@ use Rattle.laws.specs.{Kit.{ℕ, suc, ◌-◌, ◌<◌, ◌≡◌, refl, sym, ap
 use Rattle.clock.specs.{Vectors.{places, place}, Readiness.{ready_at, failing-narrow}}
 use Rattle.machine.specs.Table as machine
 use Rattle.machine.specs.{Table.{State, Name, most_open, away, held}, Answer.{holds, applies}, Steps.{Out, Settled, failing, ready, hold}}
-use Rattle.machine.specs.{Steps.{deliver_by, with_opens}, Rules.{In}, Proofs.Ready.{is-none, not-applied}}
-use Rattle.machine.specs.{Proofs.RulesKept.{ReadyAt, ready-next}, Proofs.Apply.{to_be_open}}
+use Rattle.machine.specs.Steps.{deliver_by, with_opens}
+use Rattle.machine.specs.Rules.{In}
+use Rattle.machine.proofs.Ready.{is-none, not-applied}
+use Rattle.machine.proofs.RulesKept.{ReadyAt, ready-next}
+use Rattle.machine.proofs.Apply.{to_be_open}
 use Rattle.machine.specs.Answer as machineAnswer
 use Rattle.reply.specs.{declared.Answer.{Answer}, declared.Answer.TheVariants.{Held, Applied}, Meaning.{answer_of, Counted}}
 use Rattle.table.specs.{declared.Desk.{Desk}, Value.{all_cells, cell_at, entries, open_at, put_mark}, EntryNames.{named_at}}

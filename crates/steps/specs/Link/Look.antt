@@ -2,7 +2,10 @@
 use Rattle.laws.specs.{Kit.{ℕ, ◌-◌, ◌≡◌, sym, ap, ◌∙◌, fun_ext, List, [], arith, eqb-true, eqb, length, set}, Loop.{cases}}
 use Rattle.machine.specs.Table as states
 use Rattle.machine.specs.Answer as machine
-use Rattle.machine.specs.{Rules.{In}, Steps.{Step, Read, read_clock, with_clock}, Refusals.{rows_of, AllPass}, Proofs.Refusals.{effect_of}}
+use Rattle.machine.specs.Rules.{In}
+use Rattle.machine.specs.Steps.{Step, Read, read_clock, with_clock}
+use Rattle.machine.specs.Refusals.{rows_of, AllPass}
+use Rattle.machine.proofs.Refusals.{effect_of}
 use Rattle.clock.specs.{declared.Clock.{Clock}, Vectors.{places, place, joined, join_clock, place-joined}}
 use Rattle.table.specs.{declared.Cell.{Cell}, declared.Desk.{Desk}, declared.Table.{Table}, Value.{cell_at, full-cell_at, FullCell}}
 use Rattle.table.specs.Model.{cell_m, slot, clock_m, cells_m, opens_m, clock_vec, cell_in, clock-at, clock_put, applied_keep, model_of, table_of}

@@ -3,8 +3,8 @@ use Rattle.laws.specs.Kit.{ℕ, ◌-◌, ◌<◌, ◌≡◌, refl, sym, ap, ◌�
 use Rattle.laws.specs.{Loop.{pick}, Says.{Says, apart}}
 use Rattle.machine.specs.Answer as machine
 use Rattle.machine.specs.{Refusals.{rows_of, FirstFails, AllPass, Accepted}, Rules.{In}, Steps.{Out, Step, step}}
-use Rattle.machine.specs.Proofs.Refusals.{says-within, refusal-exactly, refused-leaves-table, accepted-effect, accepted-exactly, effect_of}
-use Rattle.machine.specs.Proofs.RulesKept.{step-keeps-rules}
+use Rattle.machine.proofs.Refusals.{says-within, refusal-exactly, refused-leaves-table, accepted-effect, accepted-exactly, effect_of}
+use Rattle.machine.proofs.RulesKept.{step-keeps-rules}
 use Rattle.clock.specs.Vectors.{places}
 use Rattle.table.specs.{declared.Desk.{Desk}, declared.Table.{Table}, Value.{desk_cells, all_cells, cell_at}, TypeShape.{DeskShape}}
 use Rattle.table.specs.{Link.OpensModel.{Unique}, Sound.{AllZero}, Model.{model_of, table_of}}

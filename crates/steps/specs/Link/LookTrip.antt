@@ -2,7 +2,10 @@
 use Rattle.laws.specs.Kit.{ℕ, ◌≤◌, ◌≡◌, refl, sym, ap, ◌∙◌, List, [], ◌∷◌, map, Memᴰ, Memᴰ-head, Memᴰ-tail, Bool, true}
 use Rattle.laws.specs.{Kit.{false, arith, eqb-true, ne_eqb, eqb, length}, Loop.{pick, cases}, Lists.{any, every, any-map, every_map}}
 use Rattle.laws.specs.Update.{upd, upd_same, upd-is, upd_other}
-use Rattle.machine.specs.{Table.{State, Vec, most_trip, Cell as CellM}, Rules.{In}, Proofs.Blanks.{reads-shown}, Steps.{Trip, read_clock}}
+use Rattle.machine.specs.Table.{State, Vec, most_trip, Cell as CellM}
+use Rattle.machine.specs.Rules.{In}
+use Rattle.machine.proofs.Blanks.{reads-shown}
+use Rattle.machine.specs.Steps.{Trip, read_clock}
 use Rattle.machine.specs.Steps.{read, with_clock, shown_at, reads, has_status, verdict}
 use Rattle.machine.specs.Answer as machine
 use Rattle.clock.specs.Vectors.{places, place, length-joined}

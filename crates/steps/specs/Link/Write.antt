@@ -5,7 +5,8 @@ use Rattle.laws.specs.{Update.{upd2, upd2-is, same_or}, Loop.{cases}}
 use Rattle.machine.specs.Table as states
 use Rattle.machine.specs.Answer as machine
 use Rattle.machine.specs.{Rules.{In}, Steps.{Write, open_count, everywhere, still_open, mark, new_write, next_number, next_vector}}
-use Rattle.machine.specs.{Proofs.OneDesk.{alone_none_open}, Proofs.Paper.{new-number, new_somewhere}}
+use Rattle.machine.proofs.OneDesk.{alone_none_open}
+use Rattle.machine.proofs.Paper.{new-number, new_somewhere}
 use Rattle.clock.specs.{declared.Clock.{Clock}, Vectors.{places, place, place_set, place-raised, raised, raise_clock}}
 use Rattle.table.specs.{declared.Cell.{Cell}, declared.Desk.{Desk}, declared.Table.{Table}, Value.{all_cells, cell_at, put_cell, FullOpen}}
 use Rattle.table.specs.{Value.{cell_at_put, cell_at-other}, EntryNames.{entry_number}, Model.{open_m, slot, opens_m, applied_m, clock_m, cells_m}}

@@ -1,6 +1,8 @@
 use mir.{Val.{Fits}, Syntax.{w16}}
 use Rattle.laws.specs.{Kit.{◌-◌, ◌≡◌, refl, sym, ap, ◌∙◌, none, some, arith, get_or, needs}, Says.{apart}}
-use Rattle.machine.specs.{Table.{name}, Steps.{failing, is_none}, Proofs.Ready.{failing-at, fails-lacks}}
+use Rattle.machine.specs.Table.{name}
+use Rattle.machine.specs.Steps.{failing, is_none}
+use Rattle.machine.proofs.Ready.{failing-at, fails-lacks}
 use Rattle.clock.specs.{Vectors.{places, place, place_at}, Readiness.{wait_of}}
 use Rattle.steps.proofs.deliver.waits_for.Statement.{statement}
 use Rattle.steps.proofs.deliver.waits_for.Tie as tie

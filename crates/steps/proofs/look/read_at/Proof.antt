@@ -1,6 +1,6 @@
 use Rattle.laws.specs.Kit.{refl, inl, inr, needs}
 use Rattle.reply.specs.declared.Refusal.TheVariants.{NoDesk, NoCell}
-use Rattle.machine.specs.Proofs.Refusals.{says-within}
+use Rattle.machine.proofs.Refusals.{says-within}
 use Rattle.steps.specs.{Link.LookStepped.{stops, passes, in_places, in_cells, refused-turn}, Link.Look.{read-stepped}}
 use Rattle.steps.proofs.look.read_at.Statement.{statement}
 use Rattle.steps.proofs.look.read_at.Tie as tie

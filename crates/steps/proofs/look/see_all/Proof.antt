@@ -1,4 +1,5 @@
-use Rattle.machine.specs.{Steps.{within}, Proofs.Refusals.{says-within}}
+use Rattle.machine.specs.Steps.{within}
+use Rattle.machine.proofs.Refusals.{says-within}
 use Rattle.table.specs.Value.{desk_cells}
 use Rattle.laws.specs.{Kit.{◌≤◌, ◌-◌, ◌≡◌, refl, sym, ◌∙◌, length, drop, needs}, Lists.{every-at}}
 use Rattle.steps.specs.Mirror.Trip.{see_all, see_next, see_end}

@@ -1,6 +1,6 @@
 use Rattle.laws.specs.{Kit.{refl, inl, inr, needs}, Lists.{says-every}}
 use Rattle.reply.specs.declared.Refusal.TheVariants.{NoDesk, NoCell, TripSize}
-use Rattle.machine.specs.Proofs.Refusals.{says-within}
+use Rattle.machine.proofs.Refusals.{says-within}
 use Rattle.steps.specs.{Link.LookStepped.{stops, passes, in_places, in_cells, refused-turn}, Link.LookTrip.{trip_stepped}}
 use Rattle.steps.proofs.look.trip_at.Statement.{statement}
 use Rattle.steps.proofs.look.trip_at.Tie as tie

@@ -1,6 +1,8 @@
 use Rattle.laws.specs.Kit.{◌≡◌, refl, inl, inr, ⊎_elim, ◌<◌, ◌≤◌, arith, needs}
 use Rattle.reply.specs.{declared.Refusal.{Refusal}, declared.Refusal.TheVariants.{NoDesk, NoCell, NoStatus, Spent}}
-use Rattle.machine.specs.{Table.{most_writes, most_status}, Rules.{In}, Proofs.Refusals.{says-within}}
+use Rattle.machine.specs.Table.{most_writes, most_status}
+use Rattle.machine.specs.Rules.{In}
+use Rattle.machine.proofs.Refusals.{says-within}
 use Rattle.clock.specs.Vectors.{place, place_at}
 use Rattle.steps.specs.{declared.write.Spot.TheVariants.{Full}, Link.LookStepped.{stops, passes, in_places, in_cells, refused-turn}}
 use Rattle.steps.specs.{Mirror.Write.{spot_in}, OpenCount.{full_many}, Link.Write.{written_start, write-stepped}}

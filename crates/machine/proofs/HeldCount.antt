@@ -6,11 +6,16 @@ use Rattle.machine.specs.Table.{most_desks, most_open, most_status, Name, name, 
 use Rattle.machine.specs.{Table.{written, mark_in, mark_of}, Answer.{Answer, unset, shown, shown_of, began, shows, wrote, holds}}
 use Rattle.machine.specs.{Answer.{applies, judged, refused}, Steps.{failing, still_open, mark, apply, hold, read, reads, raise}}
 use Rattle.machine.specs.Steps.{next_number, new_write, write, is_open, open_count, Settled, settle, Step, Read, Write, Deliver, Trip}
-use Rattle.machine.specs.{Steps.{step}, Rules.{In, Frame, Rules}, Proofs.Ready.{failing-at, fails-lacks, not-applied}}
-use Rattle.machine.specs.{Proofs.Ready.{done-everywhere, option_cases}, Proofs.Cascade.{settle-all}}
-use Rattle.machine.specs.{Proofs.Apply.{Midway, ReadyAt, apply-written, to_be_open, issues, here, same}, Proofs.Refusals.{step_cases}}
-use Rattle.machine.specs.{Proofs.Cases.{Delivery, deliver_cases, still_cases, reads_keep}, Proofs.RulesKept.{delivered-at}}
-use Rattle.machine.specs.Proofs.RulesKept.{delivered_midway}
+use Rattle.machine.specs.Steps.{step}
+use Rattle.machine.specs.Rules.{In, Frame, Rules}
+use Rattle.machine.proofs.Ready.{failing-at, fails-lacks, not-applied}
+use Rattle.machine.proofs.Ready.{done-everywhere, option_cases}
+use Rattle.machine.proofs.Cascade.{settle-all}
+use Rattle.machine.proofs.Apply.{Midway, ReadyAt, apply-written, to_be_open, issues, here, same}
+use Rattle.machine.proofs.Refusals.{step_cases}
+use Rattle.machine.proofs.Cases.{Delivery, deliver_cases, still_cases, reads_keep}
+use Rattle.machine.proofs.RulesKept.{delivered-at}
+use Rattle.machine.proofs.RulesKept.{delivered_midway}
 
 -- at how many desks u.k is held
 abbrev pub held_at : State → ℕ → ℕ → ℕ

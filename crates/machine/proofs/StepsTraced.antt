@@ -4,11 +4,15 @@ use Rattle.laws.specs.{Update.{upd2, upd_same, upd_other}, Says.{clash}}
 use Rattle.machine.specs.{Table.{Name, name, held, done, Open, State, fresh}, Steps.{read, read_clock, still_open, mark, apply, hold}}
 use Rattle.machine.specs.{Steps.{next_number, next_vector, raise, new_write, write}, Rules.{Frame, Rules}, History.{Event, write_at}}
 use Rattle.machine.specs.History.{receive_at, apply_at, own_read, applied, latest_from, list_from}
-use Rattle.machine.specs.{Demand3.{Received, its_own, delivered}, Proofs.RulesKept.{ReadyAt, read-rules, ready-next}}
-use Rattle.machine.specs.{Proofs.Order.{add, at_new}, Proofs.TableTraced.{Traced, origin_write, own-known}}
-use Rattle.machine.specs.Proofs.SmallSteps.{read_of, write_of, traced-read, traced-raise, new_origin, traced_receive, Due, traced-apply}
-use Rattle.machine.specs.{Proofs.SmallSteps.{traced-hold}, Proofs.MarksReceived.{Marked, received_less, marked-add, marks_put}}
-use Rattle.machine.specs.{Proofs.MarksReceived.{marked_put, marked_receive}, Proofs.Ready.{still_is}}
+use Rattle.machine.specs.Demand3.{Received, its_own, delivered}
+use Rattle.machine.proofs.RulesKept.{ReadyAt, read-rules, ready-next}
+use Rattle.machine.proofs.Order.{add, at_new}
+use Rattle.machine.proofs.TableTraced.{Traced, origin_write, own-known}
+use Rattle.machine.proofs.SmallSteps.{read_of, write_of, traced-read, traced-raise, new_origin, traced_receive, Due, traced-apply}
+use Rattle.machine.proofs.SmallSteps.{traced-hold}
+use Rattle.machine.proofs.MarksReceived.{Marked, received_less, marked-add, marks_put}
+use Rattle.machine.proofs.MarksReceived.{marked_put, marked_receive}
+use Rattle.machine.proofs.Ready.{still_is}
 
 pub record Observed (s : State) (h : List Event) : Type 0 where
   pub traced : Traced s h

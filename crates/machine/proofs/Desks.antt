@@ -5,7 +5,9 @@ use Rattle.laws.specs.Update.{upd_other, upd-map, upd2-same, upd2-row, upd2-here
 use Rattle.machine.specs.{Table.{Vec, Cell, blank, set, held, done, Open, State}, Steps.{fails, failing, ready, is_none, read_clock}}
 use Rattle.machine.specs.{Steps.{read, still_open, mark, apply, hold, next_number, raise, new_write, write}, Rules.{In, Flat, Quiet}}
 use Rattle.machine.specs.Paper.{Message, Process, WRITE, READ, receipt, resume, Idle, vector_of, value_of, message_of, marked_of}
-use Rattle.machine.specs.{Paper.{waiting_of, desk}, Proofs.Cases.{still_cases}, Proofs.Ready.{done-everywhere}}
+use Rattle.machine.specs.Paper.{waiting_of, desk}
+use Rattle.machine.proofs.Cases.{still_cases}
+use Rattle.machine.proofs.Ready.{done-everywhere}
 
 -- processes are the same if their parts are
 process-is : {p q : Process} → p.Apply ≡ q.Apply → p.Write_co ≡ q.Write_co → p.LastWriteOn ≡ q.LastWriteOn → p.memory ≡ q.memory

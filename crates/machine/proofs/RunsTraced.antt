@@ -2,10 +2,13 @@
 use Rattle.laws.specs.Kit.{◌≡◌, refl, List, ◌∷◌, ◌++◌, map, append-nil, append_assoc, Memᴰ, Memᴰ-head, Memᴰ-tail, [], ℕ, suc}
 use Rattle.machine.specs.{Table.{most_open, name, State}, Answer.{Refusal, refused}, Steps.{Out, refuse, settle, reads, Step, Read}}
 use Rattle.machine.specs.{Steps.{Write, Deliver, Trip, step}, Rules.{In, Rules}, History.{Event, apply_at, trip_reads, events_of, Act}}
-use Rattle.machine.specs.{History.{take_step, save_and_load, run, history}, Proofs.RulesKept.{Midway, read-rules, settle-all}}
-use Rattle.machine.specs.Proofs.RulesKept.{delivered-at, delivered_midway, step-keeps-rules}
-use Rattle.machine.specs.{Proofs.Refusals.{accepted-effect, step_cases}, Proofs.Cases.{deliver_cases}, Proofs.Order.{add}}
-use Rattle.machine.specs.Proofs.StepsTraced.{Observed, observed_read, observed_write, observed_hold, observed_deliver, observed_apply}
+use Rattle.machine.specs.History.{take_step, save_and_load, run, history}
+use Rattle.machine.proofs.RulesKept.{Midway, read-rules, settle-all}
+use Rattle.machine.proofs.RulesKept.{delivered-at, delivered_midway, step-keeps-rules}
+use Rattle.machine.proofs.Refusals.{accepted-effect, step_cases}
+use Rattle.machine.proofs.Cases.{deliver_cases}
+use Rattle.machine.proofs.Order.{add}
+use Rattle.machine.proofs.StepsTraced.{Observed, observed_read, observed_write, observed_hold, observed_deliver, observed_apply}
 
 -- the cascade --
 
@@ -68,11 +71,11 @@ module _ (reload : State → State) (same : (s : State) → Rules s → reload s
   pub rules-kept : {s : State} → Rules s → (l : List Act) → Rules (run reload s l)
   unfolding run
   rules-kept r [] = r
-  rules-kept r (take_step a ∷ l) = rules-kept (step-keeps-rules r a) l
-  rules-kept {s} r (save_and_load ∷ l) = rw (same s r) (rules-kept r l)
+  rules-kept {s = s} r (take_step a ∷ l) = rules-kept {s = (step s a).state} (step-keeps-rules r a) l
+  rules-kept {s = s} r (save_and_load ∷ l) = rw (same s r) (rules-kept r l)
 
   pub observed_run : {s : State} {h : List Event} → Rules s → Observed s h → (l : List Act) → Observed (run reload s l) (h ++ history reload s l)
   unfolding run history
   observed_run {h = h} r b [] = rw (append-nil h) b
-  observed_run r b (take_step a ∷ l) = rw append_assoc at (observed_run (step-keeps-rules r a) (observed_step r b a) l)
-  observed_run {s} r b (save_and_load ∷ l) = rw (same s r) (observed_run r b l)
+  observed_run {s = s} {h = h} r b (take_step a ∷ l) = rw append_assoc at (observed_run {s = (step s a).state} {h = h ++ events_of s a (step s a).answer} (step-keeps-rules r a) (observed_step r b a) l)
+  observed_run {s = s} {h = h} r b (save_and_load ∷ l) = rw (same s r) (observed_run r b l)

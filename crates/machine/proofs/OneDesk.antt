@@ -1,7 +1,8 @@
 -- "With n = 1 a write is never open, so 5 is not met."
 use Rattle.laws.specs.{Kit.{◌≡◌, ap, ◌∙◌, inl, inr, false, ℕ, arith}, Loop.{cases}, Says.{clash}, Sum.{one, tally, sum_same, sum-zero}}
 use Rattle.machine.specs.{Table.{State, written}, Answer.{full, refused}, Steps.{is_open, open_count, Write, step}, Rules.{Rules}}
-use Rattle.machine.specs.{Refusals.{rows_of, FirstFails}, Proofs.Refusals.{refusal-exactly}}
+use Rattle.machine.specs.Refusals.{rows_of, FirstFails}
+use Rattle.machine.proofs.Refusals.{refusal-exactly}
 
 module _ {s : State} (r : Rules s) (alone : s.setup.desks ≡ 1) where
   pub alone_closed : (u k : ℕ) → is_open s u k ≡ false

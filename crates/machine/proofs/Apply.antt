@@ -5,10 +5,12 @@ use Rattle.laws.specs.Update.{upd2-same, upd2-row, upd2-here, upd2-other, upd2-a
 use Rattle.machine.specs.Table.{most_open, most_writes, most_status, Vec, Cell, set, held, done, Open, State, written}
 use Rattle.machine.specs.Steps.{fails, ready, is_none, everywhere, still_open, mark, apply, raise, next_number, next_vector, new_write}
 use Rattle.machine.specs.{Steps.{write, is_open, open_count}, Rules.{In, Below, Issued, Ranges, Counts, Clocks, SetCell, ToBeOpen}}
-use Rattle.machine.specs.{Rules.{OpenWrite, Quiet, Frame, Rules}, Proofs.Ready.{ready_at_lem, passes-own, passes-rest, still}}
-use Rattle.machine.specs.{Proofs.Ready.{done-everywhere, not-everywhere, none_still, still_is}, Proofs.CountsRise.{HeldWaits}}
-use Rattle.machine.specs.Proofs.CountsRise.{MarkRules, marks_of_lem, open_of_lem, Grown, cell_grown, mark_grown, open-grown, exactly_grown}
-use Rattle.machine.specs.Proofs.CountsRise.{clocks_are, Clock}
+use Rattle.machine.specs.Rules.{OpenWrite, Quiet, Frame, Rules}
+use Rattle.machine.proofs.Ready.{ready_at_lem, passes-own, passes-rest, still}
+use Rattle.machine.proofs.Ready.{done-everywhere, not-everywhere, none_still, still_is}
+use Rattle.machine.proofs.CountsRise.{HeldWaits}
+use Rattle.machine.proofs.CountsRise.{MarkRules, marks_of_lem, open_of_lem, Grown, cell_grown, mark_grown, open-grown, exactly_grown}
+use Rattle.machine.proofs.CountsRise.{clocks_are, Clock}
 
 -- a write that may be applied at i: u's next there, sent before or written at i now
 pub record MayApply (s : State) (i u k : ℕ) (w : Open) : Type 0 where

@@ -4,11 +4,15 @@ use Rattle.laws.specs.{Kit.{◌≤◌, ◌<◌, arith}, Ends.{cut_at}, Update.{s
 use Rattle.machine.specs.{Table.{most_desks, most_cells, Vec, name, away, held, done, Open, State, fresh, mark_of}, Steps.{fails}}
 use Rattle.machine.specs.{Steps.{failing, is_none, ready}, Rules.{In, Rules}, History.{Event, write_at, applied, desk_list, Act, run}}
 use Rattle.machine.specs.{History.{history}, Demand3.{WriteAt, of_write, Has, Missing, CauseMissing, Received}}
-use Rattle.machine.specs.{Demand3.{HeldIffCauseMissing, UpTo, Demand3}, Proofs.RulesKept.{fresh-rules, one_place, done-counted}}
-use Rattle.machine.specs.{Proofs.Order.{at_one, HistoryOrdered, forward}, Proofs.TableTraced.{Origin, origin_write}}
-use Rattle.machine.specs.{Proofs.StepsTraced.{Observed, observed_fresh}, Proofs.RunsTraced.{rules-kept, observed_run}}
-use Rattle.machine.specs.{Proofs.NamesObserved.{write_in, names_observed, open-observed}, Proofs.Ready.{option_cases, failing-at}}
-use Rattle.machine.specs.Proofs.Ready.{fails-lacks, not-applied}
+use Rattle.machine.specs.Demand3.{HeldIffCauseMissing, UpTo, Demand3}
+use Rattle.machine.proofs.RulesKept.{fresh-rules, one_place, done-counted}
+use Rattle.machine.proofs.Order.{at_one, HistoryOrdered, forward}
+use Rattle.machine.proofs.TableTraced.{Origin, origin_write}
+use Rattle.machine.proofs.StepsTraced.{Observed, observed_fresh}
+use Rattle.machine.proofs.RunsTraced.{rules-kept, observed_run}
+use Rattle.machine.proofs.NamesObserved.{write_in, names_observed, open-observed}
+use Rattle.machine.proofs.Ready.{option_cases, failing-at}
+use Rattle.machine.proofs.Ready.{fails-lacks, not-applied}
 
 module _ {s : State} {h : List Event} (r : Rules s) (b : Observed s h) where
   ordered : HistoryOrdered h

@@ -2,8 +2,9 @@
 use Rattle.laws.specs.{Kit.{◌≡◌, sym, ap, subst, List, Option, some, ℕ, length}, Ends.{before, last, at-either}}
 use Rattle.laws.specs.{Update.{upd2, upd-all, upd2-all}, Says.{clash}}
 use Rattle.machine.specs.{Table.{Name, name, away, Open}, Steps.{mark}, History.{Event, receive_at, apply_at, desk_list, At}}
-use Rattle.machine.specs.{Demand3.{WriteAt, Has, Received, its_own, delivered}, Proofs.Order.{add, at_old, at_new, write_old}}
-use Rattle.machine.specs.Proofs.Entries.{applied_cases}
+use Rattle.machine.specs.Demand3.{WriteAt, Has, Received, its_own, delivered}
+use Rattle.machine.proofs.Order.{add, at_old, at_new, write_old}
+use Rattle.machine.proofs.Entries.{applied_cases}
 
 -- the mark m of u.k at i: away exactly if it was not received
 pub record Mark (h : List Event) (i u k m : ℕ) : Type 0 where

@@ -7,8 +7,13 @@ use Rattle.machine.specs.{Table.{most_desks, most_cells, Name, State, fresh}, An
 use Rattle.machine.specs.History.{write_at, receive_at, apply_at, At, OpOf, a_read, a_write, Precedes, same_desk, shown_by, chained}
 use Rattle.machine.specs.{History.{Act, history}, Past.{some_below, those, is_op_of, in_process_order, is_read_from, link_of, linked}}
 use Rattle.machine.specs.Past.{before_by, before, writes_name, in_past, enables, X_co_safe, InPast, Enabling, enabling}
-use Rattle.machine.specs.{Demand3.{WriteAt}, Rules.{In, Rules}, Proofs.RulesKept.{fresh-rules}, Proofs.Order.{forward}}
-use Rattle.machine.specs.{Proofs.StepsTraced.{observed_fresh}, Proofs.RunsTraced.{observed_run}, Proofs.Ready.{option_cases}}
+use Rattle.machine.specs.Demand3.{WriteAt}
+use Rattle.machine.specs.Rules.{In, Rules}
+use Rattle.machine.proofs.RulesKept.{fresh-rules}
+use Rattle.machine.proofs.Order.{forward}
+use Rattle.machine.proofs.StepsTraced.{observed_fresh}
+use Rattle.machine.proofs.RunsTraced.{observed_run}
+use Rattle.machine.proofs.Ready.{option_cases}
 
 -- some number below n passes
 below-some : (n : ℕ) (g : ℕ → Bool) → some_below n g ≡ true → (r : ℕ) × (g r ≡ true)

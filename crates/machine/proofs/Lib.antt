@@ -1,4 +1,3 @@
--- The proofs; the definitions and statements are in the files above.
 pub mod Ready
 pub mod Apply
 pub mod Cascade

@@ -3,10 +3,12 @@ use Rattle.laws.specs.Kit.{◌≡◌, refl, sym, ◌∙◌, subst, List, ◌∷�
 use Rattle.laws.specs.{Kit.{◌<◌, arith, length}, Ends.{before, last, at-inside, at-either}, Says.{clash}}
 use Rattle.machine.specs.{Table.{name, Name}, Answer.{Shown, unset}, History.{Event, read_at, write_at, apply_at, Entry, own_read}}
 use Rattle.machine.specs.{History.{applied, desk_list, latest, At, Precedes}, Demand3.{WriteAt, OpAt, of_read, of_write, Has}}
-use Rattle.machine.specs.{Demand3.{ListsAccepted, ListsOnce, ReadsLatest, CausesFirst}, Proofs.Order.{add, HistoryOrdered, NewEvent}}
-use Rattle.machine.specs.{Proofs.Order.{ordered-add, forward, at_less, write_old, write_less, prec_less}, Proofs.Entries.{OwnEntry}}
-use Rattle.machine.specs.Proofs.Entries.{reads, applies, DeskCut, in_old, in_new, desk_cut, applied_cases, read_listed, listed_inside}
-use Rattle.machine.specs.Proofs.Entries.{AllWritten, written-some, latest_stable}
+use Rattle.machine.specs.Demand3.{ListsAccepted, ListsOnce, ReadsLatest, CausesFirst}
+use Rattle.machine.proofs.Order.{add, HistoryOrdered, NewEvent}
+use Rattle.machine.proofs.Order.{ordered-add, forward, at_less, write_old, write_less, prec_less}
+use Rattle.machine.proofs.Entries.{OwnEntry}
+use Rattle.machine.proofs.Entries.{reads, applies, DeskCut, in_old, in_new, desk_cut, applied_cases, read_listed, listed_inside}
+use Rattle.machine.proofs.Entries.{AllWritten, written-some, latest_stable}
 
 -- what a history keeps
 pub record Story (h : List Event) : Type 0 where

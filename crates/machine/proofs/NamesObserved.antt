@@ -6,9 +6,11 @@ use Rattle.laws.specs.{Sum.{sum_same, sum-zero, sum_one}, Update.{same_or}}
 use Rattle.machine.specs.{Table.{Name, name, State, written}, Answer.{wrote}, Steps.{is_open, open_count, Write}, Rules.{In, Rules}}
 use Rattle.machine.specs.{RulesTest.{lacks, says-lacks}, History.{Event, read_at, write_at, receive_at, apply_at, Entry, own_read}}
 use Rattle.machine.specs.{History.{applied, desk_list, write_passes, writes_that, writes_of, is_applied, some_lacks}, Demand3.{WriteAt}}
-use Rattle.machine.specs.{Demand3.{NumberedInOrder, NamesObserved, OpenObserved}, Proofs.Refusals.{step_cases}}
-use Rattle.machine.specs.{Proofs.Order.{add, writes_more, writes-same}, Proofs.Entries.{names_are, is_name_lem}}
-use Rattle.machine.specs.Proofs.TableTraced.{Traced, own-known, clock-own}
+use Rattle.machine.specs.Demand3.{NumberedInOrder, NamesObserved, OpenObserved}
+use Rattle.machine.proofs.Refusals.{step_cases}
+use Rattle.machine.proofs.Order.{add, writes_more, writes-same}
+use Rattle.machine.proofs.Entries.{names_are, is_name_lem}
+use Rattle.machine.proofs.TableTraced.{Traced, own-known, clock-own}
 
 -- the writes that pass, counted event by event, and desk by desk and number by number
 module _ {h : List Event} (o : NumberedInOrder h) (n : ℕ) (writer : (q u k : ℕ) → WriteAt h q u k → In n u) (p : ℕ → ℕ → Bool) where

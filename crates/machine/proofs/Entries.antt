@@ -5,7 +5,8 @@ use Rattle.laws.specs.Kit.{Memᴰ-append_cases, Memᴰ-eq_of_singleton, Option, 
 use Rattle.laws.specs.{Kit.{ne_eqb, eqb, length}, Loop.{cases}, Says.{clash, apart}, Update.{same_or}, Ends.{inside, outside, cut_end}}
 use Rattle.machine.specs.{Table.{Name, name}, Answer.{Shown, unset}, History.{Event, read_at, write_at, receive_at, apply_at, Entry}}
 use Rattle.machine.specs.History.{own_read, applied, entry_of, list_from, desk_list, Written, is_name, written_as, after_write, after_entry}
-use Rattle.machine.specs.{History.{latest_from, latest, At}, Proofs.Order.{add}}
+use Rattle.machine.specs.History.{latest_from, latest, At}
+use Rattle.machine.proofs.Order.{add}
 
 -- b is the entry of the event e at the place p, in the list of the desk i
 pub data OwnEntry (i p : ℕ) (e : Event) (b : Entry) : Type 0 where

@@ -3,8 +3,10 @@ use Rattle.laws.specs.Kit.{◌≡◌, refl, sym, true, Option, none, some, ◌�
 use Rattle.laws.specs.{Loop.{cases, scan-first, scan-none}, Says.{apart, says_both, says-eqb}, Sum.{sum, sum-le, sum_one, tally_above}}
 use Rattle.laws.specs.Update.{same_or}
 use Rattle.machine.specs.{Table.{name, held, Open, State, written}, Steps.{ready, apply, is_open, open_count, due_open, due, first_due}}
-use Rattle.machine.specs.{Steps.{Settled, settle_by, settle}, Rules.{In, Quiet, Frame, Rules}, Proofs.Ready.{option_all}}
-use Rattle.machine.specs.Proofs.Apply.{Midway, ReadyAt, ready-next, arrives, here, same, apply-written, apply_midway}
+use Rattle.machine.specs.Steps.{Settled, settle_by, settle}
+use Rattle.machine.specs.Rules.{In, Quiet, Frame, Rules}
+use Rattle.machine.proofs.Ready.{option_all}
+use Rattle.machine.proofs.Apply.{Midway, ReadyAt, ready-next, arrives, here, same, apply-written, apply_midway}
 
 -- the writes that desk i has yet to apply
 unfoldable pub left_to_apply : State → ℕ → ℕ

@@ -3,7 +3,8 @@ use Rattle.laws.specs.Kit.{◌≡◌, refl, sym, ap, fun_ext, ◌↔◌, Iff-tra
 use Rattle.laws.specs.{Says.{apart}, Sum.{sum, tally, sum-zero}, Update.{upd-all, upd2-all, upd2-some}}
 use Rattle.machine.specs.Table.{most_desks, most_cells, most_status, Vec, Cell, blank, set, away, held, done, Open, State, fresh}
 use Rattle.machine.specs.{Table.{written}, Steps.{is_none, ready, read_clock, read, mark, hold, is_open, open_count}, Rules.{In, Below}}
-use Rattle.machine.specs.{Rules.{Issued, Clocks, SetCell, ToBeOpen, OpenWrite, Frame, Rules}, Proofs.Ready.{not-both}}
+use Rattle.machine.specs.Rules.{Issued, Clocks, SetCell, ToBeOpen, OpenWrite, Frame, Rules}
+use Rattle.machine.proofs.Ready.{not-both}
 
 -- of one write: "it is marked 1 only if not ready"
 abbrev pub HeldWaits : State → ℕ → ℕ → Open → Type 0

@@ -4,13 +4,17 @@ use Rattle.laws.specs.{Kit.{arith, dec_le, length, eq-eqb, ne_eqb}, Update.{same
 use Rattle.machine.specs.{Table.{Vec, Name, name, Cell, blank, set, done, held, Open, State}, Answer.{shown, shown_of}}
 use Rattle.machine.specs.Steps.{read_clock, read, shown_at, still_open, mark, apply, hold, next_number, next_vector, raise}
 use Rattle.machine.specs.{Rules.{Below}, History.{Event, read_at, write_at, receive_at, apply_at, desk_list, written_as, after_write}}
-use Rattle.machine.specs.{History.{latest, At, a_read, a_write, Precedes, shown_by}, Demand3.{WriteAt, Has, UpTo}, Proofs.Order.{add}}
-use Rattle.machine.specs.Proofs.Order.{at_one, HistoryOrdered, NewEvent, not_op, ordered-add, forward, at_old, at_new, write_old}
-use Rattle.machine.specs.Proofs.Order.{upto-then, upto_old, knows_other, by_desk, by_show, LastUp, itself, through, upto-last}
-use Rattle.machine.specs.Proofs.Entries.{written-some, written-found, has_keep, latest_keep, has-apply, has-applied, latest-apply}
-use Rattle.machine.specs.{Proofs.Entries.{mem_old}, Proofs.HistoryKeeps.{NewEntry, story-add, all-written, not_listed}}
-use Rattle.machine.specs.Proofs.TableTraced.{Origin, Traced, origin_write, origin_old, own-known, clock-own, onward, backward}
-use Rattle.machine.specs.{Proofs.TableTraced.{op-traced, other-traced}, Proofs.Ready.{still_is}}
+use Rattle.machine.specs.History.{latest, At, a_read, a_write, Precedes, shown_by}
+use Rattle.machine.specs.Demand3.{WriteAt, Has, UpTo}
+use Rattle.machine.proofs.Order.{add}
+use Rattle.machine.proofs.Order.{at_one, HistoryOrdered, NewEvent, not_op, ordered-add, forward, at_old, at_new, write_old}
+use Rattle.machine.proofs.Order.{upto-then, upto_old, knows_other, by_desk, by_show, LastUp, itself, through, upto-last}
+use Rattle.machine.proofs.Entries.{written-some, written-found, has_keep, latest_keep, has-apply, has-applied, latest-apply}
+use Rattle.machine.proofs.Entries.{mem_old}
+use Rattle.machine.proofs.HistoryKeeps.{NewEntry, story-add, all-written, not_listed}
+use Rattle.machine.proofs.TableTraced.{Origin, Traced, origin_write, origin_old, own-known, clock-own, onward, backward}
+use Rattle.machine.proofs.TableTraced.{op-traced, other-traced}
+use Rattle.machine.proofs.Ready.{still_is}
 
 -- Read --
 

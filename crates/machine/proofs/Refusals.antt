@@ -7,7 +7,8 @@ use Rattle.machine.specs.{Table.{fresh, written, mark_in}, Answer.{Refusal, no_d
 use Rattle.machine.specs.{Answer.{no_write, received, trip_size, no_size, began, shows, wrote, applies, judged, refused}, Steps.{Out}}
 use Rattle.machine.specs.Steps.{refuse, need, within, failing, shown_at, read, next_number, write, open_count, reads, verdict, deliver_by}
 use Rattle.machine.specs.{Steps.{deliver_open, Step, Read, Write, Deliver, Trip, step, begins, Begun, begin}, Rules.{In}}
-use Rattle.machine.specs.{Proofs.Ready.{option_all}, Refusals.{Row, ◌or◌, rows_of, rows_of_begin, FirstFails, AllPass, Accepted}}
+use Rattle.machine.proofs.Ready.{option_all}
+use Rattle.machine.specs.Refusals.{Row, ◌or◌, rows_of, rows_of_begin, FirstFails, AllPass, Accepted}
 pub use Rattle.machine.specs.Within.{says-within}
 
 -- an outcome by the rows: refused by the first that fails, or what is done if all pass

@@ -2,11 +2,15 @@
 use Rattle.laws.specs.{Kit.{◌≡◌, refl, sym, ◌∙◌, subst, inl, ◌↔◌, Iff-trans, Iff-symm, List, some, ℕ, ◌≤◌, arith, length}, Ends.{at-inside}}
 use Rattle.laws.specs.Update.{upd, upd-all, same_or}
 use Rattle.machine.specs.{Table.{Vec, Name, name, set, Open, State}, Answer.{shown_of}, History.{Event, write_at, apply_at, desk_list}}
-use Rattle.machine.specs.{History.{latest, writes_of, At, OpOf, a_write, same_desk}, Demand3.{WriteAt, Has, UpTo}, Proofs.Order.{add}}
-use Rattle.machine.specs.Proofs.Order.{one-desk, HistoryOrdered, ordered-add, at_old, at_new, upto-then, upto_old, upto_less}
-use Rattle.machine.specs.Proofs.Order.{number_in, number-written, Knows, knows_new, knows_other}
-use Rattle.machine.specs.{Proofs.Entries.{has_keep, latest_keep}, Proofs.HistoryKeeps.{Story, NewEntry, story-add, write-inside}}
-use Rattle.machine.specs.{Proofs.HistoryKeeps.{all-written}, Proofs.CountsRise.{clocks_are}}
+use Rattle.machine.specs.History.{latest, writes_of, At, OpOf, a_write, same_desk}
+use Rattle.machine.specs.Demand3.{WriteAt, Has, UpTo}
+use Rattle.machine.proofs.Order.{add}
+use Rattle.machine.proofs.Order.{one-desk, HistoryOrdered, ordered-add, at_old, at_new, upto-then, upto_old, upto_less}
+use Rattle.machine.proofs.Order.{number_in, number-written, Knows, knows_new, knows_other}
+use Rattle.machine.proofs.Entries.{has_keep, latest_keep}
+use Rattle.machine.proofs.HistoryKeeps.{Story, NewEntry, story-add, write-inside}
+use Rattle.machine.proofs.HistoryKeeps.{all-written}
+use Rattle.machine.proofs.CountsRise.{clocks_are}
 
 -- cell, status and vector of u.k come from the write in the history; the vector tells the order
 pub record Origin (h : List Event) (u k x v : ℕ) (w : Vec) : Type 0 where

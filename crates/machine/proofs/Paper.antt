@@ -7,12 +7,15 @@ use Rattle.machine.specs.Steps.{new_write, raise, write, Settled, settle, reads,
 use Rattle.machine.specs.{Rules.{In, Frame, Rules}, Refusals.{Accepted}, Paper.{Message, Process, READ, sent, returned, a_write}}
 use Rattle.machine.specs.Paper.{a_read, a_receipt, a_thread, Action, Does, does_write, does_read, does_receipt, does_thread}
 use Rattle.machine.specs.Paper.{ProcessRuns, ends, then, Idle, vector_of, value_of, message_of, waiting_of, desk, receipt_of, actions_of}
-use Rattle.machine.specs.{Paper.{actor, PaperRun, KeepsMessage, OpenAs, shown_returned}, Proofs.RulesKept.{Midway, ReadyAt, ready-next}}
-use Rattle.machine.specs.Proofs.RulesKept.{step-keeps-rules, settle-all, delivered-at, delivered_midway}
-use Rattle.machine.specs.{Proofs.Refusals.{step_cases}, Proofs.Cases.{Delivery, deliver_cases, still_cases, settle-keeps, reads_keep}}
-use Rattle.machine.specs.{Proofs.Cases.{setup_stays}, Proofs.Desks.{Waiting, waiting_at, set_all, marked-is, quiet-idle, read_here}}
-use Rattle.machine.specs.Proofs.Desks.{read-there, receipt-here, hold-there, resume-here, apply-there, write-here, write-there}
-use Rattle.machine.specs.Proofs.Ready.{option_cases, done-everywhere, not-both}
+use Rattle.machine.specs.Paper.{actor, PaperRun, KeepsMessage, OpenAs, shown_returned}
+use Rattle.machine.proofs.RulesKept.{Midway, ReadyAt, ready-next}
+use Rattle.machine.proofs.RulesKept.{step-keeps-rules, settle-all, delivered-at, delivered_midway}
+use Rattle.machine.proofs.Refusals.{step_cases}
+use Rattle.machine.proofs.Cases.{Delivery, deliver_cases, still_cases, settle-keeps, reads_keep}
+use Rattle.machine.proofs.Cases.{setup_stays}
+use Rattle.machine.proofs.Desks.{Waiting, waiting_at, set_all, marked-is, quiet-idle, read_here}
+use Rattle.machine.proofs.Desks.{read-there, receipt-here, hold-there, resume-here, apply-there, write-here, write-there}
+use Rattle.machine.proofs.Ready.{option_cases, done-everywhere, not-both}
 
 -- a waiting message that is ready goes on, whatever else waits
 thread : {s : State} {i u k : ℕ} {w : Open} → Frame s → ReadyAt s i u k w → (q : Waiting)

@@ -9,13 +9,18 @@ use Rattle.machine.specs.Paper.{start, sent, Action, a_write, a_read, a_receipt,
 use Rattle.machine.specs.{Paper.{desk, actions_of, receipt_of}, History.{Act, take_step, save_and_load, run}, PaperRuns.{Ways, System}}
 use Rattle.machine.specs.PaperRuns.{take, Carries, sends, takes, none_by_read, none_by_thread, Deed, deed, Acts, acts, SystemRun}
 use Rattle.machine.specs.PaperRuns.{over, and_then, ways_of, system, deeds_of, deeds, RunsAsPaper, SentIn, Receives, ReceivedIsSent}
-use Rattle.machine.specs.{Proofs.CountsRise.{Grown}, Proofs.Apply.{to_be_open, apply-written}, Proofs.RulesKept.{Midway, ReadyAt}}
-use Rattle.machine.specs.Proofs.RulesKept.{fresh-rules, step-keeps-rules, settle-all, delivered-at, delivered_midway}
-use Rattle.machine.specs.{Proofs.Refusals.{accepted-exactly, step_cases}, Proofs.Cases.{Delivery, deliver_cases, reads_keep}}
-use Rattle.machine.specs.{Proofs.Cases.{step_keeps, setup_stays}, Proofs.Paper.{Moves, trip_reads_lem, new-number, read_moves}}
-use Rattle.machine.specs.Proofs.Paper.{write_moves, hold_moves, apply_moves, message-kept, message-sent}
-use Rattle.machine.specs.Proofs.OnTheWay.{ways-fresh, hold-takes, apply-takes, on_its_way, held_off, write-sends, nothing-under}
-use Rattle.machine.specs.{Proofs.RunsTraced.{rules-kept}, Proofs.Ready.{option_all, option_cases, not-both}}
+use Rattle.machine.proofs.CountsRise.{Grown}
+use Rattle.machine.proofs.Apply.{to_be_open, apply-written}
+use Rattle.machine.proofs.RulesKept.{Midway, ReadyAt}
+use Rattle.machine.proofs.RulesKept.{fresh-rules, step-keeps-rules, settle-all, delivered-at, delivered_midway}
+use Rattle.machine.proofs.Refusals.{accepted-exactly, step_cases}
+use Rattle.machine.proofs.Cases.{Delivery, deliver_cases, reads_keep}
+use Rattle.machine.proofs.Cases.{step_keeps, setup_stays}
+use Rattle.machine.proofs.Paper.{Moves, trip_reads_lem, new-number, read_moves}
+use Rattle.machine.proofs.Paper.{write_moves, hold_moves, apply_moves, message-kept, message-sent}
+use Rattle.machine.proofs.OnTheWay.{ways-fresh, hold-takes, apply-takes, on_its_way, held_off, write-sends, nothing-under}
+use Rattle.machine.proofs.RunsTraced.{rules-kept}
+use Rattle.machine.proofs.Ready.{option_all, option_cases, not-both}
 
 pub desk-starts : (n m i : ℕ) → desk (fresh n m) i ≡ start
 desk-starts n m i = refl
@@ -157,7 +162,7 @@ module _ (reload : State → State) (same : (s : State) → Rules s → reload s
   unfolding run deeds
   runs_on r [] = over
   runs_on {s} r (take_step a ∷ l) =
-      run_on (of_step r a) (subst (λ (z : Setup). SystemRun z.desks (system (step s a).state) (deeds reload (step s a).state l) (system (run reload (step s a).state l))) (setup_stays s a) (runs_on (step-keeps-rules r a) l))
+      run_on (of_step r a) (subst (λ (z : Setup). SystemRun z.desks (system (step s a).state) (deeds reload (step s a).state l) (system (run reload (step s a).state l))) (setup_stays s a) (runs_on {s = (step s a).state} (step-keeps-rules r a) l))
   runs_on {s} r (save_and_load ∷ l) = rw (same s r) (runs_on r l)
 
   pub runs_as_paper : (n m : ℕ) → In most_desks n → In most_cells m → (l : List Act) → RunsAsPaper reload n m l
@@ -263,13 +268,13 @@ module _ (reload : State → State) (same : (s : State) → Rules s → reload s
   run_carries : {u k : ℕ} {m : Message} {s : State} → Rules s → (l : List Act) → CarriesOn u k m s → CarriesOn u k m (run reload s l)
   unfolding run
   run_carries r [] c = c
-  run_carries r (take_step a ∷ l) c = run_carries (step-keeps-rules r a) l (step_carries r a c)
+  run_carries {s = s} r (take_step a ∷ l) c = run_carries {s = (step s a).state} (step-keeps-rules r a) l (step_carries r a c)
   run_carries {s = s} r (save_and_load ∷ l) c = rw (same s r) (run_carries r l c)
 
   run-setup : {s : State} → Rules s → (l : List Act) → (run reload s l).setup ≡ s.setup
   unfolding run
   run-setup r [] = refl
-  run-setup {s} r (take_step a ∷ l) = run-setup (step-keeps-rules r a) l ∙ setup_stays s a
+  run-setup {s} r (take_step a ∷ l) = run-setup {s = (step s a).state} (step-keeps-rules r a) l ∙ setup_stays s a
   run-setup {s} r (save_and_load ∷ l) = ap (λ (z : State). (run reload z l).setup) (same s r) ∙ run-setup r l
 
   run-desks : {s : State} → Rules s → (l : List Act) → (run reload s l).setup.desks ≡ s.setup.desks
@@ -305,7 +310,7 @@ module _ (reload : State → State) (same : (s : State) → Rules s → reload s
   unfolding run
   finds r u k [] low high = absurd (omega (arith, low, high))
   finds {s} r u k (save_and_load ∷ l) low high = later save_and_load (λ l. refl) (finds (rw (same s r) r) u k l (rw (same s r) low) high)
-  finds {s} r u k (take_step a ∷ l) low high = by (finds (step-keeps-rules r a) u k l) (dec_le k (written (step s a).state u))
+  finds {s} r u k (take_step a ∷ l) low high = by (finds {s = (step s a).state} (step-keeps-rules r a) u k l) (dec_le k (written (step s a).state u))
     where
       here : (a : Step) → Wrote s u k a → (m : Message) × SentIn reload s (take_step a ∷ l) u k m
       here a (wrote_as {x} {v} e) = (

@@ -4,12 +4,19 @@ use Rattle.laws.specs.{Says.{clash}, Update.{same_or, upd2-other, upd2-all}}
 use Rattle.machine.specs.{Table.{most_desks, most_cells, Name, name, held, Open, State, fresh, mark_in, mark_of}, Answer.{holds}}
 use Rattle.machine.specs.{Steps.{fails, failing, is_none, mark, hold, Deliver, Step, step}, Refusals.{Accepted}, Rules.{In, Rules}}
 use Rattle.machine.specs.{History.{Event, desk_list, chained, Act, take_step, save_and_load, run, history}, Demand3.{WriteAt, Has}}
-use Rattle.machine.specs.{Demand3.{Missing}, HoldNames.{FirstMissing, Sendable, HoldNames}, Proofs.Order.{forward}}
-use Rattle.machine.specs.{Proofs.Ready.{passes-own, passes-rest, ready_at_lem, failing-at}, Proofs.NamesObserved.{write_in}}
-use Rattle.machine.specs.{Proofs.RulesKept.{fresh-rules, step-keeps-rules, one_place, done-counted}, Proofs.TableTraced.{origin_write}}
-use Rattle.machine.specs.{Proofs.Refusals.{accepted-effect, accepted-exactly}, Proofs.Cases.{Delivery, deliver_cases, step_keeps}}
-use Rattle.machine.specs.{Proofs.StepsTraced.{Observed, observed_fresh}, Proofs.RunsTraced.{rules-kept, observed_run}}
-use Rattle.machine.specs.{Proofs.PaperRuns.{run-append}, Proofs.Demand3.{tells_at, fails-missing}}
+use Rattle.machine.specs.Demand3.{Missing}
+use Rattle.machine.specs.HoldNames.{FirstMissing, Sendable, HoldNames}
+use Rattle.machine.proofs.Order.{forward}
+use Rattle.machine.proofs.Ready.{passes-own, passes-rest, ready_at_lem, failing-at}
+use Rattle.machine.proofs.NamesObserved.{write_in}
+use Rattle.machine.proofs.RulesKept.{fresh-rules, step-keeps-rules, one_place, done-counted}
+use Rattle.machine.proofs.TableTraced.{origin_write}
+use Rattle.machine.proofs.Refusals.{accepted-effect, accepted-exactly}
+use Rattle.machine.proofs.Cases.{Delivery, deliver_cases, step_keeps}
+use Rattle.machine.proofs.StepsTraced.{Observed, observed_fresh}
+use Rattle.machine.proofs.RunsTraced.{rules-kept, observed_run}
+use Rattle.machine.proofs.PaperRuns.{run-append}
+use Rattle.machine.proofs.Demand3.{tells_at, fails-missing}
 
 -- a write held beside another is held for what it would be alone
 beside-hold : (s : State) (i u k t j : ℕ) {z z' : Name} → (t ≡ u → j ≡ k → ⊥) → (step s (Deliver i u k)).answer ≡ holds z
@@ -160,7 +167,7 @@ module _ (reload : State → State) (same : (s : State) → Rules s → reload s
   run_grows : {s : State} → Rules s → (l : List Act) (i t : ℕ) → s.applied i t ≤ (run reload s l).applied i t
   unfolding run
   run_grows r [] i t = omega arith
-  run_grows {s} r (take_step a ∷ l) i t = omega (arith, step_grows s a i t, run_grows (step-keeps-rules r a) l i t)
+  run_grows {s} r (take_step a ∷ l) i t = omega (arith, step_grows s a i t, run_grows {s = (step s a).state} (step-keeps-rules r a) l i t)
   run_grows {s} r (save_and_load ∷ l) i t = subst (λ (x : State). s.applied i t ≤ (run reload x l).applied i t) (sym (same s r)) (run_grows r l i t)
 
   module _ (n m : ℕ) (hn : In most_desks n) (hm : In most_cells m) where

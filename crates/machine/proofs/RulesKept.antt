@@ -3,12 +3,14 @@ use Rattle.laws.specs.{Kit.{◌≡◌, refl, sym, ap, ◌⊎◌, inl, inr, ◌�
 use Rattle.laws.specs.Update.{same_or}
 use Rattle.machine.specs.{Table.{most_open, Name, away, held, done, Open, State, written, mark_of, name}, Answer.{Refusal, applies}}
 use Rattle.machine.specs.Steps.{Out, is_none, apply, refuse, failing, Step, Read, Write, Deliver, Trip, step, settle}
-use Rattle.machine.specs.{Rules.{In, Frame, Rules}, Proofs.Ready.{option_cases}, Proofs.Refusals.{step_cases}}
-use Rattle.machine.specs.Proofs.Cases.{Delivery, deliver_cases, reads_keep}
-pub use Rattle.machine.specs.Proofs.CountsRise.{fresh-rules, read-rules, hold-rules}
-pub use Rattle.machine.specs.Proofs.Apply.{Midway, ReadyAt, NextAt, ready-next, apply_midway, write-rules}
-unfoldable pub use Rattle.machine.specs.Proofs.Cascade.{left_to_apply}
-pub use Rattle.machine.specs.Proofs.Cascade.{apply-left, left-few, Found, first-due, none-due, settle-all, settle-rules, settle-names}
+use Rattle.machine.specs.Rules.{In, Frame, Rules}
+use Rattle.machine.proofs.Ready.{option_cases}
+use Rattle.machine.proofs.Refusals.{step_cases}
+use Rattle.machine.proofs.Cases.{Delivery, deliver_cases, reads_keep}
+pub use Rattle.machine.proofs.CountsRise.{fresh-rules, read-rules, hold-rules}
+pub use Rattle.machine.proofs.Apply.{Midway, ReadyAt, NextAt, ready-next, apply_midway, write-rules}
+unfoldable pub use Rattle.machine.proofs.Cascade.{left_to_apply}
+pub use Rattle.machine.proofs.Cascade.{apply-left, left-few, Found, first-due, none-due, settle-all, settle-rules, settle-names}
 
 -- what a step keeps
 record Kept (o : Out) : Type 0 where

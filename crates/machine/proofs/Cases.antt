@@ -3,7 +3,8 @@ use Rattle.laws.specs.{Kit.{◌≡◌, refl, ◌≢◌, true, false, List, [], �
 use Rattle.machine.specs.{Table.{most_open, Vec, Name, name, mark_in, away, Open, State, written}, Answer.{Refusal, holds, applies}}
 use Rattle.machine.specs.Steps.{Out, refuse, failing, read, everywhere, still_open, apply, hold, first_due, Settled, apply_next}
 use Rattle.machine.specs.{Steps.{settle_by, settle, deliver_by, reads, Step, Read, Write, Deliver, Trip, step}, Rules.{In}}
-use Rattle.machine.specs.{Proofs.Refusals.{deliver_effect, step_cases}, Proofs.Ready.{option_all}}
+use Rattle.machine.proofs.Refusals.{deliver_effect, step_cases}
+use Rattle.machine.proofs.Ready.{option_all}
 
 -- a delivery that is accepted
 pub record Delivery (s : State) (i u k : ℕ) (w : Open) : Type 0 where

@@ -8,9 +8,11 @@ use Rattle.machine.specs.{Answer.{shown, Verdict, Yes, No, Unknown, Answer, show
 use Rattle.machine.specs.Steps.{hold, next_number, new_write, raise, reads, has_status, verdict, Step, Read, Write, Deliver, Trip, step}
 use Rattle.machine.specs.{Steps.{answers}, Rules.{In, Rules}, Refusals.{Accepted}, History.{write_at, events_of, Act, take_step}}
 use Rattle.machine.specs.{History.{save_and_load, run, history}, Blanks.{Unwritten, HasStatus, ShowsStatus, AllShow, SomeShows}}
-use Rattle.machine.specs.{Blanks.{TripIsReads}, Proofs.RulesKept.{fresh-rules, step-keeps-rules}}
-use Rattle.machine.specs.{Proofs.Refusals.{accepted-exactly, accepted-effect, step_cases}, Proofs.Cases.{deliver_cases, still_cases}}
-use Rattle.machine.specs.Proofs.Cases.{settle-keeps, reads_keep}
+use Rattle.machine.specs.Blanks.{TripIsReads}
+use Rattle.machine.proofs.RulesKept.{fresh-rules, step-keeps-rules}
+use Rattle.machine.proofs.Refusals.{accepted-exactly, accepted-effect, step_cases}
+use Rattle.machine.proofs.Cases.{deliver_cases, still_cases}
+use Rattle.machine.proofs.Cases.{settle-keeps, reads_keep}
 
 -- Never written --
 

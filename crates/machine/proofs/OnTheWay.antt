@@ -3,8 +3,10 @@ use Rattle.laws.specs.{Kit.{◌≡◌, refl, sym, ap, ◌∙◌, fun_ext, ◌≢
 use Rattle.laws.specs.Update.{upd, upd2, same_or, upd_same, upd-is}
 use Rattle.machine.specs.{Table.{away, held, done, Open, State, fresh}, Steps.{within, still_open, mark, apply, hold, next_number}}
 use Rattle.machine.specs.{Steps.{new_write, write}, Rules.{In}, Paper.{Message, sent, message_of, marked_of, desk}, PaperRuns.{Ways}}
-use Rattle.machine.specs.{PaperRuns.{send, take, ways_of, initially, system}, Within.{says-within}, Proofs.Desks.{marked_at, marked-is}}
-use Rattle.machine.specs.Proofs.Desks.{marked-not, marked-here, marked-there, applied-here, applied-there, marked-kept, marked-set}
+use Rattle.machine.specs.PaperRuns.{send, take, ways_of, initially, system}
+use Rattle.machine.specs.Within.{says-within}
+use Rattle.machine.proofs.Desks.{marked_at, marked-is}
+use Rattle.machine.proofs.Desks.{marked-not, marked-here, marked-there, applied-here, applied-there, marked-kept, marked-set}
 
 -- what is on its way in a table of n desks with these open writes
 abbrev among : ℕ → (ℕ → ℕ → Option Open) → Ways
