@@ -1,4 +1,6 @@
 // The causal clock of a desk, and when a write is ready.
+#![tactic(auto)]
+
 ghost use Rattle.std.specs.Prelude.{◌≡◌, max};
 ghost use Rattle.machine.specs.Rules.{In};
 ghost use Rattle.machine.specs.Steps.{first_unapplied, failing};

@@ -1,0 +1,10 @@
+use Rattle.clock.specs.{Vectors.{places, place}, Readiness.{fails_at}}
+use Rattle.laws.specs.{Kit.{ℕ, ◌≤◌, ◌-◌, ◌+◌, ◌≡◌, refl, sym, ap, ◌∙◌, none, some}, Loop.{scan, scan-here, scan-next, scan_end}}
+use Rattle.machine.specs.{Table.{name}, Steps.{first_unapplied, failing}}
+use Rattle.clock.proofs.readiness.Given as goal
+
+abbrev pub invariant-loop-t : goal.invariant-loop-t
+invariant-loop-t l = (1 ≤ l.t) × ((l.t ≤ places + 1) × (scan (fails_at l.a l.v l.u) (λ d. some (first_unapplied (place l.a) d)) none (places + 1 - l.t) l.t ≡ failing places (place l.a) l.u (place l.v)))
+
+abbrev pub decreases-loop-t : goal.decreases-loop-t
+decreases-loop-t l = places + 1 - l.t
