@@ -1,4 +1,6 @@
 // A block of the saved image (document 01): its layout, its check, and its fields.
+#![tactic(auto)]
+
 ghost use Rattle.std.specs.Prelude.{◌≡◌, ◌∷◌, ℕ, ◌+◌, ◌*◌, ◌/◌, ◌<◌, ◌≤◌, min, get_or, length, take};
 ghost use Rattle.std.proofs.lemmas.List.Edits.{sets};
 ghost use Rattle.laws.specs.Says.{Says};
@@ -185,7 +187,7 @@ fn stands(b: &[u8], k: usize) -> bool
 }
 
 // What is asked of each block.
-#[derive(Drop)]
+#[derive(Clone, Copy)]
 pub enum Test {
     Check,
     Place,

@@ -12,14 +12,14 @@ pub const PLACES: usize = 16;
 // The largest number of a write.
 pub const MOST_WRITES: u16 = 65535;
 
-#[derive(Drop)]
+#[derive(Clone, Copy)]
 pub struct Clock {
     pub at: [u16; PLACES],
 }
 
 // A write is ready; or of the smallest desk whose place fails, that desk and the number of its first write not applied here. That is a
 // count plus 1: where the counts are no table's it may pass MOST_WRITES.
-#[derive(Drop)]
+#[derive(Clone, Copy)]
 pub enum Wait {
     Ready,
     Fails(usize, usize),

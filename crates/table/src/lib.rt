@@ -1,4 +1,6 @@
 // The table: a small core by value, and two flat arrays of numbers that are lent.
+#![tactic(auto)]
+
 ghost use Rattle.std.specs.Prelude.{◌≡◌, ℕ, ◌+◌, ◌-◌, ◌*◌, ◌<◌, ◌≤◌, get_or, set, length};
 ghost use Rattle.std.proofs.lemmas.List.Edits.{sets};
 ghost use Rattle.laws.specs.Rows.{numbers_from};
@@ -38,7 +40,7 @@ pub type Cells = [u16; PLACES * CELLS * CELL];
 
 pub type Opens = [u16; OPENS * OPEN];
 
-#[derive(Drop)]
+#[derive(Clone, Copy)]
 pub struct Desk {
     pub applied: [u16; PLACES],
     pub clock: Clock,

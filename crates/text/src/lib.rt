@@ -1,4 +1,6 @@
 // Text both ways: numbers in decimal and byte strings written into a lent buffer, and numbers read from fields.
+#![tactic(auto)]
+
 ghost use Rattle.std.specs.Prelude.{◌≡◌, ◌++◌, ◌+◌, ◌<◌, ◌≤◌, length};
 ghost use Rattle.laws.specs.Stores.{Stored};
 ghost use Rattle.text.specs.Number.{most_number, most_digits, decimal};

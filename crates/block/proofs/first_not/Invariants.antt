@@ -1,0 +1,10 @@
+use Rattle.block.specs.{Limits.{block_bytes}, Mirror.BlockTests.{PassesAt}}
+use Rattle.laws.specs.{Cat.{part}, Says.{Says, apart}, Kit.{below_more, length-take, length-drop, not-true, not-false, arith, ◌≡◌, ℕ, ◌<◌}}
+use Rattle.laws.specs.Kit.{◌≤◌, ◌+◌, ◌*◌, ◌-◌}
+use Rattle.block.proofs.first_not.Given as goal
+
+abbrev pub invariant-loop-k : goal.invariant-loop-k
+invariant-loop-k l = (l.k ≤ l.count) × ((j : ℕ) → j < l.k → PassesAt l.test l.b j)
+
+abbrev pub decreases-loop-k : goal.decreases-loop-k
+decreases-loop-k l = l.count - l.k

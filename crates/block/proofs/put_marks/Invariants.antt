@@ -1,0 +1,9 @@
+use Rattle.block.specs.{Link.BlockFill.{tab_put}, Block.{mark_bytes}}
+use Rattle.laws.specs.{Tab.{tab, tab_from}, Kit.{sets, get_or, ◌≡◌, ◌∙◌, arith, ◌≤◌, ◌-◌}}
+use Rattle.block.proofs.put_marks.Given as goal
+
+abbrev pub invariant-loop-t : goal.invariant-loop-t
+invariant-loop-t l = (l.t ≤ l.p) × (l.b ≡ sets l.initial.b l.at (tab l.t (λ k. get_or l.v k 0)))
+
+abbrev pub decreases-loop-t : goal.decreases-loop-t
+decreases-loop-t l = l.p - l.t

@@ -1,0 +1,9 @@
+use Rattle.block.specs.{Link.BlockFill.{sets_more}, Block.{word, vector_words}}
+use Rattle.laws.specs.{Cat.{cat, length-cat}, Kit.{sets, get_or, ◌≡◌, refl, ◌∙◌, arith, ◌≤◌, ◌-◌, ◌*◌}}
+use Rattle.block.proofs.put_words.Given as goal
+
+abbrev pub invariant-loop-t : goal.invariant-loop-t
+invariant-loop-t l = (l.t ≤ l.p) × (l.b ≡ sets l.initial.b l.at (cat (λ k. word (get_or l.v k 0)) l.t))
+
+abbrev pub decreases-loop-t : goal.decreases-loop-t
+decreases-loop-t l = l.p - l.t

@@ -1,0 +1,9 @@
+use Rattle.laws.specs.{Says.{Says, says_as, clash}, Kit.{⊎_elim, List, length, get_or, below_more, ext_get_or, ap, arith, ◌≡◌, refl, ℕ, ◌≤◌}}
+use Rattle.laws.specs.Kit.{◌<◌, ◌-◌}
+use Rattle.block.proofs.same.Given as goal
+
+abbrev pub invariant-loop-i : goal.invariant-loop-i
+invariant-loop-i l = (l.i ≤ length l.a) × Says l.same ((k : ℕ) → k < l.i → get_or l.a k 0 ≡ get_or l.b k 0)
+
+abbrev pub decreases-loop-i : goal.decreases-loop-i
+decreases-loop-i l = length l.a - l.i

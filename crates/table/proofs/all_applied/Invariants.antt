@@ -1,0 +1,11 @@
+use Rattle.machine.specs.{Table.{done}, Steps.{everywhere}}
+use Rattle.laws.specs.{Kit.{◌≤◌, ◌-◌, ◌+◌, ◌≡◌, sym, ◌∙◌, arith, eq-eqb, ne_eqb, eqb}, All.{Rest, rest-fails, rest-next, rest_end}}
+use Rattle.clock.specs.Vectors.{place, place_at}
+use Rattle.table.specs.{Value.{open_at}, Model.{open_m}}
+use Rattle.table.proofs.all_applied.Given as goal
+
+abbrev pub invariant-loop-t : goal.invariant-loop-t
+invariant-loop-t l = (1 ≤ l.t) × Rest (λ j. eqb (place (open_at l.opens l.e).marks j) done) (l.n + 1) (everywhere l.n (open_m (open_at l.opens l.e))) l.t
+
+abbrev pub decreases-loop-t : goal.decreases-loop-t
+decreases-loop-t l = l.n + 1 - l.t

@@ -1,0 +1,11 @@
+use Rattle.laws.specs.Kit.{sym, ◌∙◌}
+use Rattle.table.specs.Beginning.{begins-yes, begins-no}
+use Rattle.table.proofs.begin.Goals as goal
+
+pub returns-then-begins : goal.returns-then-begins
+returns-then-begins c = let g = c.args in
+    rw c.fresh-t.ensures (begins-yes g.n g.m (sym c.begins.ensures ∙ c.if-begins.true))
+
+pub returns : goal.returns
+returns c = let g = c.args in
+    rw c.fresh-none.ensures (begins-no g.n g.m (sym c.begins.ensures ∙ c.if-begins.false))

@@ -1,0 +1,9 @@
+use Rattle.table.specs.{Value.{entries}, EntryNames.{named_at, Seen, seen_none, seen_more, seen_all}}
+use Rattle.laws.specs.Kit.{◌-◌, sym, ◌∙◌, arith}
+use Rattle.table.proofs.find.Given as goal
+
+abbrev pub invariant-loop-j : goal.invariant-loop-j
+invariant-loop-j l = Seen (named_at l.opens l.u l.k) l.first l.j
+
+abbrev pub decreases-loop-j : goal.decreases-loop-j
+decreases-loop-j l = entries - l.j
