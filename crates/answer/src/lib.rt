@@ -1,4 +1,6 @@
 // The output lines of answers, as bytes (document 01, "Schedule text").
+#![tactic(auto)]
+
 ghost use Rattle.std.specs.Prelude.{◌≡◌, ◌+◌, ◌<◌, ◌≤◌, min, ◌++◌, length};
 ghost use Rattle.laws.specs.Stores.{Stored};
 ghost use Rattle.machine.specs.Table.{name, most_open};

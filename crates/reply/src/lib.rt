@@ -1,7 +1,7 @@
 // The answers to steps, and why one is refused, as values (document 01, "Steps and answers"). Their text is in `answer`.
 
 // Why a line or a call is refused.
-#[derive(Drop)]
+#[derive(Clone, Copy)]
 pub enum Refusal {
     NoDesk,
     NoCell,
@@ -27,7 +27,7 @@ pub const APPLIED: usize = 64;
 pub const NAMES: usize = 2 * APPLIED;
 
 // The answer to a line. Applied holds how many names there are: they stand in an array beside it.
-#[derive(Drop)]
+#[derive(Clone, Copy)]
 pub enum Answer {
     Begun,
     Unset,

@@ -1,4 +1,6 @@
 // Whether a table value keeps the rules of the image.
+#![tactic(auto)]
+
 ghost use Rattle.std.specs.Prelude.{◌≡◌, not, ◌&&◌, ℕ, ◌<◌, ◌≤◌, get_or, leb, ltb, eqb};
 ghost use Rattle.laws.specs.Says.{Says};
 ghost use Rattle.machine.specs.Table.{most_writes};

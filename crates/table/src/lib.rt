@@ -62,7 +62,7 @@ pub struct Cell {
 }
 
 // Writer 0: the entry is free. A mark: 0 not received, 1 held, 2 applied.
-#[derive(Drop)]
+#[derive(Clone, Copy)]
 pub struct Open {
     pub writer: u16,
     pub status: u16,

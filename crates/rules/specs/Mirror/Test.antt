@@ -13,11 +13,11 @@ use Rattle.table.specs.Beginning.{zeros-at}
 -- what the test computes with --
 
 -- each desk's count of its own writes
-abbrev pub field_own : List Desk → ℕ → ℕ
-field_own ds t = get_or (get_or ds t desk0).applied t 0
+abbrev pub own_at : List Desk → ℕ → ℕ
+own_at ds t = get_or (get_or ds t desk0).applied t 0
 
 unfoldable pub owns : List Desk → List ℕ
-owns ds = tab places (field_own ds)
+owns ds = tab places (own_at ds)
 
 -- the largest number up to k that f has not, or 0
 unfoldable pub gap_of : (ℕ → Bool) → ℕ → ℕ

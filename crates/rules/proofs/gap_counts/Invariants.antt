@@ -1,0 +1,10 @@
+use Rattle.laws.specs.{Kit.{ap, ◌∙◌, ℕ, ◌-◌, get_or, add-one}, Tab.{FilledTo, filled_start, filled_more, filled_end}}
+use Rattle.clock.specs.Vectors.{places}
+use Rattle.rules.specs.Mirror.Test.{has, gap_of, gap_at, gaps}
+use Rattle.rules.proofs.gap_counts.Given as goal
+
+abbrev pub invariant-loop-t : goal.invariant-loop-t
+invariant-loop-t l = FilledTo places (gap_at l.own l.opens) l.initial.v l.v l.t
+
+abbrev pub decreases-loop-t : goal.decreases-loop-t
+decreases-loop-t l = places - l.t

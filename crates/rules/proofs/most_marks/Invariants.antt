@@ -1,0 +1,10 @@
+use Rattle.laws.specs.{Kit.{◌-◌}, Tab.{FilledTo, filled_start, filled_more, filled_end}}
+use Rattle.clock.specs.Vectors.{places}
+use Rattle.rules.specs.Mirror.Parts.{most_at, most_marks}
+use Rattle.rules.proofs.most_marks.Given as goal
+
+abbrev pub invariant-loop-t : goal.invariant-loop-t
+invariant-loop-t l = FilledTo places (most_at l.n) l.initial.v l.v l.t
+
+abbrev pub decreases-loop-t : goal.decreases-loop-t
+decreases-loop-t l = places - l.t

@@ -1,0 +1,10 @@
+use Rattle.laws.specs.{Kit.{◌-◌}, Tab.{FilledTo, filled_start, filled_more, filled_end}}
+use Rattle.clock.specs.Vectors.{places}
+use Rattle.rules.specs.Mirror.Test.{own_at, owns}
+use Rattle.rules.proofs.own_counts.Given as goal
+
+abbrev pub invariant-loop-t : goal.invariant-loop-t
+invariant-loop-t l = FilledTo places (own_at l.desks) l.initial.v l.v l.t
+
+abbrev pub decreases-loop-t : goal.decreases-loop-t
+decreases-loop-t l = places - l.t
