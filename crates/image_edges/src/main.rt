@@ -1,42 +1,43 @@
 // The edges of the saved image, run.
+#![tactic(auto)]
+
 use block::{BLOCK, CHECK, PAYLOAD_AT};
 use clock::{Clock, PLACES};
 use image::Saving;
-use libc::STDOUT_FILENO;
 use load::Outcome;
+use std::io;
 use table::{CELL, CELLS, Core, Desk, OPEN, OPENS, Table};
 
-fn say(line: &[u8]) {
-    io::write_all(STDOUT_FILENO, line);
+fn say(rt: &impl Print, line: &[u8]) -> io::Result<()> {
+    rt.write_all(line)
 }
 
-fn saving(s: Saving) {
+fn saving(rt: &impl Print, s: Saving) -> io::Result<()> {
     match s {
         Saving::Length(n) => {
             if n == 3072 {
-                say(b"3072 bytes\n");
+                say(rt, b"3072 bytes\n")
             } else {
-                say(b"another length\n");
+                say(rt, b"another length\n")
             }
         }
-        Saving::Broken => say(b"13\n"),
-        Saving::Short => say(b"14\n"),
+        Saving::Broken => say(rt, b"13\n"),
+        Saving::Short => say(rt, b"14\n"),
     }
 }
 
-fn say_place(number: &[u8], place: usize) {
-    say(number);
-    say(b" at block ");
-    io::print_decimal(STDOUT_FILENO, place as u64);
-    say(b"\n");
+fn say_place(rt: &impl Print, number: &[u8], place: usize) -> io::Result<()> {
+    say(rt, number)?;
+    say(rt, b" at block ")?;
+    rt.println(place)
 }
 
-fn loading(o: Outcome) {
+fn loading(rt: &impl Print, o: Outcome) -> io::Result<()> {
     match o {
-        Outcome::Accepted => say(b"loaded\n"),
-        Outcome::WrongLength => say(b"15\n"),
-        Outcome::Damaged(k) => say_place(b"12", k),
-        Outcome::Broken(k) => say_place(b"13", k),
+        Outcome::Accepted => say(rt, b"loaded\n"),
+        Outcome::WrongLength => say(rt, b"15\n"),
+        Outcome::Damaged(k) => say_place(rt, b"12", k),
+        Outcome::Broken(k) => say_place(rt, b"13", k),
     }
 }
 
@@ -80,58 +81,63 @@ fn one_write(entry: usize) -> Table {
     }
 }
 
-fn tell(b: bool) {
+fn tell(rt: &impl Print, b: bool) -> io::Result<()> {
     if b {
-        say(b"yes\n");
+        say(rt, b"yes\n")
     } else {
-        say(b"no\n");
+        say(rt, b"no\n")
     }
 }
 
 // Save into the first n bytes.
-fn save_into(t: Table, out: &mut [u8], n: usize) {
+fn save_into(rt: &impl Print, t: Table, out: &mut [u8], n: usize) -> io::Result<()> {
     let z = 0;
     if n <= out.len() {
-        saving(image::save(t, &mut out[z..n]));
+        saving(rt, image::save(t, &mut out[z..n]))?;
     }
+    Ok(())
 }
 
 // Load the first n bytes.
-fn load_from(b: &[u8], n: usize) {
+fn load_from(rt: &impl Print, b: &[u8], n: usize) -> io::Result<()> {
     let z = 0;
     if n <= b.len() {
         let r = load::load(&b[z..n]);
         let a = r.answer;
-        loading(a);
+        loading(rt, a)?;
     }
+    Ok(())
 }
 
 // Are the bytes from n on the same?
-fn same_from(a: &[u8], b: &[u8], n: usize) {
+fn same_from(rt: &impl Print, a: &[u8], b: &[u8], n: usize) -> io::Result<()> {
     if n <= a.len() {
         if n <= b.len() {
-            tell(check::same(&a[n..], &b[n..]));
+            tell(rt, a[n..] == b[n..])?;
         }
     }
+    Ok(())
 }
 
-fn same_upto(a: &[u8], b: &[u8], n: usize) {
+fn same_upto(rt: &impl Print, a: &[u8], b: &[u8], n: usize) -> io::Result<()> {
     let z = 0;
     if n <= a.len() {
         if n <= b.len() {
-            tell(check::same(&a[z..n], &b[z..n]));
+            tell(rt, a[z..n] == b[z..n])?;
         }
     }
+    Ok(())
 }
 
 // Load the first n bytes, and save what was loaded.
-fn reload(b: &[u8], n: usize, out: &mut [u8]) {
+fn reload(rt: &impl Print, b: &[u8], n: usize, out: &mut [u8]) -> io::Result<()> {
     let z = 0;
     if n <= b.len() {
         let r = load::load(&b[z..n]);
         let t = r.table;
-        saving(image::save(t, out));
+        saving(rt, image::save(t, out))?;
     }
+    Ok(())
 }
 
 fn put(b: &mut [u8], at: usize, x: u8) {
@@ -151,61 +157,61 @@ fn bend(b: &mut [u8]) {
     }
 }
 
-fn short(out: &mut [u8], found: &[u8]) {
-    say(b"a buffer one byte short: ");
-    save_into(one_write(5), out, 3071);
-    say(b"left as found: ");
-    same_from(out, found, 0);
+fn short(rt: &impl Print, out: &mut [u8], found: &[u8]) -> io::Result<()> {
+    say(rt, b"a buffer one byte short: ")?;
+    save_into(rt, one_write(5), out, 3071)?;
+    say(rt, b"left as found: ")?;
+    same_from(rt, out, found, 0)
 }
 
-fn long(out: &mut [u8], found: &[u8]) {
-    say(b"long enough: ");
-    save_into(one_write(5), out, 4000);
-    say(b"bytes past the image stay: ");
-    same_from(out, found, 3072);
-    say(b"reloaded: ");
-    load_from(out, 3072);
+fn long(rt: &impl Print, out: &mut [u8], found: &[u8]) -> io::Result<()> {
+    say(rt, b"long enough: ")?;
+    save_into(rt, one_write(5), out, 4000)?;
+    say(rt, b"bytes past the image stay: ")?;
+    same_from(rt, out, found, 3072)?;
+    say(rt, b"reloaded: ")?;
+    load_from(rt, out, 3072)
 }
 
-fn saved_again(out: &[u8], again: &mut [u8]) {
-    say(b"and saved again gives its bytes: ");
-    reload(out, 3072, again);
-    same_upto(out, again, 3072);
+fn saved_again(rt: &impl Print, out: &[u8], again: &mut [u8]) -> io::Result<()> {
+    say(rt, b"and saved again gives its bytes: ")?;
+    reload(rt, out, 3072, again)?;
+    same_upto(rt, out, again, 3072)
 }
 
-fn elsewhere(other: &mut [u8], again: &[u8]) {
-    say(b"the write in another entry gives the same bytes: ");
-    save_into(one_write(63), other, 3072);
-    same_upto(other, again, 3072);
+fn elsewhere(rt: &impl Print, other: &mut [u8], again: &[u8]) -> io::Result<()> {
+    say(rt, b"the write in another entry gives the same bytes: ")?;
+    save_into(rt, one_write(63), other, 3072)?;
+    same_upto(rt, other, again, 3072)
 }
 
-fn lost(other: &mut [u8]) {
-    say(b"the open write lost: ");
-    save_into(one_write(64), other, 3072);
+fn lost(rt: &impl Print, other: &mut [u8]) -> io::Result<()> {
+    say(rt, b"the open write lost: ")?;
+    save_into(rt, one_write(64), other, 3072)
 }
 
-fn changed(out: &[u8], again: &mut [u8]) {
-    say(b"a byte more: ");
-    load_from(out, 3073);
-    say(b"a byte of a payload and the check changed: ");
+fn changed(rt: &impl Print, out: &[u8], again: &mut [u8]) -> io::Result<()> {
+    say(rt, b"a byte more: ")?;
+    load_from(rt, out, 3073)?;
+    say(rt, b"a byte of a payload and the check changed: ")?;
     bend(again);
-    load_from(again, 3072);
+    load_from(rt, again, 3072)
 }
 
-fn main() {
+fn main(rt: HostRuntime) -> io::Result<()> {
     let zeros = [0u8; BLOCK];
-    say(b"an all-zero block: ");
-    load_from(&zeros, BLOCK);
-    say(b"nothing: ");
-    load_from(&zeros, 0);
+    say(&rt, b"an all-zero block: ")?;
+    load_from(&rt, &zeros, BLOCK)?;
+    say(&rt, b"nothing: ")?;
+    load_from(&rt, &zeros, 0)?;
     let found = [7u8; 4000];
     let mut out = [7u8; 4000];
     let mut again = [7u8; 3072];
     let mut other = [7u8; 3072];
-    short(&mut out, &found);
-    long(&mut out, &found);
-    saved_again(&out, &mut again);
-    elsewhere(&mut other, &again);
-    lost(&mut other);
-    changed(&out, &mut again);
+    short(&rt, &mut out, &found)?;
+    long(&rt, &mut out, &found)?;
+    saved_again(&rt, &out, &mut again)?;
+    elsewhere(&rt, &mut other, &again)?;
+    lost(&rt, &mut other)?;
+    changed(&rt, &out, &mut again)
 }

@@ -3,11 +3,16 @@
 // The schedule on standard input is run on two tables. The first is never saved; the second is saved and reloaded, in a first run where a line S
 // stands, in a second run after every step. For each step: the answers of both, whether these are the same, and whether the saved images are. A
 // line Z goes back to no table.
+#![tactic(auto)]
+
+ghost use Rattle.std.specs.Prelude.{IfOk};
+ghost use Rattle.std.specs.Io.{ReadsAtMost};
 ghost use Rattle.image_reload.specs.Live.{Live};
 
 use image::{IMAGE, Saving};
-use libc::{STDIN_FILENO, STDOUT_FILENO};
 use load::Outcome;
+use std::io;
+use std::io::Read;
 use table::Table;
 
 // The most bytes of the schedule.
@@ -31,32 +36,33 @@ struct Image {
 }
 
 // The table that was never saved, and the one that was.
-#[derive(Drop)]
+#[derive(Clone, Copy)]
 struct Two {
     kept: Table,
     reloaded: Table,
 }
 
-fn say(line: &[u8]) {
-    io::write_all(STDOUT_FILENO, line);
+fn say(rt: &impl Print, line: &[u8]) -> io::Result<()> {
+    rt.write_all(line)
 }
 
-fn say_same(same: bool) {
+fn say_same(rt: &impl Print, same: bool) -> io::Result<()> {
     if same {
-        say(b" | same");
+        say(rt, b" | same")
     } else {
-        say(b" | DIFFERENT");
+        say(rt, b" | DIFFERENT")
     }
 }
 
 // The first bytes of a buffer, without their LF.
-fn emit(all: &[u8], len: usize) {
+fn emit(rt: &impl Print, all: &[u8], len: usize) -> io::Result<()> {
     if 0 < len {
         if len <= all.len() {
             let e = len - 1;
-            say(&all[0..e]);
+            say(rt, &all[0..e])?;
         }
     }
+    Ok(())
 }
 
 // A step, the line with its LF.
@@ -104,84 +110,84 @@ fn same_image(a: Table, b: Table) -> bool {
     }
     let p = x.bytes;
     let q = y.bytes;
-    check::same(&p, &q)
+    p == q
 }
 
-fn say_outcome(o: Outcome) {
+fn say_outcome(rt: &impl Print, o: Outcome) -> io::Result<()> {
     match o {
-        Outcome::Accepted => say(b" | reloaded"),
-        Outcome::WrongLength => say(b" | NOT RELOADED: 15"),
-        Outcome::Damaged(_place) => say(b" | NOT RELOADED: 12"),
-        Outcome::Broken(_place) => say(b" | NOT RELOADED: 13"),
+        Outcome::Accepted => say(rt, b" | reloaded"),
+        Outcome::WrongLength => say(rt, b" | NOT RELOADED: 15"),
+        Outcome::Damaged(_place) => say(rt, b" | NOT RELOADED: 12"),
+        Outcome::Broken(_place) => say(rt, b" | NOT RELOADED: 13"),
     }
 }
 
 // The table of an image; none where it is refused.
-fn loaded(b: &[u8]) -> Table
-    ensures { Live result }
+fn loaded(rt: &impl Print, b: &[u8]) -> io::Result<Table>
+    ensures { IfOk result (λ t. Live t) }
 {
     let l = load::load(b);
     let o = l.answer;
-    say_outcome(o);
-    l.table
+    say_outcome(rt, o)?;
+    Ok(l.table)
 }
 
-fn load_first(b: &[u8], len: usize) -> Table
-    ensures { Live result }
+fn load_first(rt: &impl Print, b: &[u8], len: usize) -> io::Result<Table>
+    ensures { IfOk result (λ t. Live t) }
 {
     let z = 0;
     if b.len() < len {
-        return loaded(b);
+        return loaded(rt, b);
     }
-    loaded(&b[z..len])
+    loaded(rt, &b[z..len])
 }
 
 // A table saved and reloaded. What is not saved is not reloaded: no bytes are 12.
-fn reload(t: Table) -> Table
-    ensures { Live result }
+fn reload(rt: &impl Print, t: Table) -> io::Result<Table>
+    ensures { IfOk result (λ u. Live u) }
 {
     let x = saved(t);
     let b = x.bytes;
-    load_first(&b, x.len)
+    load_first(rt, &b, x.len)
 }
 
 // A step of both.
-fn both(t: Two, line: &[u8]) -> Two
+fn both(rt: &impl Print, t: Two, line: &[u8]) -> io::Result<Two>
     requires { Live t.kept × Live t.reloaded }
-    ensures { Live result.kept × Live result.reloaded }
+    ensures { IfOk result (λ u. Live u.kept × Live u.reloaded) }
 {
     let a = step(t.kept, line);
     let b = step(t.reloaded, line);
     let x = a.answer;
     let y = b.answer;
-    emit(&x, a.len);
-    say(b" | ");
-    emit(&y, b.len);
-    say_same(check::same(&x, &y));
+    emit(rt, &x, a.len)?;
+    say(rt, b" | ")?;
+    emit(rt, &y, b.len)?;
+    say_same(rt, x == y)?;
     let kept = a.table;
     let reloaded = b.table;
-    Two {
+    Ok(Two {
         kept: kept,
         reloaded: reloaded,
-    }
+    })
 }
 
 // The second saved and reloaded.
-fn again(t: Two) -> Two
+fn again(rt: &impl Print, t: Two) -> io::Result<Two>
     requires { Live t.kept × Live t.reloaded }
-    ensures { Live result.kept × Live result.reloaded }
+    ensures { IfOk result (λ u. Live u.kept × Live u.reloaded) }
 {
     let kept = t.kept;
-    let reloaded = reload(t.reloaded);
-    Two {
+    let reloaded = reload(rt, t.reloaded)?;
+    Ok(Two {
         kept: kept,
         reloaded: reloaded,
-    }
+    })
 }
 
-fn compare(t: Two) {
-    say_same(same_image(t.kept, t.reloaded));
-    say(b"\n");
+fn compare(rt: &impl Print, t: Two) -> io::Result<()> {
+    say_same(rt, same_image(t.kept, t.reloaded))?;
+    say(rt, b"\n")
 }
 
 // No table.
@@ -196,54 +202,70 @@ fn nothing() -> Two
     }
 }
 
-fn one(t: Two, line: &[u8], every: bool) -> Two
+fn one(rt: &impl Print, t: Two, line: &[u8], every: bool) -> io::Result<Two>
     requires { Live t.kept × Live t.reloaded }
-    ensures { Live result.kept × Live result.reloaded }
+    ensures { IfOk result (λ u. Live u.kept × Live u.reloaded) }
 {
-    if check::same(line, b"S\n") {
-        say(b"S");
-        let u = again(t);
-        compare(u);
-        return u;
+    if line == b"S\n".as_slice() {
+        say(rt, b"S")?;
+        let u = again(rt, t)?;
+        compare(rt, u)?;
+        return Ok(u);
     }
-    if check::same(line, b"Z\n") {
-        say(b"Z\n");
-        return nothing();
+    if line == b"Z\n".as_slice() {
+        say(rt, b"Z\n")?;
+        return Ok(nothing());
     }
-    let u = both(t, line);
+    let u = both(rt, t, line)?;
     if every {
-        let w = again(u);
-        compare(w);
-        return w;
+        let w = again(rt, u)?;
+        compare(rt, w)?;
+        return Ok(w);
     }
-    compare(u);
-    u
+    compare(rt, u)?;
+    Ok(u)
 }
 
-fn run(text: &[u8], every: bool) {
+fn run(rt: &impl Print, text: &[u8], every: bool) -> io::Result<()> {
     let mut t = nothing();
     let mut at = 0;
     while at < text.len() {
         let line = schedule::line_at(text, at);
         let len = line.len();
         if text.len() - at <= len {
-            return;
+            return Ok(());
         }
         let next = at + len + 1;
-        t = one(t, &text[at..next], every);
+        t = one(rt, t, &text[at..next], every)?;
         at = next;
     }
+    Ok(())
 }
 
-fn twice(text: &[u8]) {
-    say(b"Saved and reloaded at each S\n");
-    run(text, false);
-    say(b"Saved and reloaded after every step\n");
-    run(text, true);
+fn twice(rt: &impl Print, text: &[u8]) -> io::Result<()> {
+    say(rt, b"Saved and reloaded at each S\n")?;
+    run(rt, text, false)?;
+    say(rt, b"Saved and reloaded after every step\n")?;
+    run(rt, text, true)
 }
 
-fn main() {
+// Reads to the front of the buffer until it is full or the input ends, and returns how many bytes it read.
+fn fill(input: &mut impl Read, buffer: &mut [u8]) -> io::Result<usize>
+    ensures { ReadsAtMost result buffer.new }
+{
+    let mut n = 0;
+    while n < buffer.len() {
+        let more = input.read(&mut buffer[n..])?;
+        if more == 0 {
+            return Ok(n);
+        }
+        n += more;
+    }
+    Ok(n)
+}
+
+fn main(rt: HostRuntime) -> io::Result<()> {
     let mut text = [0u8; TEXT];
-    let n = io::read_full(STDIN_FILENO, &mut text);
-    twice(&text[..n]);
+    let n = fill(&mut rt.stdin(), &mut text)?;
+    twice(&rt, &text[..n])
 }

@@ -6,14 +6,18 @@
 //   b k.j=v k.j=v .. rule            a copy of the image, of b blocks, in which byte j of block k becomes v, is loaded
 //                                    with the checks as they were, and then with right ones
 // Every other line is a comment.
-ghost use Rattle.std.specs.Prelude.{◌+◌, ◌<◌, ◌≤◌, length};
+#![tactic(auto)]
+
+ghost use Rattle.std.specs.Prelude.{◌+◌, ◌<◌, ◌≤◌, length, IfOk};
+ghost use Rattle.std.specs.Io.{ReadsAtMost};
 ghost use Rattle.block.specs.Limits.{block_bytes};
 
 use block::BLOCK;
 use clock::PLACES;
 use image::{IMAGE, Saving};
-use libc::{STDIN_FILENO, STDOUT_FILENO};
 use load::Outcome;
+use std::io;
+use std::io::Read;
 use table::{CELL, CELLS, OPEN, OPENS, Table};
 
 // The most bytes of the input.
@@ -21,14 +25,15 @@ const TEXT: usize = 65536;
 // The most numbers of a line.
 const LIST: usize = 128;
 
-fn say(line: &[u8]) {
-    io::write_all(STDOUT_FILENO, line);
+fn say(rt: &impl Print, line: &[u8]) -> io::Result<()> {
+    rt.write_all(line)
 }
 
-fn emit(all: &[u8], len: usize) {
+fn emit(rt: &impl Print, all: &[u8], len: usize) -> io::Result<()> {
     if len <= all.len() {
-        say(&all[0..len]);
+        say(rt, &all[0..len])?;
     }
+    Ok(())
 }
 
 // The check of the block from a place on, put right.
@@ -54,36 +59,37 @@ fn seal(b: &mut [u8; IMAGE], len: usize) {
     }
 }
 
-fn say_place(number: &[u8], place: usize) {
-    say(number);
-    say(b" at ");
-    io::print_decimal(STDOUT_FILENO, place as u64);
+fn say_place(rt: &impl Print, number: &[u8], place: usize) -> io::Result<()> {
+    say(rt, number)?;
+    say(rt, b" at ")?;
+    rt.print(place)
 }
 
-fn say_outcome(o: Outcome) {
+fn say_outcome(rt: &impl Print, o: Outcome) -> io::Result<()> {
     match o {
-        Outcome::Accepted => say(b" loaded"),
-        Outcome::WrongLength => say(b" 15"),
-        Outcome::Damaged(k) => say_place(b" 12", k),
-        Outcome::Broken(k) => say_place(b" 13", k),
+        Outcome::Accepted => say(rt, b" loaded"),
+        Outcome::WrongLength => say(rt, b" 15"),
+        Outcome::Damaged(k) => say_place(rt, b" 12", k),
+        Outcome::Broken(k) => say_place(rt, b" 13", k),
     }
 }
 
-fn loaded(b: &[u8]) {
+fn loaded(rt: &impl Print, b: &[u8]) -> io::Result<()> {
     let l = load::load(b);
     let o = l.answer;
-    say_outcome(o);
+    say_outcome(rt, o)
 }
 
-fn load_first(b: &[u8], len: usize) {
+fn load_first(rt: &impl Print, b: &[u8], len: usize) -> io::Result<()> {
     let z = 0;
     if len <= b.len() {
-        loaded(&b[z..len]);
+        loaded(rt, &b[z..len])?;
     }
+    Ok(())
 }
 
-fn load_image(b: &[u8; IMAGE], len: usize) {
-    load_first(b, len);
+fn load_image(rt: &impl Print, b: &[u8; IMAGE], len: usize) -> io::Result<()> {
+    load_first(rt, b, len)
 }
 
 // A byte of a line's numbers: a digit of the number at hand, or its end. The result is the number at hand then.
@@ -134,73 +140,80 @@ fn change(b: &mut [u8; IMAGE], list: &[u16; LIST], count: usize) {
 }
 
 // A case: the copy, its answers said behind the line.
-fn broken(good: &[u8; IMAGE], line: &[u8]) {
+fn broken(rt: &impl Print, good: &[u8; IMAGE], line: &[u8]) -> io::Result<()> {
     let mut list = [0u16; LIST];
     let count = numbers(line, &mut list);
     let len = BLOCK * table::wide(list[0]);
     let mut b = *good;
     change(&mut b, &list, count);
-    say(line);
-    say(b":");
-    load_image(&b, len);
+    say(rt, line)?;
+    say(rt, b":")?;
+    load_image(rt, &b, len)?;
     seal(&mut b, len);
-    load_image(&b, len);
-    say(b"\n");
+    load_image(rt, &b, len)?;
+    say(rt, b"\n")
 }
 
 // The table that a schedule leaves, its answers said.
-fn replay(text: &[u8]) -> Table {
+fn replay(rt: &impl Print, text: &[u8]) -> io::Result<Table> {
     let core = session::start();
     let mut cells = [0u16; PLACES * CELLS * CELL];
     let mut opens = [0u16; OPENS * OPEN];
     let mut out = [0u8; 16384];
     let p = session::run(core, &mut cells, &mut opens, text, 0, &mut out);
     let len = p.len;
-    emit(&out, len);
+    emit(rt, &out, len)?;
     let after = p.core;
-    Table {
+    Ok(Table {
         core: after,
         cells: cells,
         opens: opens,
-    }
+    })
 }
 
-fn save(good: &mut [u8; IMAGE], schedule: &[u8]) {
-    let t = replay(schedule);
+fn save(rt: &impl Print, good: &mut [u8; IMAGE], schedule: &[u8]) -> io::Result<()> {
+    let t = replay(rt, schedule)?;
     let mut b = image::room();
     let s = image::save(t, &mut b);
     let Saving::Length(len) = s else {
-        say(b"not saved\n");
-        return;
+        return say(rt, b"not saved\n");
     };
-    io::print_decimal(STDOUT_FILENO, len as u64);
-    say(b" bytes:");
-    load_image(&b, len);
-    say(b"\n");
+    rt.print(len)?;
+    say(rt, b" bytes:")?;
+    load_image(rt, &b, len)?;
+    say(rt, b"\n")?;
     *good = b;
+    Ok(())
 }
 
 // The line at a place. The result is where the schedule begins.
-fn one(good: &mut [u8; IMAGE], text: &[u8], from: usize, at: usize, line: &[u8]) -> usize
+fn one(
+    rt: &impl Print,
+    good: &mut [u8; IMAGE],
+    text: &[u8],
+    from: usize,
+    at: usize,
+    line: &[u8],
+) -> io::Result<usize>
     requires { (from ≤ at) × (at ≤ length text.now) }
-    ensures { result ≤ at }
+    ensures { IfOk result (λ next. next ≤ at) }
 {
     if line.len() == 0 {
-        return from;
+        return Ok(from);
     }
     let letter = line[0];
     match letter {
         b'N' => {
-            return at;
+            return Ok(at);
         }
-        b'S' => save(good, &text[from..at]),
-        b'0'..=b'9' => broken(good, line),
+        b'S' => save(rt, good, &text[from..at])?,
+        b'0'..=b'9' => broken(rt, good, line)?,
         _ => {}
     }
-    from
+    Ok(from)
 }
 
-fn run(text: &[u8]) {
+fn run(rt: &impl Print, text: &[u8]) -> io::Result<()> {
     let mut good = image::room();
     let mut from = 0;
     let mut at = 0;
@@ -208,15 +221,31 @@ fn run(text: &[u8]) {
         let line = schedule::line_at(text, at);
         let len = line.len();
         if text.len() - at <= len {
-            return;
+            return Ok(());
         }
-        from = one(&mut good, text, from, at, line);
+        from = one(rt, &mut good, text, from, at, line)?;
         at = at + len + 1;
     }
+    Ok(())
 }
 
-fn main() {
+// Reads to the front of the buffer until it is full or the input ends, and returns how many bytes it read.
+fn fill(input: &mut impl Read, buffer: &mut [u8]) -> io::Result<usize>
+    ensures { ReadsAtMost result buffer.new }
+{
+    let mut n = 0;
+    while n < buffer.len() {
+        let more = input.read(&mut buffer[n..])?;
+        if more == 0 {
+            return Ok(n);
+        }
+        n += more;
+    }
+    Ok(n)
+}
+
+fn main(rt: HostRuntime) -> io::Result<()> {
     let mut text = [0u8; TEXT];
-    let n = io::read_full(STDIN_FILENO, &mut text);
-    run(&text[..n]);
+    let n = fill(&mut rt.stdin(), &mut text)?;
+    run(&rt, &text[..n])
 }

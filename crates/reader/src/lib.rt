@@ -1,5 +1,7 @@
 // Document 01, "Schedule text": the reader holds the schedule and how far it has read. Each function over it takes it apart and
 // calls a function on the slice and the number.
+#![tactic(auto)]
+
 ghost use Rattle.std.specs.Prelude.{◌≡◌};
 ghost use Rattle.schedule.specs.Lines.{line_at, ended_at, end_at, next_at, place_in};
 

@@ -1,8 +1,9 @@
 -- The answers to a whole text, part by part.
 use Rattle.laws.specs.Kit.{◌≡◌, refl, sym, ap, ◌∙◌, List, [], ◌++◌, append_assoc, append-nil, none, ℕ, ◌+◌, ◌-◌, ◌*◌, ◌<◌, ◌≤◌, arith}
 use Rattle.laws.specs.{Kit.{length, take, drop, length-append, take_at, drop_at}, Text.{text as bytes}}
-use Rattle.io.specs.Counts.{IsPrefixLen}
-use Rattle.replay.specs.{declared.Input.{Input}, declared.Input.TheVariants.{Read, Failed}}
+use Rattle.laws.specs.Kit.{take-add, take_all}
+use Rattle.std.specs.Prelude.{Result, Option, None as Unknown, Some as Known}
+use Rattle.std.specs.{Io.{ReadsAtMost}, Io.KnownBytes.{Appends}}
 use Rattle.table.specs.{declared.Core.{Core}, Model.{table_with}}
 use Rattle.session.specs.{Session.{Session}, Transcript.{transcript_from, most_text, transcript}}
 use Rattle.session.specs.{TranscriptLaws.{from_end, transcript-run, transcript-long}, Holds.{zero_cells, zero_opens, zero_core, Holds}}
@@ -63,11 +64,35 @@ module _ {text : List ℕ} where
         let e : transcript text ≡ g.lines = g.rest ∙ ap (λ (x : List ℕ). g.lines ++ x) (from_end g.session text at h) ∙ append-nil g.lines in
         g.sent_is ∙ ap length (sym e)
 
--- so many bytes stand at the front of the buffer
-abbrev pub Filled : Input → List ℕ → Type 0
-Filled (Read n) buffer = IsPrefixLen n buffer
-Filled Failed buffer = Unit {0}
+-- so many bytes stand at the front of the buffer, where the input could be read
+abbrev pub Filled : {E : Type 0} → Result ℕ E → List ℕ → Type 0
+Filled r buffer = ReadsAtMost r buffer
 
 -- the one line for a text that is too long
 pub long_comes : (text : List ℕ) → most_text < length text → Comes (transcript text) 0 5 (bytes "E 14\n")
 long_comes s h = record { is = rw (transcript-long s h); ends = refl }
+
+-- A writer whose bytes are known holds what was handed over. At first that is nothing.
+pub written-none : (a : Option (List ℕ)) (all : List ℕ) → Appends a a (take 0 all)
+written-none Unknown all = tt
+written-none (Known xs) all = sym (append-nil xs)
+
+written-both : (a b c : Option (List ℕ)) (x y z : List ℕ) → z ≡ x ++ y → Appends a b x → Appends b c y → Appends a c z
+written-both Unknown b c x y z e p q = tt
+written-both (Known xs) Unknown c x y z e p q = absurd p
+written-both (Known xs) (Known ys) Unknown x y z e p q = absurd q
+written-both (Known xs) (Known ys) (Known zs) x y z e p q =
+    q ∙ ap (λ (w : List ℕ). w ++ y) p ∙ append_assoc xs x y ∙ ap (λ (w : List ℕ). xs ++ w) (sym e)
+
+-- what comes next, written
+pub written-on : (a b c : Option (List ℕ)) {all : List ℕ} {sent next : ℕ} {part : List ℕ} → Comes all sent next part
+    → Appends a b (take sent all) → Appends b c part → Appends a c (take next all)
+written-on a b c {all} {sent} {next} {part} h p q =
+    let e : sent + (next - sent) ≡ next = omega (arith, h.ends) in
+    let t : take next all ≡ take sent all ++ part =
+    ap (λ (n : ℕ). take n all) (sym e) ∙ take-add sent (next - sent) all ∙ ap (λ (w : List ℕ). take sent all ++ w) (sym h.is) in
+    written-both a b c (take sent all) part (take next all) t p q
+
+-- all of it written
+pub written-all : (a b : Option (List ℕ)) (all : List ℕ) (sent : ℕ) → sent ≡ length all → Appends a b (take sent all) → Appends a b all
+written-all a b all sent e p = let t : take sent all ≡ all = take_all sent all (omega (arith, e)) in rw (← t) p

@@ -1,24 +1,29 @@
 // Reads a schedule from standard input and writes the answers.
-ghost use Rattle.std.specs.Prelude.{◌≡◌, ◌<◌, ◌≤◌, length};
+#![tactic(auto)]
+
+ghost use Rattle.std.specs.Prelude.{◌≡◌, ◌<◌, ◌≤◌, length, OnOk};
+ghost use Rattle.std.specs.Io.KnownBytes.{Appends};
 ghost use Rattle.session.specs.Transcript.{most_text, transcript};
 ghost use Rattle.replay.specs.Answers.{Comes, Filled};
 
 use clock::PLACES;
-use libc::{STDERR_FILENO, STDIN_FILENO, STDOUT_FILENO};
+use std::io;
+use std::io::{Read, Write};
 use table::{CELL, CELLS, OPEN, OPENS};
 
 // The most bytes of a schedule.
 const LONGEST_TEXT: usize = 65536;
 
-// What is written, and what is read of an input that is too long, at a time.
+// What is written at a time.
 const PART: usize = 16384;
 
-// The one place that writes to standard output. It asks that what it is handed is what comes next of all that is printed for the text: from so
-// many bytes, which were handed over before, up to so many.
-fn print(text: &[u8], sent: usize, next: usize, part: &[u8]) -> bool
+// The one place that writes answers. It asks that what it is handed is what comes next of all that is printed for the text: from so many bytes,
+// which were handed over before, up to so many.
+fn print<W: Write>(to: &mut W, text: &[u8], sent: usize, next: usize, part: &[u8]) -> io::Result<()>
     requires { Comes (transcript text.now) sent next part.now }
+    ensures { OnOk result (Appends (W.contents to.old) (W.contents to.new) part.now) }
 {
-    io::write_all(STDOUT_FILENO, part)
+    to.write_all(part)
 }
 
 // Nothing is done here: it asks that all that is printed for the text was handed over.
@@ -26,9 +31,10 @@ fn all_sent(text: &[u8], sent: usize)
     requires { sent ≡ length (transcript text.now) }
 {}
 
-// The lines of a text one after the other, each part of the answers written. False where a write failed.
-fn lines(text: &[u8]) -> bool
+// The lines of a text one after the other, each part of the answers written.
+fn lines<W: Write>(to: &mut W, text: &[u8]) -> io::Result<()>
     requires { length text.now ≤ most_text }
+    ensures { OnOk result (Appends (W.contents to.old) (W.contents to.new) (transcript text.now)) }
 {
     let mut core = session::start();
     let mut cells = [0u16; PLACES * CELLS * CELL];
@@ -40,105 +46,86 @@ fn lines(text: &[u8]) -> bool
         let p = session::run(core, &mut cells, &mut opens, text, at, &mut out);
         let len = p.len;
         let next = sent + len;
-        if !print(text, sent, next, &out[..len]) {
-            return false;
-        }
+        print(to, text, sent, next, &out[..len])?;
         core = p.core;
         at = p.at;
         sent = next;
     }
     all_sent(text, sent);
-    true
+    Ok(())
 }
 
 // The one line for a text that is too long.
-fn too_long(text: &[u8]) -> bool
+fn too_long<W: Write>(to: &mut W, text: &[u8]) -> io::Result<()>
     requires { most_text < length text.now }
+    ensures { OnOk result (Appends (W.contents to.old) (W.contents to.new) (transcript text.now)) }
 {
-    let done = print(text, 0, 5, b"E 14\n");
+    let done = print(to, text, 0, 5, b"E 14\n");
     all_sent(text, 5);
     done
 }
 
-// Answers a text on standard output. False where a write failed.
-fn answer(text: &[u8]) -> bool {
+// Answers a text: a writer that took all of it holds the transcript, behind what it held before.
+fn answer<W: Write>(to: &mut W, text: &[u8]) -> io::Result<()>
+    ensures { OnOk result (Appends (W.contents to.old) (W.contents to.new) (transcript text.now)) }
+{
     if LONGEST_TEXT < text.len() {
-        return too_long(text);
+        return too_long(to, text);
     }
-    lines(text)
+    lines(to, text)
 }
 
-// The same, and says so where it can't.
-fn reply(text: &[u8]) {
-    if !answer(text) {
-        io::write_all(STDERR_FILENO, b"replay: standard output: write failed\n");
+// The same on standard output, and says so where it can't.
+fn reply(rt: &(impl Print + Eprint), text: &[u8]) -> io::Result<()> {
+    let answered = answer(&mut io::writer(rt), text);
+    if answered.is_err() {
+        eprintln!(rt; "replay: standard output: write failed")?;
     }
+    answered
 }
 
-// So many bytes of the input, or a read that failed.
-#[derive(Drop)]
-enum Input {
-    Read(usize),
-    Failed,
-}
-
-// Reads to the front of the buffer until it is full or the input ends.
-fn fill(buffer: &mut [u8]) -> Input
+// Reads to the front of the buffer until it is full or the input ends, and returns how many bytes it read.
+fn fill(input: &mut impl Read, buffer: &mut [u8]) -> io::Result<usize>
     ensures { Filled result buffer.new }
 {
     let mut n = 0;
     while n < buffer.len() {
-        let got = libc::read(STDIN_FILENO, &mut buffer[n..]);
-        if got < 0 {
-            return Input::Failed;
-        }
-        let more = io::count(got, &buffer[n..]);
+        let more = input.read(&mut buffer[n..])?;
         if more == 0 {
-            return Input::Read(n);
+            return Ok(n);
         }
         n += more;
     }
-    Input::Read(n)
+    Ok(n)
 }
 
-// Reads the rest of the input and throws it away, so that no writer finds its pipe broken. A loop has to end, and nothing says that the input
-// does: the turns are counted down from a number that no run uses up.
-fn drain() -> bool {
-    let mut rest = [0u8; PART];
-    let mut turns = u64::MAX;
-    while turns > 0 {
-        match fill(&mut rest) {
-            Input::Failed => {
-                return false;
-            }
-            Input::Read(n) => {
-                if n < PART {
-                    return true;
-                }
-            }
-        }
-        turns -= 1;
-    }
-    false
+// Reads the rest of the input and throws it away, so that no writer finds its pipe broken.
+fn drain(input: &mut impl Read) -> io::Result<()> {
+    io::copy(input, &mut io::sink())?;
+    Ok(())
 }
 
-fn unread() {
-    io::write_all(STDERR_FILENO, b"replay: standard input: read failed\n");
+// Says that the input could not be read, and hands on why.
+fn unread(rt: &impl Eprint, error: io::Error) -> io::Result<()> {
+    eprintln!(rt; "replay: standard input: read failed")?;
+    Err(error)
 }
 
-// A program of this language has no exit status of its own: what failed is said on standard error. An input that could not be read to its end
-// is not answered, but where it is too long already.
-fn main() {
+// What failed is said on standard error, and ends the process with status 1. An input that could not be read to its end is not answered, but where
+// it is too long already.
+fn main(rt: HostRuntime) -> io::Result<()> {
+    let mut input = rt.stdin();
     let mut text = [0u8; LONGEST_TEXT + 1];
-    match fill(&mut text) {
-        Input::Failed => unread(),
-        Input::Read(n) => {
-            reply(&text[..n]);
+    match fill(&mut input, &mut text) {
+        Err(error) => unread(&rt, error),
+        Ok(n) => {
+            let replied = reply(&rt, &text[..n]);
             if LONGEST_TEXT < n {
-                if !drain() {
-                    unread();
+                if let Err(error) = drain(&mut input) {
+                    return unread(&rt, error);
                 }
             }
+            replied
         }
     }
 }

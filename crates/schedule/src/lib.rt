@@ -1,4 +1,6 @@
 // Document 01, "Schedule text": the lines of a schedule, and what a line says.
+#![tactic(auto)]
+
 ghost use Rattle.std.specs.Prelude.{◌≡◌, ◌<◌, ◌≤◌, length};
 ghost use Rattle.schedule.specs.Lines.{line_at, end_at, place_in};
 ghost use Rattle.schedule.specs.Grammar.{most_bytes, line_of, two, three, one_or_more};

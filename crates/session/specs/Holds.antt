@@ -7,7 +7,9 @@ use Rattle.machine.specs.Rules.{In}
 use Rattle.machine.proofs.RulesKept.{fresh-rules}
 use Rattle.table.specs.{declared.Core.{Core}, declared.Desk.{Desk}, declared.Table.{Table}, Value.{desk0, all_cells, cell_width, entries}}
 use Rattle.table.specs.{Value.{open_width, cell_at, full-cell_at, cell-status, cell-vector}, Model.{model_of, table_of, table_with}}
-use Rattle.table.specs.{Sound.{AllZero, SoundTable}, Beginning.{fresh_desk, fresh_table, fresh-model, zeros-at, unique-zeros}}
+use Rattle.table.specs.Sound.{AllZero, SoundTable}
+use Rattle.table.specs.Beginning.{fresh_desk, fresh_table, zeros-at, unique-zeros}
+use Rattle.table.proofs.Beginning.{fresh-model}
 use Rattle.rules.specs.{Mirror.Test.{own_at, owns}, Link.ArrayLimits.{zero-all}}
 use Rattle.session.specs.Session.{Session}
 

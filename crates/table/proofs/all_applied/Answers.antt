@@ -1,8 +1,8 @@
 use Rattle.std.proofs.Common.{rules}
 use Rattle.machine.specs.{Table.{done}, Steps.{everywhere}}
-use Rattle.laws.specs.{Kit.{◌≤◌, ◌-◌, ◌+◌, ◌≡◌, sym, ◌∙◌, arith, eq-eqb, ne_eqb, eqb}, All.{Rest, rest-fails, rest-next, rest_end}}
+use Rattle.laws.specs.{Kit.{◌-◌, ◌+◌, ◌≡◌, sym, ◌∙◌, arith, eq-eqb, ne_eqb}, All.{rest-fails, rest-next, rest_end}}
 use Rattle.clock.specs.Vectors.{place, place_at}
-use Rattle.table.specs.{Value.{open_at}, Model.{open_m}}
+use Rattle.table.specs.{Value.{open_at}}
 use Rattle.table.proofs.all_applied.Goals as goal
 use Rattle.table.proofs.all_applied.Goals.{After-mark_at}
 

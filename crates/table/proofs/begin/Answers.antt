@@ -1,5 +1,5 @@
 use Rattle.laws.specs.Kit.{sym, ◌∙◌}
-use Rattle.table.specs.Beginning.{begins-yes, begins-no}
+use Rattle.table.proofs.Beginning.{begins-yes, begins-no}
 use Rattle.table.proofs.begin.Goals as goal
 
 pub returns-then-begins : goal.returns-then-begins

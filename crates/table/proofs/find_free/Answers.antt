@@ -1,6 +1,5 @@
 use Rattle.std.proofs.Common.{rules}
-use Rattle.table.specs.{Value.{entries}, EntryNames.{free_at, Seen, seen_none, seen_more, seen_all}}
-use Rattle.laws.specs.Kit.{◌-◌, sym, ◌∙◌, arith, eq-eqb, ne_eqb}
+use Rattle.table.specs.{EntryNames.{seen_all}}
 use Rattle.table.proofs.find_free.Goals as goal
 
 pub returns : goal.returns

@@ -1,5 +1,5 @@
-use Rattle.table.specs.{Value.{entries}, EntryNames.{free_at, Seen, seen_none, seen_more, seen_all}}
-use Rattle.laws.specs.Kit.{◌-◌, sym, ◌∙◌, arith, eq-eqb, ne_eqb}
+use Rattle.table.specs.{Value.{entries}, EntryNames.{free_at, Seen}}
+use Rattle.laws.specs.Kit.{◌-◌}
 use Rattle.table.proofs.find_free.Given as goal
 
 abbrev pub invariant-loop-j : goal.invariant-loop-j

@@ -1,6 +1,5 @@
 use Rattle.std.proofs.Common.{rules}
-use Rattle.clock.specs.Vectors.{places}
-use Rattle.laws.specs.{Kit.{◌-◌, ◌+◌, get_or}, Tab.{FilledTo, filled_start, filled_more, filled_end}, Rows.{numbers_from}}
+use Rattle.laws.specs.{Tab.{filled_start, filled_more, filled_end}, Rows.{numbers_from}}
 use Rattle.table.proofs.places_at.Goals as goal
 
 pub loop-t-init : goal.loop-t-init

@@ -1,5 +1,5 @@
 use Rattle.clock.specs.Vectors.{places}
-use Rattle.laws.specs.{Kit.{◌-◌, ◌+◌, get_or}, Tab.{FilledTo, filled_start, filled_more, filled_end}, Rows.{numbers_from}}
+use Rattle.laws.specs.{Kit.{◌-◌, ◌+◌, get_or}, Tab.{FilledTo}}
 use Rattle.table.proofs.places_at.Given as goal
 
 abbrev pub invariant-loop-t : goal.invariant-loop-t

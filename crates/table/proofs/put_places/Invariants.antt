@@ -1,6 +1,5 @@
 use Rattle.clock.specs.Vectors.{places}
-use Rattle.laws.specs.Kit.{◌≤◌, ◌-◌, ◌+◌, ◌≡◌, refl, sym, ◌∙◌, add-zero, length, drop, length-set, sets}
-use Rattle.laws.specs.Rows.{sets_one, sets_done}
+use Rattle.laws.specs.Kit.{◌≤◌, ◌-◌, ◌+◌, ◌≡◌, length, drop, sets}
 use Rattle.table.proofs.put_places.Given as goal
 
 abbrev pub invariant-loop-t : goal.invariant-loop-t

@@ -1,0 +1,7 @@
+use Rattle.std.proofs.Common.{rules}
+use Rattle.laws.specs.Kit.{arith}
+use Rattle.answer.specs.Link.NameLengths.{name-length}
+use Rattle.answer.proofs.name_length.Goals as goal
+
+pub returns : goal.returns
+returns c = let a = c.args in (omega (arith, name-length a.u a.k), search rules)

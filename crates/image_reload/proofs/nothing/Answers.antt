@@ -1,0 +1,5 @@
+use Rattle.image_reload.specs.Live.{live_begun}
+use Rattle.image_reload.proofs.nothing.Goals as goal
+
+pub returns : goal.returns
+returns c = let l = live_begun c.begin-none.result c.begin-none.ensures in (l, l)

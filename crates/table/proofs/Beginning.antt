@@ -1,0 +1,76 @@
+-- A fresh table is the machine's.
+use Rattle.laws.specs.Kit.{ℕ, zero, suc, ◌+◌, ◌*◌, ◌≡◌, refl, ◌∙◌, fun_ext, [], none, Bool, true, false, eq-eqb, get_or, replicate, ltb}
+use Rattle.laws.specs.{Loop.{pick}, Update.{seen1}}
+use Rattle.clock.specs.Vectors.{places, place}
+use Rattle.machine.specs.Table as machine
+use Rattle.machine.specs.Steps as steps
+use Rattle.table.specs.{declared.Desk.{Desk}, Value.{desk0, all_cells, desk_cells}}
+use Rattle.table.specs.Value.{cell_width, entries, open_width, cell_at, cell-writer, open_at}
+use Rattle.table.specs.{EntryNames.{free_named}, Model.{model_of, applied_m, clock_m, cells_m, cell_m, opens_m, applied_vec}}
+use Rattle.table.specs.{Model.{clock_vec, state_path}, Link.OpensModel.{Unique, opens-none}}
+use Rattle.table.specs.Beginning.{fresh_desk, fresh_table, begin_table, Begins, zeros-at, place-zeros, free_zeros, unique-zeros}
+
+module _ {B : Type 0} (g : Desk → B) (b : B) (same : g fresh_desk ≡ b) (none-there : g desk0 ≡ b) where
+  each-fresh : (n i : ℕ) → g (get_or (replicate n fresh_desk) i desk0) ≡ b
+  each-fresh zero i = none-there
+  each-fresh (suc n) zero = same
+  each-fresh (suc n) (suc i) = each-fresh n i
+
+  all-fresh : (n i : ℕ) → seen1 g (replicate n fresh_desk) desk0 i ≡ b
+  all-fresh n zero = none-there
+  all-fresh n (suc i) = each-fresh n i
+
+fresh_vec : (g : Desk → machine.Vec) → g fresh_desk ≡ place (replicate places 0) → g desk0 ≡ place [] → (n : ℕ) → seen1 g (replicate n fresh_desk) desk0 ≡ (λ i. machine.zeros)
+fresh_vec g a b n =
+    fun_ext (λ i. all-fresh g machine.zeros (a ∙ place-zeros places) (b ∙ place-zeros 0) n i)
+
+fresh_cells : (n : ℕ) → cells_m (replicate n 0) ≡ (λ i x. machine.blank)
+unfolding cells_m
+fresh_cells n = fun_ext (λ i. fun_ext (λ x. go i x))
+  where
+    blank-at : (s : ℕ) → cell_m (cell_at (replicate n 0) s) ≡ machine.blank
+    blank-at s = rw (eq-eqb (cell_at (replicate n 0) s).writer 0 (cell-writer (replicate n 0) s ∙ zeros-at n (s * cell_width)))
+
+    go : (i x : ℕ) → cells_m (replicate n 0) i x ≡ machine.blank
+    go zero x = refl
+    go (suc i) zero = refl
+    go (suc i) (suc x) =
+        rw (blank-at (i * desk_cells + x)) (same2 (ltb i places) (ltb x desk_cells))
+      where
+        same2 : (a b : Bool) → pick a (pick b machine.blank machine.blank) machine.blank ≡ machine.blank
+        same2 true true = refl
+        same2 true false = refl
+        same2 false b = refl
+
+fresh-opens : (n : ℕ) → opens_m (replicate n 0) ≡ (λ u k. none)
+fresh-opens n = fun_ext (λ u. fun_ext (λ k. opens-none (replicate n 0) u k (λ e h. free_named (open_at (replicate n 0) e) u k (free_zeros n e))))
+
+-- "Everything starts at zero and unset."
+pub fresh-model : (n m : ℕ) → model_of (fresh_table n m) ≡ machine.fresh n m
+unfolding fresh_table applied_m clock_m
+fresh-model n m =
+    state_path (model_of (fresh_table n m)) (machine.fresh n m) refl
+    (fresh_vec applied_vec refl refl places)
+    (fresh_vec clock_vec refl refl places)
+    (fresh_cells (all_cells * cell_width))
+    (fresh-opens (entries * open_width))
+
+unique-fresh : (n m : ℕ) → Unique (fresh_table n m).opens
+unfolding fresh_table
+unique-fresh n m = unique-zeros (entries * open_width)
+
+pub begins-yes : (n m : ℕ) → steps.begins n m ≡ true → Begins n m (record { begun = true; table = fresh_table n m })
+unfolding begin_table steps.begin
+begins-yes n m e = record {
+  is = rw e;
+  means = rw (e, fresh-model n m, steps.begin);
+  unique = unique-fresh n m;
+}
+
+pub begins-no : (n m : ℕ) → steps.begins n m ≡ false → Begins n m (record { begun = false; table = fresh_table 0 0 })
+unfolding begin_table steps.begin
+begins-no n m e = record {
+  is = rw e;
+  means = rw (e, steps.begin);
+  unique = unique-fresh 0 0;
+}
