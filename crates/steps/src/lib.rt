@@ -1,4 +1,6 @@
 // The four steps.
+#![tactic(auto)]
+
 use reply::Answer;
 use table::Desk;
 

@@ -2,7 +2,7 @@
 use Rattle.laws.specs.{Kit.{ℕ, suc, ◌-◌, ◌<◌, ◌≡◌, refl, sym, ap, subst, ◌∙◌, List, true, Option, some, arith, sets}, Update.{upd_same}}
 use Rattle.clock.specs.{Vectors.{places, place}, Readiness.{ready_at, failing-narrow}}
 use Rattle.machine.specs.Table as machine
-use Rattle.machine.specs.{Table.{State, Name, most_open, away, held}, Answer.{holds, applies}, Steps.{Out, Settled, failing, ready, hold}}
+use Rattle.machine.specs.{Table.{State, Name, most_open, away, held}, Answer.{holds, applies}, Steps.{Out, Settled, failing, hold}}
 use Rattle.machine.specs.Steps.{deliver_by, with_opens}
 use Rattle.machine.specs.Rules.{In}
 use Rattle.machine.proofs.Ready.{is-none, not-applied}
