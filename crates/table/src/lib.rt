@@ -46,7 +46,7 @@ pub struct Desk {
     pub clock: Clock,
 }
 
-#[derive(Drop)]
+#[derive(Clone, Copy)]
 pub struct Core {
     pub n: usize,
     pub m: usize,
