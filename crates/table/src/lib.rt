@@ -46,7 +46,7 @@ pub struct Desk {
     pub clock: Clock,
 }
 
-#[derive(Drop)]
+#[derive(Clone, Copy)]
 pub struct Core {
     pub n: usize,
     pub m: usize,
@@ -71,7 +71,7 @@ pub struct Open {
     pub marks: [u16; PLACES],
 }
 
-#[derive(Drop)]
+#[derive(Clone, Copy)]
 pub struct Table {
     pub core: Core,
     pub cells: Cells,
