@@ -1,4 +1,6 @@
 // The four steps on a table value, for any caller: 13 before all else, then the step's own order.
+#![tactic(auto)]
+
 ghost use Rattle.std.specs.Prelude.{◌≡◌, [], ◌-◌, ◌<◌, ◌≤◌, get_or, length};
 ghost use Rattle.clock.specs.Vectors.{places};
 ghost use Rattle.machine.specs.Rules.{In};

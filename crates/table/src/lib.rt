@@ -71,7 +71,7 @@ pub struct Open {
     pub marks: [u16; PLACES],
 }
 
-#[derive(Drop)]
+#[derive(Clone, Copy)]
 pub struct Table {
     pub core: Core,
     pub cells: Cells,
