@@ -7,7 +7,9 @@ use Rattle.std.specs.{Io.{ReadsAtMost}, Io.KnownBytes.{Appends}}
 use Rattle.table.specs.{declared.Core.{Core}, Model.{table_with}}
 use Rattle.session.specs.{Session.{Session}, Transcript.{transcript_from, most_text, transcript}}
 use Rattle.session.specs.{TranscriptLaws.{from_end, transcript-run, transcript-long}, Holds.{zero_cells, zero_opens, zero_core, Holds}}
-use Rattle.session.specs.{Run.{Ran, ran_rest, ran_part}, AnswersBound.{each_byte, transcript_bound}}
+use Rattle.session.specs.Run.{Ran, ran_rest, ran_part}
+use Rattle.session.specs.AnswersBound.{each_byte}
+use Rattle.session.proofs.AnswersBound.{transcript_bound}
 
 -- the part is what stands in the list behind so many bytes, up to so many
 pub record Comes (all : List ℕ) (sent next : ℕ) (part : List ℕ) : Type 0 where

@@ -1,16 +1,15 @@
 -- A run over the lines of a text: how far it got, what it wrote, and the session it left.
-use Rattle.laws.specs.Kit.{◌≡◌, refl, sym, ap, subst, ◌∙◌, List, [], ◌++◌, append_assoc, append-nil, Option, none, Bool, true, ℕ, ◌+◌, ◌<◌}
-use Rattle.laws.specs.Kit.{◌≤◌, min, max, arith, zero-add, leb, ltb, length, take, drop, length-append, sets, sets-eq, take_at, le-leb}
-use Rattle.laws.specs.{Loop.{pick}, Update.{same_or}, Stores.{Stored, sets_append}}
-use Rattle.machine.specs.Answer as machine
-use Rattle.schedule.specs.{Grammar.{Line as Said, line_of}, Lines.{line_at, ended_at, next_at}, Link.LineLaws.{ended_is, next-is, next_more}}
+use Rattle.laws.specs.Kit.{◌≡◌, refl, sym, ap, ◌∙◌, List, [], ◌++◌, append_assoc, append-nil, none, Bool, true, ℕ, ◌+◌, ◌<◌}
+use Rattle.laws.specs.Kit.{◌≤◌, min, max, arith, leb, ltb, length, take, drop, length-append, sets, sets-eq, take_at, le-leb}
+use Rattle.laws.specs.{Loop.{pick}, Update.{same_or}, Stores.{Stored}}
+use Rattle.schedule.specs.{Grammar.{line_of}, Lines.{line_at, ended_at, next_at}, Link.LineLaws.{ended_is, next-is, next_more}}
 use Rattle.schedule.specs.Link.LineLaws.{next_le}
 use Rattle.answer.specs.{Bytes.{answer_line, most_answer}, Outcome.{upto, written_of, put_answer, buffer}, declared.Written.{Written}}
 use Rattle.answer.specs.declared.Written.TheVariants.{Upto, Short}
 use Rattle.table.specs.declared.Table.{Table}
 use Rattle.rules.specs.Mirror.Test.{owns}
-use Rattle.session.specs.{Session.{Session, Turn, turn}, Transcript.{transcript_from, session_from}}
-use Rattle.session.specs.{TranscriptLaws.{turn_at, from-line, left-line}, Holds.{Holds}, Link.LineTurn.{LineTurned}}
+use Rattle.session.specs.{Session.{Session}, Transcript.{transcript_from, session_from}}
+use Rattle.session.specs.{TranscriptLaws.{turn_at, from-line, left-line}, Holds.{Holds}}
 
 -- Lines one by one, while there is text and room for a line of any answer: each is answered by its turn, and the answer's line stands behind those
 -- before it. From the session z at a place, with len bytes of the room in use, to the session and the place reached.
@@ -128,34 +127,6 @@ going_start {z} h = record { session = z; lines = []; passed = here; holds = h; 
 
 module _ {z : Session} {text : List ℕ} {from : ℕ} {out : List ℕ} {t : Table} {at len : ℕ} {out' : List ℕ}
     (g : Going z text from out t at len out') where
-  -- one line more
-  pub going_on : {t' : Table} (answer : machine.Answer) {o : Option Said} {at' len' : ℕ} {out'' : List ℕ}
-      → at < length text → len + most_answer ≤ length out
-      → LineTurned t' answer (turn g.session o)
-      → o ≡ pick (ended_at text at) (line_of (line_at text at)) none
-      → Stored out' len (answer_line answer) out'' len' → len' ≤ length out
-      → at' ≡ next_at text at
-      → Going z text from out t' at' len' out''
-  going_on {t'} answer {o} {at'} {len'} {out''} h free u eo s room ea =
-      let k = turn_at g.session text at in
-      let w = answer_line k.answer in
-      let e : turn g.session o ≡ k = ap (turn g.session) eo in
-      let a : answer ≡ k.answer = u.answer_is ∙ ap (λ (x : Turn). x.answer) e in
-      let b : answer_line answer ≡ w = ap answer_line a in
-      let l : len' ≡ length (g.lines ++ w) = s.behind ∙ ap (λ (x : List ℕ). len + length x) b ∙ ap (λ (x : ℕ). x + length w) g.len_is ∙ sym (length-append g.lines w) in
-      record {
-        session = k.session;
-        lines = g.lines ++ w;
-        passed = rw ea (passed_on g.passed h (omega (arith, g.len_is)));
-        holds = subst (λ (x : Turn). Holds t' x.session) e u.holds;
-        stored =
-            s.stored ∙ ap (λ (x : List ℕ). sets out' len x) b ∙ ap (λ (x : List ℕ). sets x len w) g.stored
-            ∙ ap (λ (x : ℕ). sets (sets out 0 g.lines) x w) (g.len_is ∙ sym (zero-add (length g.lines)))
-            ∙ sym (sets_append g.lines w out 0);
-        len_is = l;
-        fits = omega arith;
-      }
-
   -- the end of the text, or no room for every answer
   pub going_end : (at < length text → length out < len + most_answer) → Ran z text from out t at len out'
   going_end h =

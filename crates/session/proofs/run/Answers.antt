@@ -3,7 +3,8 @@ use Rattle.laws.specs.{Kit.{ℕ, ◌<◌, ◌≤◌, ◌≡◌, refl, sym, ap, �
 use Rattle.schedule.specs.{Lines.{line_at, next_at}, Link.LineLaws.{line-within, next_more}}
 use Rattle.table.specs.{Value.{desk0}, Model.{table_of}}
 use Rattle.session.specs.{Mirror.LineValue.{line_actor, seat_of}, Link.LineTurn.{Seated}, Session.{Session}, Holds.{Holds, owns_put}}
-use Rattle.session.specs.Run.{going_start, going_on, going_end, said-is, next_place}
+use Rattle.session.proofs.RunGoesOn.{going_on}
+use Rattle.session.specs.Run.{going_start, going_end, said-is, next_place}
 use Rattle.session.proofs.run.Goals as goal
 use Rattle.session.proofs.run.Goals.{After-behind-place, After-first_line-line, After-opens_size, After-print-len, After-said-s, After-seat-p}
 
