@@ -7,7 +7,8 @@ use Rattle.machine.specs.Answer as machine
 use Rattle.reply.specs.{declared.Answer.{Answer}, declared.Answer.TheVariants.{Refused}, declared.Refusal.{Refusal}}
 use Rattle.reply.specs.{Meaning.{refusal_of, answer_of, Counted}, Unique.{answer_is, Silent, silent_counted}}
 use Rattle.table.specs.{declared.Table.{Table}, TypeShape.{DesksShape, Shaped}, Model.{model_of}, SameTable.{Same}, Sound.{SoundTable}}
-use Rattle.table.specs.Unique.{StandsIn, same-core, same-cells, same-opens}
+use Rattle.table.specs.Unique.{StandsIn, same-core, same-opens}
+use Rattle.table.proofs.Unique.{same-cells}
 use Rattle.rules.specs.{Link.PassesToRules.{Fit}, TestIsRules.{keeps-says}}
 use Rattle.steps.specs.{Stepped.{names_beside}, Unique.{refused_silent, read_silent, write_silent, trip_silent}}
 use Rattle.access.specs.{declared.Done.{Done}, declared.Delivered.{Delivered}, Met.{Met, Brought, no_names}}

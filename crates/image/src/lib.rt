@@ -1,4 +1,6 @@
 // The saved image (document 01): a table as blocks of 512 bytes, and a table read from them.
+#![tactic(auto)]
+
 ghost use Rattle.std.specs.Prelude.{◌≡◌, [], ◌∷◌, ℕ, suc, ◌+◌, ◌-◌, ◌*◌, ◌<◌, ◌≤◌, min, length, replicate};
 ghost use Rattle.std.proofs.Math.Option.{none};
 ghost use Rattle.std.proofs.lemmas.List.Edits.{sets};
@@ -151,7 +153,7 @@ fn open_block(
 
 // How the blocks of a table stand: the places of a vector, the open writes, the blocks to a desk's cells, all blocks before the open writes, and
 // all blocks.
-#[derive(Drop)]
+#[derive(Clone, Copy)]
 struct Plan {
     p: usize,
     count: usize,

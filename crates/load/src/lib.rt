@@ -1,4 +1,6 @@
 // A table read from its saved image (document 01, "Saved image").
+#![tactic(auto)]
+
 ghost use Rattle.std.specs.Prelude.{◌≡◌, [], ◌∷◌, ◌+◌, ◌*◌, ◌/◌, ◌<◌, ◌≤◌, length, replicate};
 ghost use Rattle.laws.specs.Says.{Says};
 ghost use Rattle.laws.specs.Tab.{tab};
@@ -178,7 +180,7 @@ fn field_place(n: usize, k: usize, q: usize, r: usize) -> usize
 }
 
 // What every field's place takes: the places of a vector, the sizes, and the blocks to a desk's cells.
-#[derive(Drop)]
+#[derive(Clone, Copy)]
 struct Sizes {
     p: usize,
     n: usize,

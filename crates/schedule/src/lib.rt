@@ -45,7 +45,7 @@ pub fn line_at(s: &[u8], at: usize) -> &[u8]
 }
 
 // What a line says. The cells of a trip stand in an array beside; here is how many.
-#[derive(Drop)]
+#[derive(Clone, Copy)]
 pub enum Line {
     New(usize, usize),
     Read(usize, usize),

@@ -9,7 +9,8 @@ use Rattle.reply.specs.{declared.Answer.{Answer}, declared.Answer.TheVariants.{R
 use Rattle.reply.specs.{Meaning.{answer_of, refusal_of, Counted}, Unique.{answer_is, Silent, silent_counted}}
 use Rattle.table.specs.{declared.Core.{Core}, declared.Desk.{Desk}, declared.Table.{Table}, Value.{desk0, all_cells, cell_width, entries}}
 use Rattle.table.specs.{Value.{open_width}, TypeShape.{DeskShape, DesksShape, Shaped}, Model.{model_of, table_of}, Unique.{StandsIn}}
-use Rattle.table.specs.Unique.{same-core, same-cells, same-opens}
+use Rattle.table.specs.Unique.{same-core, same-opens}
+use Rattle.table.proofs.Unique.{same-cells}
 use Rattle.steps.specs.{declared.Turn.{Turn}, Stepped.{Placed, Stepped, put_desk, table_after}, Link.LookStepped.{in_places}}
 use Rattle.steps.specs.{Mirror.Look.{SomeLook, Looks}, Mirror.Write.{SomeTable, Writes}, Link.Deliver.{Part, Delivers}}
 

@@ -1,1 +1,2 @@
 pub mod Beginning
+pub mod Unique

@@ -1,13 +1,13 @@
 -- Two values of one table that keep the rules differ in nothing but where open writes stand and what lies in free entries.
-use Rattle.laws.specs.Kit.{ℕ, zero, suc, ◌+◌, ◌*◌, ◌/◌, ◌%◌, ◌<◌, ◌≡◌, refl, sym, ap, ◌∙◌, fun_ext, true, false, List, arith, eqb-true, eqb}
-use Rattle.laws.specs.{Kit.{length, get_or, ext_get_or}, Loop.{cases}, Rows.{row, part_at, length_part}}
+use Rattle.laws.specs.Kit.{ℕ, zero, suc, ◌+◌, ◌*◌, ◌/◌, ◌%◌, ◌<◌, ◌≡◌, refl, sym, ap, ◌∙◌, false, List, arith}
+use Rattle.laws.specs.{Kit.{length, get_or, ext_get_or}, Rows.{row, part_at, length_part}}
 use Rattle.clock.specs.Vectors.{places, place, place_ext}
 use Rattle.machine.specs.Table as machine
 use Rattle.table.specs.{declared.Cell.{Cell}, declared.Desk.{Desk}, declared.Open.{Open}, declared.Table.{Table}, Value.{desk0}}
-use Rattle.table.specs.Value.{desk_cells, all_cells, cell_width, entries, cell_of, cell_row, cell_at, FullCell, full-cell_at, open_at}
+use Rattle.table.specs.Value.{all_cells, cell_width, entries, cell_of, cell_row, cell_at, open_at}
 use Rattle.table.specs.{Value.{FullOpen, full-open_at, is_free}, TypeShape.{DeskShape, Shaped}}
-use Rattle.table.specs.{EntryNames.{entry_number, own-named, named-is}, Model.{applied_m, clock_m, cell_m, open_m, slot, cell_in}}
-use Rattle.table.specs.{Link.OpensModel.{opens_at, opens-some}, Sound.{AllZero, SoundTable}, SameTable.{Same}}
+use Rattle.table.specs.{EntryNames.{entry_number, own-named, named-is}, Model.{applied_m, clock_m, open_m}}
+use Rattle.table.specs.{Link.OpensModel.{opens_at, opens-some}, Sound.{SoundTable}, SameTable.{Same}}
 
 -- a desk by its places
 pub desk-same : (a b : Desk) → DeskShape a → DeskShape b → place a.applied ≡ place b.applied → place a.clock.at ≡ place b.clock.at → a ≡ b
@@ -15,27 +15,6 @@ desk-same a b ha hb ea ec =
     let p = place_ext a.applied b.applied (ha.applied ∙ sym hb.applied) ea in
     let q = place_ext a.clock.at b.clock.at (ha.clock ∙ sym hb.clock) ec in
     λ j. record { applied = p j; clock = record { at = q j } }
-
--- a cell by what the model shows of it, and all zero where that is nothing
-pub cell_same : (a b : Cell) → FullCell a → FullCell b → (a.writer ≡ 0 → AllZero a) → (b.writer ≡ 0 → AllZero b) → cell_m a ≡ cell_m b → a ≡ b
-cell_same a b fa fb za zb e =
-    cases (eqb a.writer 0)
-    (λ p. cases (eqb b.writer 0) (λ q. both p q) (λ q. absurd (let d = rw (p, q) at e in let z : ◌≡◌ {A = ℕ} 0 1 = cc in omega arith)))
-    (λ p. cases (eqb b.writer 0) (λ q. absurd (let d = rw (p, q) at e in let z : ◌≡◌ {A = ℕ} 0 1 = cc in omega arith)) (λ q. neither (rw (p, q) at e)))
-  where
-    made : a.writer ≡ b.writer → a.status ≡ b.status → place a.vector ≡ place b.vector → a ≡ b
-    made w s v =
-        let l = place_ext a.vector b.vector (fa.vector ∙ sym fb.vector) v in
-        λ j. record { writer = w j; status = s j; vector = l j }
-
-    both : eqb a.writer 0 ≡ true → eqb b.writer 0 ≡ true → a ≡ b
-    both p q =
-        let x = eqb-true a.writer 0 p in
-        let y = eqb-true b.writer 0 q in
-        made (x ∙ sym y) ((za x).status ∙ sym (zb y).status) (fun_ext (λ t. (za x).vector t ∙ sym ((zb y).vector t)))
-
-    neither : machine.set a.status a.writer (place a.vector) ≡ machine.set b.status b.writer (place b.vector) → a ≡ b
-    neither d = made (cc) (cc) (cc)
 
 -- a row is the cell that it holds
 row_back : (r : List ℕ) → length r ≡ cell_width → cell_row (cell_of r) ≡ r
@@ -96,20 +75,6 @@ module _ (a b : Table) (sa : Shaped a) (sb : Shaped b) (ka : SoundTable a) (kb :
 
   pub same-core : a.core ≡ b.core
   same-core = λ j. record { n = (e j).setup.desks; m = (e j).setup.cells; desks = desks-same j }
-
-  cell-shown : (s : ℕ) → s < all_cells → cell_m (cell_at a.cells s) ≡ cell_m (cell_at b.cells s)
-  cell-shown s h =
-      let i : ℕ = s / desk_cells + 1 in
-      let x : ℕ = s % desk_cells + 1 in
-      let q : slot i x ≡ s = omega arith in
-      rw q at (sym (cell_in a.cells i x (omega arith, omega arith) (omega arith, omega arith))
-      ∙ ap (λ (t : machine.State). t.cell i x) e
-      ∙ cell_in b.cells i x (omega arith, omega arith) (omega arith, omega arith))
-
-  pub same-cells : a.cells ≡ b.cells
-  same-cells =
-      cells_same a.cells b.cells sa.cells sb.cells
-      (λ s h. cell_same (cell_at a.cells s) (cell_at b.cells s) (full-cell_at a.cells s) (full-cell_at b.cells s) (ka.blanks s h) (kb.blanks s h) (cell-shown s h))
 
   -- open writes as a set
   pub same-opens : StandsIn a.opens b.opens

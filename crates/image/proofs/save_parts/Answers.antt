@@ -1,0 +1,9 @@
+use Rattle.image.specs.Link.SavedIsImage.{planned_length}
+use Rattle.laws.specs.Kit.{arith, sym}
+use Rattle.image.proofs.save_parts.Goals as goal
+
+pub save_blocks-requires : goal.save_blocks-requires
+save_blocks-requires c = let P = c.planned-plan.ensures in (P, omega (arith, planned_length P, c.requires.opens_in_bounds))
+
+pub returns : goal.returns
+returns c = let P = c.planned-plan.ensures in record { stored = c.save_blocks.ensures; size = sym (planned_length P) }

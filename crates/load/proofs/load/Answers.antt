@@ -1,0 +1,7 @@
+use Rattle.table.specs.Beginning.{fresh_table}
+use Rattle.laws.specs.Kit.{refl}
+use Rattle.load.proofs.load.Goals as goal
+
+pub load_into-l-requires : goal.load_into-l-requires
+unfolding fresh_table
+load_into-l-requires c = (refl, refl)
