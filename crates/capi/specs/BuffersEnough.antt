@@ -1,7 +1,9 @@
 -- Buffers that are never too short: the header's ACCESS_ANSWERS_BOUND and ACCESS_MAX_IMAGE.
 use Rattle.laws.specs.Kit.{◌≡◌, refl, sym, ap, ◌∙◌, List, [], ◌∷◌, none, some, ℕ, ◌≤◌, arith, length}
 use Rattle.block.specs.Limits.{broad, image_bytes}
-use Rattle.image.specs.{Editions.{image-largest}, Load.{fault_refusal, Loaded, refused, loaded, load, load_is}}
+use Rattle.image.proofs.Editions.{image-largest}
+use Rattle.image.specs.Load.{fault_refusal, Loaded, refused, loaded, load}
+use Rattle.image.proofs.Load.{load_is}
 use Rattle.session.specs.{Session.{Session}, Transcript.{session_from, most_text}, Link.SessionRules.{SessionKept, session-kept}}
 use Rattle.session.specs.AnswersBound.{answers_bound, answers_fit}
 use Rattle.capi.specs.{Access.{image_of, refuse, begin, started, start_of, run_from, access_run}, Link.CallFrom.{CallRoom, says-fits}}

@@ -1,6 +1,8 @@
 -- A schedule cut between two lines, and run by two calls.
 use Rattle.laws.specs.Kit.{◌≡◌, refl, sym, ap, ◌∙◌, List, [], ◌∷◌, ◌++◌, none, some, ℕ, arith}
-use Rattle.image.specs.{Encode.{encode}, Load.{load-encode}, Link.EachBlock.{image-sound}}
+use Rattle.image.specs.Encode.{encode}
+use Rattle.image.proofs.Load.{load-encode}
+use Rattle.image.proofs.EachBlock.{image-sound}
 use Rattle.schedule.specs.Lines.{LF}
 use Rattle.session.specs.{Session.{Session}, Transcript.{lines_of, transcript_from, session_from}, Link.SessionRules.{SessionKept}}
 use Rattle.session.specs.Link.SessionRules.{session-kept}

@@ -7,7 +7,8 @@ use Rattle.machine.specs.{History.{Act, take_step, run, history}, Demand3.{Deman
 use Rattle.rules.specs.Mirror.Test.{sizes_test}
 use Rattle.schedule.specs.Grammar.{Line, begin_line, step_line, line_of}
 use Rattle.session.specs.{Session.{Session, Turn, begun, turn, line_answer}, Transcript.{TextLine, lines_of, session_of, session_from}}
-use Rattle.image.specs.Reload.{reload, demand_3, hold-names}
+use Rattle.image.specs.Reload.{reload}
+use Rattle.image.proofs.Reload.{demand_3, hold-names}
 use Rattle.capi.specs.Link.CutText.{session-append}
 
 -- what a line does to a table: a step, or nothing (it is no step, or a further N)

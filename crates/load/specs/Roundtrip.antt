@@ -1,7 +1,11 @@
 -- "A table saved and loaded is the same table", and an image loaded and saved again gives its bytes: of what `save` and `load` promise.
 use Rattle.laws.specs.Kit.{ℕ, ◌≤◌, ◌≡◌, refl, ap, ◌∙◌, true, List, le-leb, length, take, sets}
 use Rattle.table.specs.{declared.Table.{Table}, Model.{model_of}, SameTable.{Same}, Sound.{SoundTable}}
-use Rattle.image.specs.{declared.Saving.{Saving}, declared.Saving.TheVariants.{Length}, Encode.{encode}, Load.{loaded, load, load-encode}}
+use Rattle.image.specs.declared.Saving.{Saving}
+use Rattle.image.specs.declared.Saving.TheVariants.{Length}
+use Rattle.image.specs.Encode.{encode}
+use Rattle.image.specs.Load.{loaded, load}
+use Rattle.image.proofs.Load.{load-encode}
 use Rattle.image.specs.{Saving.{SaveAnswer, long, saving_of, Saves, as_image}, Unique.{saves_is, saving_is}}
 use Rattle.load.specs.{declared.Outcome.{Outcome}, declared.Outcome.TheVariants.{Accepted}, Loading.{Answers, saved_part}}
 use Rattle.load.specs.Unique.{outcome_for, loaded-is, outcome-is}

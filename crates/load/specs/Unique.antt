@@ -4,7 +4,8 @@ use Rattle.laws.specs.Kit.{ℕ, ◌≡◌, refl, sym, ap, ◌∙◌, List}
 use Rattle.table.specs.{declared.Table.{Table}, TypeShape.{Shaped}, Model.{model_of}, SameTable.{Same}, Unique.{StandsIn, same-core}}
 use Rattle.table.specs.Unique.{same-opens}
 use Rattle.table.proofs.Unique.{same-cells}
-use Rattle.image.specs.Load.{length_fault, check_fault, rule_fault, Loaded, refused, loaded, load, loads_is}
+use Rattle.image.specs.Load.{length_fault, check_fault, rule_fault, Loaded, refused, loaded, load}
+use Rattle.image.proofs.Load.{loads_is}
 use Rattle.load.specs.{declared.Outcome.{Outcome}, declared.Outcome.TheVariants.{Accepted, WrongLength, Damaged, Broken}}
 use Rattle.load.specs.Loading.{loaded_of, Answers, answers_loads}
 

@@ -1,7 +1,8 @@
 -- What a call that is not refused wrote.
 use Rattle.laws.specs.Kit.{◌≡◌, refl, ap, ◌∙◌, List, [], ◌∷◌, none, some, ℕ, ◌≤◌, arith, length, take, get_or, set, length-set, sets}
 use Rattle.laws.specs.{Kit.{get_or-set_same, get_or-set_other}, Loop.{cases}}
-use Rattle.image.specs.Load.{Loaded, load, Loads, by_length, by_check, by_rule, as_saved, load_loads}
+use Rattle.image.specs.Load.{Loaded, load, Loads, by_length, by_check, by_rule, as_saved}
+use Rattle.image.proofs.Load.{load_loads}
 use Rattle.load.specs.Loading.{saved_part}
 use Rattle.session.specs.{Session.{Session}, Transcript.{transcript_from, session_from}, Link.SessionRules.{SessionKept}}
 use Rattle.capi.specs.{Access.{Left, image_of, begin, started, start_of, fits, run_from, access_run}, Link.CallFrom.{CallRoom, says-fits}}

@@ -2,7 +2,8 @@
 use Rattle.laws.specs.Kit.{◌≡◌, refl, ap, ◌∙◌, List, [], ◌∷◌, none, some, ℕ, arith, length}
 use Rattle.machine.specs.Answer.{Refusal, number_of}
 use Rattle.table.specs.{declared.Table.{Table}, Beginning.{fresh_table}, Model.{model_of}}
-use Rattle.image.specs.Load.{load, one-load, load_loads}
+use Rattle.image.specs.Load.{load}
+use Rattle.image.proofs.Load.{one-load, load_loads}
 use Rattle.load.specs.{declared.Outcome.{Outcome}, declared.Outcome.TheVariants.{Accepted, WrongLength, Damaged, Broken}}
 use Rattle.load.specs.Loading.{loaded_of, Answers, answers_loads}
 use Rattle.capi.specs.Access.{left, Start, refuse, begin, started, start_of, run_from, run_started, access_run}

@@ -3,7 +3,9 @@ use Rattle.laws.specs.Kit.{◌≡◌, refl, sym, ap, ◌∙◌, [], none, some, 
 use Rattle.clock.specs.Vectors.{places}
 use Rattle.table.specs.{declared.Table.{Table}, Value.{desk_cells}, Model.{model_of, applied_m}, Sound.{SoundTable}}
 use Rattle.block.specs.Limits.{places_for, block_bytes}
-use Rattle.image.specs.{Link.OrderFromCounts.{counted}, Encode.{blocks_of, encode}, Link.SavedIsImage.{length-is}}
+use Rattle.image.specs.Link.OrderFromCounts.{counted}
+use Rattle.image.specs.Encode.{blocks_of, encode}
+use Rattle.image.proofs.SavedIsImage.{length-is}
 use Rattle.session.specs.{Session.{Session}, Holds.{Holds}}
 use Rattle.capi.specs.Access.{image_of}
 

@@ -1,4 +1,4 @@
-use Rattle.image.specs.Link.SavedIsImage.{planned_length}
+use Rattle.image.proofs.SavedIsImage.{planned_length}
 use Rattle.laws.specs.{Says.{clash}, Kit.{length, sym, ap, ◌∙◌}}
 use Rattle.image.proofs.is_image.Goals as goal
 

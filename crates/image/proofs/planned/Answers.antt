@@ -1,6 +1,7 @@
 use Rattle.std.proofs.Common.{rules}
 use Rattle.block.specs.Limits.{places-most, desks-placed}
-use Rattle.image.specs.Link.SavedIsImage.{known, planned, Planned}
+use Rattle.image.specs.Link.SavedIsImage.{Planned}
+use Rattle.image.proofs.SavedIsImage.{known, planned}
 use Rattle.table.specs.Model.{table_with}
 use Rattle.laws.specs.Kit.{arith, ◌∙◌, ◌+◌}
 use Rattle.image.proofs.planned.Goals as goal

@@ -1,6 +1,8 @@
 use Rattle.std.proofs.Common.{rules}
 use Rattle.block.specs.{Limits.{block_bytes}, Damage.{block_in}}
-use Rattle.image.specs.{Link.FieldPlaces.{block_at}, Link.SavedIsImage.{blocks-same, same_block}}
+use Rattle.image.specs.Link.FieldPlaces.{block_at}
+use Rattle.image.specs.Link.SavedIsImage.{blocks-same}
+use Rattle.image.proofs.SavedIsImage.{same_block}
 use Rattle.laws.specs.{Cat.{part}, Says.{Says, apart, clash}, Kit.{below_more}}
 use Rattle.laws.specs.Kit.{arith, ◌≡◌, refl, ◌+◌, ◌*◌, ◌-◌}
 use Rattle.table.specs.Model.{model_of, table_with}

@@ -1,4 +1,5 @@
-use Rattle.image.specs.{Saving.{by_rule, by_room, as_image}, Link.SavedIsImage.{length-is}}
+use Rattle.image.specs.Saving.{by_rule, by_room, as_image}
+use Rattle.image.proofs.SavedIsImage.{length-is}
 use Rattle.laws.specs.{Says.{apart}, Kit.{arith, refl}}
 use Rattle.image.proofs.save.Goals as goal
 

@@ -1,6 +1,9 @@
 use Rattle.std.proofs.Common.{rules}
 use Rattle.block.specs.Limits.{block_bytes}
-use Rattle.image.specs.{Link.FieldPlaces.{block_at, length_at}, Mirror.TableBytes.{one_more}, Link.SavedIsImage.{all_blocks}}
+use Rattle.image.specs.Link.FieldPlaces.{block_at}
+use Rattle.image.proofs.FieldPlaces.{length_at}
+use Rattle.image.specs.Mirror.TableBytes.{one_more}
+use Rattle.image.specs.Link.SavedIsImage.{all_blocks}
 use Rattle.image.specs.Link.SavedIsImage.{planned_wide}
 use Rattle.laws.specs.{Cat.{cat}, Kit.{take_all, ◌∙◌, arith}}
 use Rattle.table.specs.Model.{model_of, table_with}

@@ -1,4 +1,4 @@
-use Rattle.image.specs.Link.SavedIsImage.{planned_length}
+use Rattle.image.proofs.SavedIsImage.{planned_length}
 use Rattle.laws.specs.Kit.{arith, sym}
 use Rattle.image.proofs.save_parts.Goals as goal
 

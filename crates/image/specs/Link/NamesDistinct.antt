@@ -1,8 +1,9 @@
--- No name stands twice in the list of the open writes.
+-- No name stands twice in the list that the counts tell.
 use Rattle.laws.specs.Kit.{ℕ, zero, suc, ◌+◌, ◌-◌, ◌<◌, ◌≡◌, sym, ap, ◌∙◌, List, ◌++◌, arith, dec_lt, length, get_or, length-append}
 use Rattle.laws.specs.{Kit.{get_or-append, get_or-append-add}, Tab.{length-tab, get_or-tab}, Cat.{cat}}
-use Rattle.machine.specs.{Table.{Name, name, Vec, State}, Rules.{Rules}}
-use Rattle.image.specs.{OpenNames.{names, no_name}, Link.OrderFromCounts.{low, open_above, counted, names-counted}}
+use Rattle.machine.specs.{Table.{Name, name, Vec}}
+use Rattle.image.specs.OpenNames.{no_name}
+use Rattle.image.specs.Link.OrderFromCounts.{low, open_above, counted}
 
 -- where an element of a list put together of pieces comes from
 pub record From {A : Type 0} (f : ℕ → List A) (n p : ℕ) (d : A) : Type 0 where
@@ -50,6 +51,3 @@ module _ (n : ℕ) (a : ℕ → Vec) where
       let lo = ap (λ (w : ℕ). low n a (suc w)) v in
       let le = ap (λ (w : ℕ). length (cat f w)) v in
       omega (arith, x.place, y.place)
-
-pub names_distinct : (s : State) → Rules s → (p q : ℕ) → p < length (names s) → q < length (names s) → get_or (names s) p no_name ≡ get_or (names s) q no_name → p ≡ q
-names_distinct s r = rw (names-counted s r) (counted_distinct s.setup.desks s.applied)

@@ -1,8 +1,7 @@
 -- By the rules the counts alone tell which writes are open, so in what order they are saved.
-use Rattle.laws.specs.Kit.{ℕ, zero, suc, ◌+◌, ◌-◌, ◌<◌, ◌≤◌, min, ◌≡◌, ap, ◌∙◌, Bool, List, append-nil, arith, ltb-true, ltb-false, ltb}
-use Rattle.laws.specs.{Loop.{cases}, Update.{same_or}, Tab.{tab, tab_from, tab-more}, Cat.{cat, cat-same}}
+use Rattle.laws.specs.Kit.{ℕ, zero, suc, ◌+◌, ◌-◌, ◌<◌, ◌≤◌, min, ◌≡◌, List, arith, ltb-true, ltb-false, ltb}
+use Rattle.laws.specs.{Loop.{cases}, Update.{same_or}, Tab.{tab}, Cat.{cat}}
 use Rattle.machine.specs.{Table.{Vec, Name, name, State, written}, Steps.{is_open}, Rules.{In, Rules}}
-use Rattle.image.specs.OpenNames.{name_if, names_of_desk, names}
 
 -- the least of d, f 1, .., f n
 unfoldable pub least : ℕ → Vec → ℕ → ℕ
@@ -37,22 +36,6 @@ least-is d k f (suc n) h g =
     (λ e. (suc n, (omega arith, omega arith), ltb-true (f (suc n)) k e))
     (λ e. let q = ltb-false (f (suc n)) k e in let r = least-is d k f n (omega arith) g in (r.0, (r.1.0, omega (arith, r.1.1)), r.2))
 
--- the numbers above l, in their order
-above : (u l n : ℕ) → cat (λ k. name_if (ltb l (suc k)) u (suc k)) n ≡ tab (n - l) (λ j. name u (suc (l + j)))
-unfolding cat tab tab_from
-above u l zero = let e : 0 - l ≡ 0 = omega arith in rw e
-above u l (suc n) =
-    cases (ltb l (suc n))
-    (λ t.
-    let h = ltb-true l (suc n) t in
-    let e : suc n - l ≡ (n - l) + 1 = omega arith in
-    let g : l + (n - l) ≡ n = omega arith in
-    rw (t, above u l n, e, tab-more (λ j. name u (suc (l + j))) (n - l), g))
-    (λ t.
-    let h = ltb-false l (suc n) t in
-    let e : suc n - l ≡ n - l = omega arith in
-    rw (t, above u l n, append-nil, e))
-
 module _ (s : State) (ok : Rules s) where
   pub open-low : (u k : ℕ) → In s.setup.desks u → In (written s u) k → is_open s u k ≡ ltb (low s.setup.desks s.applied u) k
   unfolding low
@@ -66,14 +49,3 @@ module _ (s : State) (ok : Rules s) where
       (let l = ((ok.frame.open-exactly u k).0 t).lacks in
       omega (arith, ltb-false (low s.setup.desks s.applied u) k e, l.lower, least_at (written s u) (λ i. s.applied i u) s.setup.desks l.desk l.desk_in.0 l.desk_in.1)))
       (λ t. t)))
-
-  -- the open writes by their names: those above what every desk has applied
-  pub names-counted : names s ≡ counted s.setup.desks s.applied
-  unfolding names names_of_desk counted
-  names-counted =
-      cat-same (λ u. names_of_desk s (suc u)) (λ u. open_above s.setup.desks s.applied (suc u)) s.setup.desks
-      (λ u h.
-      let l = low s.setup.desks s.applied (suc u) in
-      cat-same (λ k. name_if (is_open s (suc u) (suc k)) (suc u) (suc k)) (λ k. name_if (ltb l (suc k)) (suc u) (suc k)) (written s (suc u))
-      (λ k g. ap (λ (b : Bool). name_if b (suc u) (suc k)) (open-low (suc u) (suc k) (omega arith, h) (omega arith, g)))
-      ∙ above (suc u) l (written s (suc u)))

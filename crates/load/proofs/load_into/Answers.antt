@@ -2,7 +2,7 @@ use Rattle.std.proofs.Common.{rules}
 use Rattle.load.specs.Loading.{broken_so, all_right, not-held, zeros_so, cleared_cells, cleared_opens}
 use Rattle.load.specs.Link.ReadsBack.{fits_so, reads_right}
 use Rattle.block.specs.Damage.{Undamaged}
-use Rattle.image.specs.Load.{misplaced_no_image}
+use Rattle.image.proofs.Load.{misplaced_no_image}
 use Rattle.laws.specs.{Says.{apart}}
 use Rattle.load.proofs.load_into.Goals as goal
 use Rattle.load.proofs.load_into.Goals.{After-first_not-misplaced}

@@ -13,10 +13,15 @@ use Rattle.table.specs.{Model.{model_of, state_path}, Link.OpensModel.{Unique, o
 use Rattle.table.specs.Beginning.{zeros-at, place-zeros}
 use Rattle.block.specs.Limits.{places_for, wide_for, desks-placed, Wide, some-cells, block_of_lem, vector_at, vector_bytes, after_vector}
 use Rattle.block.specs.{Limits.{cell_bytes, open_bytes, cells_in}, Link.BlockFill.{drop-replicate}}
-use Rattle.image.specs.{OpenNames.{names, no_name, length-names, OpenName, names_open, open-named}, Link.NamesDistinct.{names_distinct}}
-use Rattle.image.specs.{Encode.{cell_part, bytes_of_cell, encode_at, encode}, Link.FieldPlaces.{length-encode, part_3}, Fields.{zero-words}}
+use Rattle.image.specs.OpenNames.{names, no_name, OpenName}
+use Rattle.image.proofs.OpenNames.{length-names, names_open, open-named}
+use Rattle.image.proofs.NamesDistinct.{names_distinct}
+use Rattle.image.specs.Encode.{cell_part, bytes_of_cell, encode_at, encode}
+use Rattle.image.proofs.FieldPlaces.{length-encode, part_3}
+use Rattle.image.specs.Fields.{zero-words}
 use Rattle.image.specs.{Fields.{vec_words, vec_of, cell_read, writer_field, number_field}, Decode.{n_in, m_in, count_in, desk_place, cell_place}}
-use Rattle.image.specs.Decode.{open_place, desk_in_image, cell_in_image, n-back, m-back, count-back, applied_back, clock-back, cell-back, shows-at}
+use Rattle.image.specs.Decode.{open_place, desk_in_image, cell_in_image, n-back, m-back, count-back}
+use Rattle.image.proofs.Decode.{applied_back, clock-back, cell-back, shows-at}
 use Rattle.image.specs.Decode.{open-name, places_in}
 use Rattle.load.specs.{Link.EntryEach.{Spread, OpensRead}, Mirror.ImageRead.{cell_from, open_from, desk_from, empty_desk, desk_for, cell_for}}
 use Rattle.load.specs.Mirror.ImageRead.{Fits, CellsRead, for_cases, get_d_part, part_of_part, place-words, cell-read, open-read}

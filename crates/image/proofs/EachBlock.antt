@@ -3,7 +3,8 @@ use Rattle.laws.specs.{Kit.{ℕ, ◌<◌, arith, leb}, Loop.{cases}}
 use Rattle.machine.specs.Table.{State}
 use Rattle.block.specs.{Damage.{Right, blocks_in, Undamaged, right_block}, Stands.{EditionStands, Stands, StandsAt, block-stands}}
 use Rattle.block.specs.Limits.{Wide, wide_for, narrow, places_for, edition_of}
-use Rattle.image.specs.{Encode.{encode_at, blocks, encode}, Link.FieldPlaces.{length-encode, block-at, every-block}}
+use Rattle.image.specs.Encode.{encode_at, blocks, encode}
+use Rattle.image.proofs.FieldPlaces.{length-encode, block-at, every-block}
 
 pub sound-encode : (ps : ℕ) → Wide ps → (s : State) → Undamaged (encode_at ps s)
 sound-encode ps wd s =

@@ -1,0 +1,11 @@
+pub mod OpenNames
+pub mod OrderFromCounts
+pub mod FieldPlaces
+pub mod ImageSize
+pub mod SavedIsImage
+pub mod Decode
+pub mod EachBlock
+pub mod Load
+pub mod Editions
+pub mod NamesDistinct
+pub mod Reload
