@@ -4,8 +4,12 @@ use Rattle.block.specs.Limits.{broad, image_bytes}
 use Rattle.image.proofs.Editions.{image-largest}
 use Rattle.image.specs.Load.{fault_refusal, Loaded, refused, loaded, load}
 use Rattle.image.proofs.Load.{load_is}
-use Rattle.session.specs.{Session.{Session}, Transcript.{session_from, most_text}, Link.SessionRules.{SessionKept, session-kept}}
-use Rattle.session.specs.AnswersBound.{answers_bound, answers_fit}
+use Rattle.session.specs.Session.{Session}
+use Rattle.session.specs.Transcript.{session_from, most_text}
+use Rattle.session.specs.Link.SessionRules.{SessionKept}
+use Rattle.session.proofs.SessionRules.{session-kept}
+use Rattle.session.specs.AnswersBound.{answers_bound}
+use Rattle.session.proofs.AnswersBound.{answers_fit}
 use Rattle.capi.specs.{Access.{image_of, refuse, begin, started, start_of, run_from, access_run}, Link.CallFrom.{CallRoom, says-fits}}
 
 -- the session that a call begins with keeps the rules

@@ -2,7 +2,7 @@
 use Rattle.laws.specs.Kit.{◌≡◌, refl, sym, ap, ◌∙◌, List, [], ◌++◌, none, some, ℕ}
 use Rattle.machine.specs.Table.{State}
 use Rattle.session.specs.{Session.{Session}, Transcript.{TextLine, lines_of, answers_of, session_of, printed, transcript_from, session_from}}
-use Rattle.session.specs.Link.SessionRules.{lines-kept}
+use Rattle.session.proofs.SessionRules.{lines-kept}
 use Rattle.image.specs.Encode.{encode}
 use Rattle.capi.specs.{Access.{begin, image_of, start_of, access_run}, Link.CutText.{session-append, bytes-append}}
 use Rattle.capi.specs.{Link.CallWrote.{answers_in, image_in, wrote}, CutSchedule.{start-image}, TextDemand3.{Told, lines_demand_3}}

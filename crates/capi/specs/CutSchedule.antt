@@ -5,7 +5,7 @@ use Rattle.image.proofs.Load.{load-encode}
 use Rattle.image.proofs.EachBlock.{image-sound}
 use Rattle.schedule.specs.Lines.{LF}
 use Rattle.session.specs.{Session.{Session}, Transcript.{lines_of, transcript_from, session_from}, Link.SessionRules.{SessionKept}}
-use Rattle.session.specs.Link.SessionRules.{session-kept}
+use Rattle.session.proofs.SessionRules.{session-kept}
 use Rattle.capi.specs.{Access.{begin, started, image_of, start_of, access_run}, Link.CutText.{lines_cut, session-append, bytes-append}}
 use Rattle.capi.specs.{Link.ImageStart.{start-load}, Link.CallWrote.{answers_in, image_in, began, wrote}}
 

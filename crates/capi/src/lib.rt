@@ -1,4 +1,6 @@
 // The face to other languages: a saved table and a schedule in, the answers and the table saved after it out.
+#![tactic(auto)]
+
 ghost use Rattle.std.specs.Prelude.{◌≡◌, true, ℕ, ◌+◌, ◌≤◌, length, take};
 ghost use Rattle.std.proofs.lemmas.List.Edits.{sets};
 ghost use Rattle.session.specs.Holds.{SomeSession};

@@ -1,35 +1,24 @@
-use Rattle.laws.specs.Kit.{List, ℕ, sym, ap, ◌∙◌, arith, length, length-take-le, sets, needs}
+-- by convert.py: delete this line once you edit the file
+use Rattle.laws.specs.Kit.{List, ℕ, sym, ap, ◌∙◌, arith, length, length-take-le, sets}
 use Rattle.table.specs.Model.{table_with}
 use Rattle.session.specs.Transcript.{session_from}
 use Rattle.capi.specs.Link.CallFrom.{run-refused, run-accepted, first-all, first-left, no-image-room}
-use Rattle.capi.proofs.end.Statement.{statement}
-use Rattle.capi.proofs.end.Tie as tie
+use Rattle.capi.proofs.end.Goals as goal
 
-returns : tie.Need-returns
-returns c text at t h z w g b =
+pub returns-then-answers-len : goal.returns-then-answers-len
+returns-then-answers-len c text at t h z w g b =
     let q = c.before.before.before.before.before in
     let a = q.args in
     let e = length-take-le a.len a.first.now q.requires.1.0 in
     run-refused z text a.answers.now a.image-out.now a.lengths.now (λ m. omega (arith, m.answers_room, ap length (first-all b h), c.if1.true))
 
-image-size-requires : tie.Need-image-size-requires
-image-size-requires c κs =
-    let q = c.before.before.before.before.before in
-    record { session = q.requires.0.session; cells = q.args.cells.now; opens = q.args.opens.now; holds = q.requires.0.holds }
-
-returns-2 : tie.Need-returns-2
-returns-2 c text at t h z w g b =
+pub returns-then-image_out-image_size : goal.returns-then-image_out-image_size
+returns-then-image_out-image_size c text at t h z w g b =
     let a = c.before.before.before.before.before.before.before.args in
     run-refused z text a.answers.now a.image-out.now a.lengths.now (no-image-room (c.before.image-size.ensures (session_from z text 0) a.cells.now a.opens.now (first-left b h (table_with a.core a.cells.now a.opens.now) g)) c.if2.true)
 
-save-image-requires : tie.Need-save-image-requires
-save-image-requires c κs =
-    let s = c.before.before.before.before.before in
-    let q = s.before.before.before.before.before.before.before in
-    (q.requires.0, λ z h. rw (s.before.image-size.ensures z q.args.cells.now q.args.opens.now h) at s.if2.false)
-
-returns-3 : tie.Need-returns-3
-returns-3 c text at t h z w g b =
+pub returns : goal.returns
+returns c text at t h z w g b =
     let s = c.before.before.before.before.before.before.before.before in
     let q = s.before.before.before.before.before.before.before in
     let a = q.args in
@@ -42,7 +31,3 @@ returns-3 c text at t h z w g b =
     (record { text_room = t; answers_room = omega (arith, s.before.before.if1.false); image_room = omega (arith, s.if2.false); lengths_room = q.requires.1.1 })
     (c.before.before.before.before.before.before.copy.ensures ∙ ap (λ (l : List ℕ). sets a.answers.now 0 l) (sym (first-all b h)))
     i.0 (omega arith) i.1
-
-pub end_spec : {M : Type 1} → statement M
-end_spec = tie.close (tie.spec returns image-size-requires returns-2 (λ c κs. search needs) save-image-requires (λ c. search needs)
-    (λ c. search needs) (λ c. search needs) (λ c. search needs) (λ c. search needs) returns-3)

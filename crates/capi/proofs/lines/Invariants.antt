@@ -1,0 +1,14 @@
+-- by convert.py: delete this line once you edit the file
+use Rattle.laws.specs.{Kit.{◌+◌, ◌-◌, ◌≡◌, sym, ◌∙◌, ⊎_elim, length, take, sets}, Loop.{pick}}
+use Rattle.session.specs.{Session.{Session}, Holds.{Holds}}
+use Rattle.capi.specs.{Mirror.AccessParts.{most_part}, Link.RunsOfLines.{Lining, lining_start, lining_long, lining_room}}
+use Rattle.capi.specs.Link.RunsOfLines.{lining_place, lining_sum, lining_part, lining_less, lining_on, lining_end}
+use Rattle.table.specs.Model.{table_with}
+use Rattle.capi.proofs.lines.Given as goal
+
+abbrev pub invariant-loop-place : goal.invariant-loop-place
+invariant-loop-place l =
+    (length l.part ≡ most_part) × ((z : Session) → Holds (table_with l.initial.last l.initial.cells l.initial.opens) z → Lining z l.text l.initial.place l.put l.initial.out l.from (table_with l.last l.cells l.opens) l.place l.len l.out)
+
+abbrev pub decreases-loop-place : goal.decreases-loop-place
+decreases-loop-place l = length l.text - l.place

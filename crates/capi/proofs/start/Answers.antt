@@ -1,0 +1,15 @@
+-- by convert.py: delete this line once you edit the file
+use Rattle.table.specs.Model.{table_with}
+use Rattle.load.specs.Loading.{zeros_so}
+use Rattle.capi.specs.Link.ImageStart.{empty_starts, image-starts}
+use Rattle.capi.proofs.start.Goals as goal
+
+pub returns-then-image-eq0 : goal.returns-then-image-eq0
+returns-then-image-eq0 c =
+    let k = c.fresh_core-none in
+    empty_starts c.args.image.now (table_with k.result c.args.cells.now c.args.opens.now) c.if-image-eq0.true (zeros_so k.ensures c.requires.0 c.requires.1)
+
+pub returns : goal.returns
+returns c =
+    let l = c.load_into in
+    image-starts c.args.image.now l.result.answer (table_with l.result.core l.new.1.0 l.new.1.1.0) c.if-image-eq0.false l.ensures
