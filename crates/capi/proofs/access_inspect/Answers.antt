@@ -1,4 +1,3 @@
--- by convert.py: delete this line once you edit the file
 use Rattle.capi.specs.Link.Inspecting.{inspect_short, inspect_done}
 use Rattle.capi.proofs.access_inspect.Goals as goal
 

@@ -1,4 +1,3 @@
--- by convert.py: delete this line once you edit the file
 use Rattle.std.proofs.Common.{rules}
 use Rattle.laws.specs.Kit.{◌≤◌, ◌-◌, ◌≡◌, sym, ◌∙◌, arith, zero-add, length, take, take_all, take-length, sets, length-sets}
 use Rattle.block.specs.Link.BlockFill.{set_more}

@@ -1,4 +1,3 @@
--- by convert.py: delete this line once you edit the file
 use Rattle.laws.specs.Kit.{List, ℕ, sym, ap, ◌∙◌, arith, length, length-take-le, sets}
 use Rattle.table.specs.Model.{table_with}
 use Rattle.session.specs.Transcript.{session_from}
@@ -7,27 +6,24 @@ use Rattle.capi.proofs.end.Goals as goal
 
 pub returns-then-answers-len : goal.returns-then-answers-len
 returns-then-answers-len c text at t h z w g b =
-    let q = c.before.before.before.before.before in
-    let a = q.args in
-    let e = length-take-le a.len a.first.now q.requires.1.0 in
-    run-refused z text a.answers.now a.image-out.now a.lengths.now (λ m. omega (arith, m.answers_room, ap length (first-all b h), c.if1.true))
+    let a = c.args in
+    let e = length-take-le a.len a.first.now c.requires.len_in_bounds.0 in
+    run-refused z text a.answers.now a.image_out.now a.lengths.now (λ m. omega (arith, m.answers_room, ap length (first-all b h), c.if-answers-len.true))
 
 pub returns-then-image_out-image_size : goal.returns-then-image_out-image_size
 returns-then-image_out-image_size c text at t h z w g b =
-    let a = c.before.before.before.before.before.before.before.args in
-    run-refused z text a.answers.now a.image-out.now a.lengths.now (no-image-room (c.before.image-size.ensures (session_from z text 0) a.cells.now a.opens.now (first-left b h (table_with a.core a.cells.now a.opens.now) g)) c.if2.true)
+    let a = c.args in
+    run-refused z text a.answers.now a.image_out.now a.lengths.now (no-image-room (c.image_size.ensures (session_from z text 0) a.cells.now a.opens.now (first-left b h (table_with a.core a.cells.now a.opens.now) g)) c.if-image_out-image_size.true)
 
 pub returns : goal.returns
 returns c text at t h z w g b =
-    let s = c.before.before.before.before.before.before.before.before in
-    let q = s.before.before.before.before.before.before.before in
-    let a = q.args in
-    let e = length-take-le a.len a.first.now q.requires.1.0 in
+    let a = c.args in
+    let e = length-take-le a.len a.first.now c.requires.len_in_bounds.0 in
     let all = ap length (first-all b h) in
     let y = first-left b h (table_with a.core a.cells.now a.opens.now) g in
-    let size = s.before.image-size.ensures (session_from z text 0) a.cells.now a.opens.now y in
-    let i = c.before.before.save-image.ensures (session_from z text 0) y in
-    run-accepted z text a.answers.now a.image-out.now a.lengths.now
-    (record { text_room = t; answers_room = omega (arith, s.before.before.if1.false); image_room = omega (arith, s.if2.false); lengths_room = q.requires.1.1 })
-    (c.before.before.before.before.before.before.copy.ensures ∙ ap (λ (l : List ℕ). sets a.answers.now 0 l) (sym (first-all b h)))
+    let size = c.image_size.ensures (session_from z text 0) a.cells.now a.opens.now y in
+    let i = c.save_image-size.ensures (session_from z text 0) y in
+    run-accepted z text a.answers.now a.image_out.now a.lengths.now
+    (record { text_room = t; answers_room = omega (arith, c.if-answers-len.false); image_room = omega (arith, c.if-image_out-image_size.false); lengths_room = c.requires.len_in_bounds.1 })
+    (c.copy.ensures ∙ ap (λ (l : List ℕ). sets a.answers.now 0 l) (sym (first-all b h)))
     i.0 (omega arith) i.1

@@ -1,4 +1,3 @@
--- by convert.py: delete this line once you edit the file
 use Rattle.table.specs.Model.{table_with}
 use Rattle.laws.specs.Kit.{sym, ap, ◌∙◌, length}
 use Rattle.capi.specs.Link.SessionImage.{no-image, image-few, image-long}
@@ -6,5 +5,5 @@ use Rattle.capi.proofs.image_size.Goals as goal
 
 pub returns : goal.returns
 returns c z cs os h =
-    let k = c.before.before.args.core in
-    c.image-length.ensures ∙ image-long (table_with k cs os) c.before.if1.false z h
+    let k = c.args.core in
+    c.image_length.ensures ∙ image-long (table_with k cs os) c.if-n-eq0.false z h

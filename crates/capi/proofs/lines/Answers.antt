@@ -1,21 +1,20 @@
--- by convert.py: delete this line once you edit the file
 use Rattle.laws.specs.{Kit.{◌+◌, ◌-◌, ◌≡◌, sym, ◌∙◌, ⊎_elim, length, take, sets}, Loop.{pick}}
 use Rattle.session.specs.{Session.{Session}, Holds.{Holds}}
 use Rattle.capi.specs.{Mirror.AccessParts.{most_part}, Link.RunsOfLines.{Lining, lining_start, lining_long, lining_room}}
 use Rattle.capi.specs.Link.RunsOfLines.{lining_place, lining_sum, lining_part, lining_less, lining_on, lining_end}
 use Rattle.table.specs.Model.{table_with}
 use Rattle.capi.proofs.lines.Goals as goal
-use Rattle.capi.proofs.lines.Goals.{Joined-put}
+use Rattle.capi.proofs.lines.Goals.{Joined-put, then-put, else-put}
 
 -- the buffer after a turn
 put_out : (c : goal.Joined-put)
     → (let a = c.args in let L = c.loop-place in let u = c.run-p in
-    c.if-put.out ≡ pick a.put (sets L.out (a.from + L.len) (take u.result.len u.new.1.1.1.1.1.0)) L.out)
+    c.if-put.out ≡ pick a.put (sets L.out (a.from + L.len) (take u.result.len u.new.out)) L.out)
 put_out c =
-    ⊎_elim
-    (λ w. rw w.0.taken (w.6 ∙ w.3.ensures))
-    (λ w. rw w.0.left w.1)
-    c.if-put.branch
+    elim c.if-put.branch [
+      | then-put w ↦ rw w.if-put.true (w.out-is ∙ w.copy.ensures)
+      | else-put w ↦ rw w.if-put.false w.out-is
+    ]
 
 pub copy-requires : goal.copy-requires
 copy-requires c =
@@ -37,9 +36,9 @@ pub loop-place-preserved : goal.loop-place-preserved
 loop-place-preserved c =
     let L = c.loop-place in
     let u = c.run-p in (
-      u.auto.1.1.1.1.1.0 ∙ L.invariant.0,
+      u.auto.out ∙ L.invariant.0,
       λ z h. let g = L.invariant.1 z h in lining_on g (u.ensures g.session g.holds) L.invariant.0 c.loop-place-test.true (put_out (goal.at.loop-place-preserved c).Joined-put),
     )
 
 pub returns : goal.returns
-returns c z h = lining_end (c.before.loop.invariant.1 z h) c.before.before.before.before.before.requires.1.0 c.loop-test.false
+returns c z h = lining_end (c.loop-place.invariant.1 z h) c.requires.text_len_bound.0 c.loop-place-test.false

@@ -1,4 +1,3 @@
--- by convert.py: delete this line once you edit the file
 use Rattle.laws.specs.{Kit.{◌+◌, ◌-◌, ◌≡◌, sym, ◌∙◌, ⊎_elim, length, take, sets}, Loop.{pick}}
 use Rattle.session.specs.{Session.{Session}, Holds.{Holds}}
 use Rattle.capi.specs.{Mirror.AccessParts.{most_part}, Link.RunsOfLines.{Lining, lining_start, lining_long, lining_room}}

@@ -1,4 +1,3 @@
--- by convert.py: delete this line once you edit the file
 use Rattle.table.specs.Model.{table_with}
 use Rattle.load.specs.Loading.{zeros_so}
 use Rattle.capi.specs.Link.ImageStart.{empty_starts, image-starts}
@@ -12,4 +11,4 @@ returns-then-image-eq0 c =
 pub returns : goal.returns
 returns c =
     let l = c.load_into in
-    image-starts c.args.image.now l.result.answer (table_with l.result.core l.new.1.0 l.new.1.1.0) c.if-image-eq0.false l.ensures
+    image-starts c.args.image.now l.result.answer (table_with l.result.core l.new.cells l.new.opens) c.if-image-eq0.false l.ensures
