@@ -1,4 +1,5 @@
 // The answers to steps, and why one is refused, as values (document 01, "Steps and answers"). Their text is in `answer`.
+#![tactic(auto)]
 
 // Why a line or a call is refused.
 #[derive(Clone, Copy)]

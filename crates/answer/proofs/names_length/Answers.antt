@@ -1,6 +1,6 @@
 use Rattle.std.proofs.Common.{rules}
-use Rattle.laws.specs.Kit.{◌+◌, ◌-◌, ◌*◌, ◌≤◌, ◌≡◌, ap, arith, length}
-use Rattle.answer.specs.Link.NameLengths.{names_left, names-start, names_longer, names_end}
+use Rattle.laws.specs.Kit.{ap, arith, length}
+use Rattle.answer.specs.Link.NameLengths.{names-start, names_longer, names_end}
 use Rattle.answer.proofs.names_length.Goals as goal
 
 pub loop-j-preserved : goal.loop-j-preserved

@@ -1,6 +1,6 @@
 -- The sum so far and what is left are the whole; each name has at most 12 bytes with its space.
-use Rattle.laws.specs.Kit.{◌+◌, ◌-◌, ◌*◌, ◌≤◌, ◌≡◌, ap, arith, length}
-use Rattle.answer.specs.Link.NameLengths.{names_left, names-start, names_longer, names_end}
+use Rattle.laws.specs.Kit.{◌+◌, ◌-◌, ◌*◌, ◌≤◌, ◌≡◌, length}
+use Rattle.answer.specs.Link.NameLengths.{names_left}
 use Rattle.answer.proofs.names_length.Given as goal
 
 abbrev pub invariant-loop-j : goal.invariant-loop-j

@@ -1,7 +1,7 @@
 use Rattle.std.proofs.Common.{rules}
 use Rattle.laws.specs.{Kit.{ℕ, ◌<◌, ◌≤◌, ◌≡◌, List, ◌++◌, arith, length, length-append}, Text.{text}}
 use Rattle.reply.specs.{declared.Answer.{Answer}, Meaning.{answer_of}}
-use Rattle.answer.specs.{Bytes.{answer_bytes, most_answer}, Outcome.{short-kept, line-ended}}
+use Rattle.answer.specs.{Bytes.{answer_bytes, most_answer}, Outcome.{line-ended}}
 use Rattle.answer.proofs.put.Goals as goal
 
 abbrev bytes : Answer → List ℕ → List ℕ

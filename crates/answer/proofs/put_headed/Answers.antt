@@ -1,6 +1,4 @@
-use Rattle.laws.specs.{Kit.{arith, length-append}, Stores.{left-start, left_put, left-last}}
-use Rattle.machine.specs.Table.{name}
-use Rattle.answer.specs.Bytes.{name_bytes}
+use Rattle.laws.specs.{Stores.{left-start, left_put, left-last}}
 use Rattle.answer.proofs.put_headed.Goals as goal
 
 pub returns : goal.returns

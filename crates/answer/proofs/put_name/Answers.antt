@@ -1,4 +1,4 @@
-use Rattle.laws.specs.{Kit.{refl, arith, length-set}, Stores.{stored_one, stored-long, left-from, left_put, left-last}}
+use Rattle.laws.specs.{Kit.{refl, arith, length-set}, Stores.{stored_one, left-from, left_put, left-last}}
 use Rattle.answer.specs.Link.NameLengths.{name-length, name_parts}
 use Rattle.answer.proofs.put_name.Goals as goal
 

@@ -1,7 +1,7 @@
 use Rattle.std.proofs.Common.{rules}
-use Rattle.laws.specs.{Kit.{◌+◌, ◌-◌, ◌≤◌, refl, ap, arith, length, length-set}, Stores.{StoresLeft, stored_one, left-start}}
+use Rattle.laws.specs.{Kit.{refl, ap, arith, length, length-set}, Stores.{stored_one, left-start}}
 use Rattle.laws.specs.Stores.{left_put, left-none}
-use Rattle.answer.specs.Link.NameLengths.{names_left, names-start, names-next, names_longer, names_end}
+use Rattle.answer.specs.Link.NameLengths.{names-start, names-next, names_longer, names_end}
 use Rattle.answer.proofs.put_names.Goals as goal
 
 pub loop-j-init : goal.loop-j-init

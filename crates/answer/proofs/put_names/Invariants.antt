@@ -1,7 +1,6 @@
 -- What is left of the names makes the whole.
-use Rattle.laws.specs.{Kit.{◌+◌, ◌-◌, ◌≤◌, refl, ap, arith, length, length-set}, Stores.{StoresLeft, stored_one, left-start}}
-use Rattle.laws.specs.Stores.{left_put, left-none}
-use Rattle.answer.specs.Link.NameLengths.{names_left, names-start, names-next, names_longer, names_end}
+use Rattle.laws.specs.{Kit.{◌+◌, ◌-◌, ◌≤◌, length}, Stores.{StoresLeft}}
+use Rattle.answer.specs.Link.NameLengths.{names_left}
 use Rattle.answer.proofs.put_names.Given as goal
 
 abbrev pub invariant-loop-j : goal.invariant-loop-j

@@ -1,5 +1,5 @@
-use Rattle.laws.specs.{Kit.{refl, arith, length-set}, Stores.{stored_one, stored-long, left-from, left_put, left-last}}
-use Rattle.answer.specs.Link.NameLengths.{shown_parts, shown-length}
+use Rattle.laws.specs.{Kit.{refl}, Stores.{stored_one, left-from, left_put, left-last}}
+use Rattle.answer.specs.Link.NameLengths.{shown_parts}
 use Rattle.answer.proofs.put_shown.Goals as goal
 
 pub returns : goal.returns

@@ -1,5 +1,5 @@
 use Rattle.std.proofs.Common.{rules}
-use Rattle.laws.specs.Kit.{◌≤◌, ◌-◌, ◌≡◌, arith, length, take, sets}
+use Rattle.laws.specs.Kit.{arith}
 use Rattle.block.specs.Link.BlockFill.{set_more}
 use Rattle.block.proofs.copy.Goals as goal
 

@@ -1,5 +1,4 @@
-use Rattle.laws.specs.Kit.{◌≤◌, ◌-◌, ◌≡◌, arith, length, take, sets}
-use Rattle.block.specs.Link.BlockFill.{set_more}
+use Rattle.laws.specs.Kit.{◌≤◌, ◌-◌, ◌≡◌, length, take, sets}
 use Rattle.block.proofs.copy.Given as goal
 
 abbrev pub invariant-loop-j : goal.invariant-loop-j

@@ -1,6 +1,6 @@
-use Rattle.block.specs.{Limits.{block_bytes}, Mirror.BlockTests.{PassesAt}}
-use Rattle.laws.specs.{Cat.{part}, Says.{Says, apart}, Kit.{below_more, length-take, length-drop, not-true, not-false, arith, ◌≡◌, ℕ, ◌<◌}}
-use Rattle.laws.specs.Kit.{◌≤◌, ◌+◌, ◌*◌, ◌-◌}
+use Rattle.block.specs.{Mirror.BlockTests.{PassesAt}}
+use Rattle.laws.specs.{Kit.{ℕ, ◌<◌}}
+use Rattle.laws.specs.Kit.{◌≤◌, ◌-◌}
 use Rattle.block.proofs.first_not.Given as goal
 
 abbrev pub invariant-loop-k : goal.invariant-loop-k

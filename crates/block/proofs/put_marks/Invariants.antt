@@ -1,5 +1,4 @@
-use Rattle.block.specs.{Link.BlockFill.{tab_put}, Block.{mark_bytes}}
-use Rattle.laws.specs.{Tab.{tab, tab_from}, Kit.{sets, get_or, ◌≡◌, ◌∙◌, arith, ◌≤◌, ◌-◌}}
+use Rattle.laws.specs.{Tab.{tab}, Kit.{sets, get_or, ◌≡◌, ◌≤◌, ◌-◌}}
 use Rattle.block.proofs.put_marks.Given as goal
 
 abbrev pub invariant-loop-t : goal.invariant-loop-t

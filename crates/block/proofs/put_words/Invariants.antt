@@ -1,5 +1,5 @@
-use Rattle.block.specs.{Link.BlockFill.{sets_more}, Block.{word, vector_words}}
-use Rattle.laws.specs.{Cat.{cat, length-cat}, Kit.{sets, get_or, ◌≡◌, refl, ◌∙◌, arith, ◌≤◌, ◌-◌, ◌*◌}}
+use Rattle.block.specs.{Block.{word}}
+use Rattle.laws.specs.{Cat.{cat}, Kit.{sets, get_or, ◌≡◌, ◌≤◌, ◌-◌}}
 use Rattle.block.proofs.put_words.Given as goal
 
 abbrev pub invariant-loop-t : goal.invariant-loop-t

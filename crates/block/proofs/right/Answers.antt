@@ -1,5 +1,5 @@
 use Rattle.block.specs.Damage.{check_in}
-use Rattle.laws.specs.{Says.{says-eqb}, }
+use Rattle.laws.specs.{Says.{says-eqb}}
 use Rattle.block.proofs.right.Goals as goal
 
 pub returns : goal.returns

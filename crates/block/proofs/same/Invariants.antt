@@ -1,4 +1,4 @@
-use Rattle.laws.specs.{Says.{Says, says_as, clash}, Kit.{⊎_elim, List, length, get_or, below_more, ext_get_or, ap, arith, ◌≡◌, refl, ℕ, ◌≤◌}}
+use Rattle.laws.specs.{Says.{Says}, Kit.{length, get_or, ◌≡◌, ℕ, ◌≤◌}}
 use Rattle.laws.specs.Kit.{◌<◌, ◌-◌}
 use Rattle.block.proofs.same.Given as goal
 

@@ -1,6 +1,4 @@
-use Rattle.laws.specs.Kit.{◌≤◌, ◌-◌, ◌≡◌, sym, ◌∙◌, arith, zero-add, length, take, take_all, take-length, sets, length-sets}
-use Rattle.block.specs.Link.BlockFill.{set_more}
-use Rattle.load.specs.Loading.{saved_part}
+use Rattle.laws.specs.Kit.{◌≤◌, ◌-◌, ◌≡◌, length, take, sets}
 use Rattle.capi.proofs.copy_numbers.Given as goal
 
 abbrev pub invariant-loop-j : goal.invariant-loop-j

@@ -1,6 +1,6 @@
-use Rattle.laws.specs.{Kit.{arith, length-set, length-take-le}, Says.{clash}}
+use Rattle.laws.specs.{Kit.{arith, length-take-le}}
 use Rattle.session.specs.Transcript.{session_from}
-use Rattle.capi.specs.Link.CallFrom.{run-refused, run-accepted, lined_room, lined_sum, all_left, all-long, no-answers-room, all_room}
+use Rattle.capi.specs.Link.CallFrom.{run-refused, run-accepted, all_left, all-long, no-answers-room, all_room}
 use Rattle.capi.specs.Link.CallFrom.{all_put, no-image-room}
 use Rattle.capi.proofs.finish.Goals as goal
 

@@ -1,6 +1,6 @@
 use Rattle.table.specs.Model.{table_with}
-use Rattle.laws.specs.Kit.{sym, ap, ◌∙◌, length}
-use Rattle.capi.specs.Link.SessionImage.{no-image, image-few, image-long}
+use Rattle.laws.specs.Kit.{◌∙◌}
+use Rattle.capi.specs.Link.SessionImage.{image-long}
 use Rattle.capi.proofs.image_size.Goals as goal
 
 pub returns : goal.returns

@@ -1,7 +1,6 @@
-use Rattle.laws.specs.{Kit.{◌+◌, ◌-◌, ◌≡◌, sym, ◌∙◌, ⊎_elim, length, take, sets}, Loop.{pick}}
+use Rattle.laws.specs.{Kit.{◌-◌, ◌≡◌, length}}
 use Rattle.session.specs.{Session.{Session}, Holds.{Holds}}
-use Rattle.capi.specs.{Mirror.AccessParts.{most_part}, Link.RunsOfLines.{Lining, lining_start, lining_long, lining_room}}
-use Rattle.capi.specs.Link.RunsOfLines.{lining_place, lining_sum, lining_part, lining_less, lining_on, lining_end}
+use Rattle.capi.specs.{Mirror.AccessParts.{most_part}, Link.RunsOfLines.{Lining}}
 use Rattle.table.specs.Model.{table_with}
 use Rattle.capi.proofs.lines.Given as goal
 

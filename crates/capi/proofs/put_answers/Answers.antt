@@ -1,4 +1,3 @@
-use Rattle.laws.specs.Kit.{refl, arith}
 use Rattle.session.specs.Transcript.{transcript_from}
 use Rattle.capi.specs.Link.CallFrom.{both_put}
 use Rattle.capi.proofs.put_answers.Goals as goal

@@ -1,6 +1,6 @@
 use Rattle.std.proofs.Common.{rules}
 use Rattle.clock.specs.{Vectors.{places}, Readiness.{covers, covers-over, covers_more, covers_end}}
-use Rattle.laws.specs.{Kit.{◌≤◌, ◌-◌, ◌≡◌, sym, ◌∙◌, inl, inr, false, not, get_or, ltb}, Loop.{pick}, All.{all}}
+use Rattle.laws.specs.{Kit.{sym, ◌∙◌}}
 use Rattle.clock.proofs.covers.Goals as goal
 use Rattle.clock.proofs.covers.Goals.{else-a-t, then-a-t}
 
@@ -13,9 +13,9 @@ loop-t-preserved c = let L = c.loop-t in
     let g = c.args in (
       search rules,
       elim c.if-a-t.branch [
-    | then-a-t w ↦ rw w.over-is (sym (covers-over places g.a g.v L.over L.t (search rules) w.if-a-t.true) ∙ L.invariant.1)
-    | else-a-t w ↦ rw w.over-is (sym (covers_more places g.a g.v L.over L.t (search rules) w.if-a-t.false) ∙ L.invariant.1)
-    ],
+        | then-a-t w ↦ rw w.over-is (sym (covers-over places g.a g.v L.over L.t (search rules) w.if-a-t.true) ∙ L.invariant.1)
+        | else-a-t w ↦ rw w.over-is (sym (covers_more places g.a g.v L.over L.t (search rules) w.if-a-t.false) ∙ L.invariant.1)
+      ],
     )
 
 pub returns : goal.returns

@@ -1,7 +1,7 @@
 use Rattle.std.proofs.Common.{rules}
-use Rattle.clock.specs.{Vectors.{places, place}, Readiness.{fails_at}}
-use Rattle.laws.specs.{Kit.{ℕ, ◌≤◌, ◌-◌, ◌+◌, ◌≡◌, refl, sym, ap, ◌∙◌, none, some}, Loop.{scan, scan-here, scan-next, scan_end}}
-use Rattle.machine.specs.{Table.{name}, Steps.{first_unapplied, failing}}
+use Rattle.clock.specs.{Vectors.{places}}
+use Rattle.laws.specs.{Kit.{ℕ, ◌+◌, refl, sym, ap, ◌∙◌, some}, Loop.{scan-here, scan-next, scan_end}}
+use Rattle.machine.specs.{Table.{name}, Steps.{failing}}
 use Rattle.clock.proofs.readiness.Goals as goal
 
 pub loop-t-init : goal.loop-t-init

@@ -1,6 +1,6 @@
 use Rattle.clock.specs.{Vectors.{places, place}, Readiness.{fails_at}}
-use Rattle.laws.specs.{Kit.{ℕ, ◌≤◌, ◌-◌, ◌+◌, ◌≡◌, refl, sym, ap, ◌∙◌, none, some}, Loop.{scan, scan-here, scan-next, scan_end}}
-use Rattle.machine.specs.{Table.{name}, Steps.{first_unapplied, failing}}
+use Rattle.laws.specs.{Kit.{◌≤◌, ◌-◌, ◌+◌, ◌≡◌, none, some}, Loop.{scan}}
+use Rattle.machine.specs.{Steps.{first_unapplied, failing}}
 use Rattle.clock.proofs.readiness.Given as goal
 
 abbrev pub invariant-loop-t : goal.invariant-loop-t

@@ -1,7 +1,6 @@
 use Rattle.std.proofs.Common.{rules}
-use Rattle.laws.specs.{Kit.{sym, ◌∙◌, ◌-◌, ◌+◌, ◌*◌, not-true, not-false}, All.{Rest, rest-fails, rest-next, rest_end}}
-use Rattle.table.specs.Value.{desk_cells, cell_at}
-use Rattle.rules.specs.Mirror.Test.{cell_test, all_cells_test}
+use Rattle.laws.specs.{Kit.{sym, ◌∙◌}, All.{rest-fails, rest-next, rest_end}}
+use Rattle.rules.specs.Mirror.Test.{all_cells_test}
 use Rattle.rules.proofs.cells_ok.Goals as goal
 
 pub loop-x-init : goal.loop-x-init

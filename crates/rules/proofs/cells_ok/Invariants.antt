@@ -1,4 +1,4 @@
-use Rattle.laws.specs.{Kit.{sym, ◌∙◌, ◌-◌, ◌+◌, ◌*◌, not-true, not-false}, All.{Rest, rest-fails, rest-next, rest_end}}
+use Rattle.laws.specs.{Kit.{◌-◌, ◌+◌, ◌*◌}, All.{Rest}}
 use Rattle.table.specs.Value.{desk_cells, cell_at}
 use Rattle.rules.specs.Mirror.Test.{cell_test, all_cells_test}
 use Rattle.rules.proofs.cells_ok.Given as goal

@@ -1,7 +1,6 @@
 use Rattle.std.proofs.Common.{rules}
-use Rattle.laws.specs.{Kit.{sym, ◌∙◌, ◌-◌, not-true, not-false}, All.{Rest, rest-fails, rest-next, rest_end}}
-use Rattle.table.specs.Value.{entries}
-use Rattle.rules.specs.Mirror.Test.{entry_test, all_entries_test}
+use Rattle.laws.specs.{Kit.{sym, ◌∙◌}, All.{rest-fails, rest-next, rest_end}}
+use Rattle.rules.specs.Mirror.Test.{all_entries_test}
 use Rattle.rules.proofs.entries_ok.Goals as goal
 
 pub loop-e-init : goal.loop-e-init

@@ -1,4 +1,4 @@
-use Rattle.laws.specs.{Kit.{sym, ◌∙◌, ◌-◌, not-true, not-false}, All.{Rest, rest-fails, rest-next, rest_end}}
+use Rattle.laws.specs.{Kit.{◌-◌}, All.{Rest}}
 use Rattle.table.specs.Value.{entries}
 use Rattle.rules.specs.Mirror.Test.{entry_test, all_entries_test}
 use Rattle.rules.proofs.entries_ok.Given as goal

@@ -1,6 +1,6 @@
 use Rattle.std.proofs.Common.{rules}
-use Rattle.laws.specs.Kit.{◌≡◌, sym, ◌∙◌, not-true, not-false}
-use Rattle.rules.specs.{Link.Gap.{gap_here, gap_down, gap_zero}, Mirror.Test.{has, gap_of}}
+use Rattle.laws.specs.Kit.{sym, ◌∙◌}
+use Rattle.rules.specs.{Link.Gap.{gap_here, gap_down, gap_zero}}
 use Rattle.rules.proofs.gap.Goals as goal
 
 pub returns-then-not-has : goal.returns-then-not-has

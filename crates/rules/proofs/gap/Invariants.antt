@@ -1,5 +1,5 @@
-use Rattle.laws.specs.Kit.{◌≡◌, sym, ◌∙◌, not-true, not-false}
-use Rattle.rules.specs.{Link.Gap.{gap_here, gap_down, gap_zero}, Mirror.Test.{has, gap_of}}
+use Rattle.laws.specs.Kit.{◌≡◌}
+use Rattle.rules.specs.{Mirror.Test.{has, gap_of}}
 use Rattle.rules.proofs.gap.Given as goal
 
 abbrev pub invariant-loop-k : goal.invariant-loop-k

@@ -1,7 +1,6 @@
 use Rattle.std.proofs.Common.{rules}
-use Rattle.laws.specs.{Kit.{ap, ◌∙◌, ℕ, ◌-◌, get_or, add-one}, Tab.{FilledTo, filled_start, filled_more, filled_end}}
-use Rattle.clock.specs.Vectors.{places}
-use Rattle.rules.specs.Mirror.Test.{has, gap_of, gap_at, gaps}
+use Rattle.laws.specs.{Kit.{ap, ◌∙◌, ℕ, get_or, add-one}, Tab.{filled_start, filled_more, filled_end}}
+use Rattle.rules.specs.Mirror.Test.{has, gap_of, gaps}
 use Rattle.rules.proofs.gap_counts.Goals as goal
 
 pub loop-t-init : goal.loop-t-init

@@ -1,6 +1,6 @@
-use Rattle.laws.specs.{Kit.{ap, ◌∙◌, ℕ, ◌-◌, get_or, add-one}, Tab.{FilledTo, filled_start, filled_more, filled_end}}
+use Rattle.laws.specs.{Kit.{◌-◌}, Tab.{FilledTo}}
 use Rattle.clock.specs.Vectors.{places}
-use Rattle.rules.specs.Mirror.Test.{has, gap_of, gap_at, gaps}
+use Rattle.rules.specs.Mirror.Test.{gap_at}
 use Rattle.rules.proofs.gap_counts.Given as goal
 
 abbrev pub invariant-loop-t : goal.invariant-loop-t

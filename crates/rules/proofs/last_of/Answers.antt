@@ -1,6 +1,5 @@
 use Rattle.std.proofs.Common.{rules}
-use Rattle.laws.specs.{Kit.{refl, sym, ap, ◌∙◌, ◌-◌, not}, All.{Rest, rest-fails, rest-next, rest_end}}
-use Rattle.table.specs.{Value.{entries}, EntryNames.{named_at}}
+use Rattle.laws.specs.{Kit.{refl, sym, ap, ◌∙◌, not}, All.{rest-fails, rest-next, rest_end}}
 use Rattle.rules.specs.Mirror.Test.{last_of}
 use Rattle.rules.proofs.last_of.Goals as goal
 

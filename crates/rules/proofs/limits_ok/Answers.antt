@@ -1,7 +1,6 @@
 use Rattle.std.proofs.Common.{rules}
-use Rattle.laws.specs.{Kit.{sym, ◌∙◌, ◌-◌, not-true, not-false}, All.{Rest, rest-fails, rest-next, rest_end}}
-use Rattle.table.specs.Value.{entries, open_at}
-use Rattle.rules.specs.Mirror.Parts.{limit_test, all_limits_test}
+use Rattle.laws.specs.{Kit.{sym, ◌∙◌}, All.{rest-fails, rest-next, rest_end}}
+use Rattle.rules.specs.Mirror.Parts.{all_limits_test}
 use Rattle.rules.proofs.limits_ok.Goals as goal
 
 pub loop-e-init : goal.loop-e-init

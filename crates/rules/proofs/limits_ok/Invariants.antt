@@ -1,4 +1,4 @@
-use Rattle.laws.specs.{Kit.{sym, ◌∙◌, ◌-◌, not-true, not-false}, All.{Rest, rest-fails, rest-next, rest_end}}
+use Rattle.laws.specs.{Kit.{◌-◌}, All.{Rest}}
 use Rattle.table.specs.Value.{entries, open_at}
 use Rattle.rules.specs.Mirror.Parts.{limit_test, all_limits_test}
 use Rattle.rules.proofs.limits_ok.Given as goal

@@ -1,7 +1,6 @@
 use Rattle.std.proofs.Common.{rules}
-use Rattle.laws.specs.{Kit.{sym, ◌∙◌, ◌-◌, not-true, not-false}, All.{Rest, rest-fails, rest-next, rest_end}}
-use Rattle.table.specs.Value.{entries, open_at}
-use Rattle.rules.specs.Mirror.Parts.{used_mark, used_marks}
+use Rattle.laws.specs.{Kit.{sym, ◌∙◌}, All.{rest-fails, rest-next, rest_end}}
+use Rattle.rules.specs.Mirror.Parts.{used_marks}
 use Rattle.rules.proofs.marks_ok.Goals as goal
 
 pub loop-e-init : goal.loop-e-init

@@ -1,4 +1,4 @@
-use Rattle.laws.specs.{Kit.{sym, ◌∙◌, ◌-◌, not-true, not-false}, All.{Rest, rest-fails, rest-next, rest_end}}
+use Rattle.laws.specs.{Kit.{◌-◌}, All.{Rest}}
 use Rattle.table.specs.Value.{entries, open_at}
 use Rattle.rules.specs.Mirror.Parts.{used_mark, used_marks}
 use Rattle.rules.proofs.marks_ok.Given as goal

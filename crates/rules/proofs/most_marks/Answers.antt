@@ -1,7 +1,6 @@
 use Rattle.std.proofs.Common.{rules}
-use Rattle.laws.specs.{Kit.{◌-◌}, Tab.{FilledTo, filled_start, filled_more, filled_end}}
-use Rattle.clock.specs.Vectors.{places}
-use Rattle.rules.specs.Mirror.Parts.{most_at, most_marks}
+use Rattle.laws.specs.{Tab.{filled_start, filled_more, filled_end}}
+use Rattle.rules.specs.Mirror.Parts.{most_marks}
 use Rattle.rules.proofs.most_marks.Goals as goal
 
 pub loop-t-init : goal.loop-t-init

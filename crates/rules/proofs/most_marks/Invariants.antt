@@ -1,6 +1,6 @@
-use Rattle.laws.specs.{Kit.{◌-◌}, Tab.{FilledTo, filled_start, filled_more, filled_end}}
+use Rattle.laws.specs.{Kit.{◌-◌}, Tab.{FilledTo}}
 use Rattle.clock.specs.Vectors.{places}
-use Rattle.rules.specs.Mirror.Parts.{most_at, most_marks}
+use Rattle.rules.specs.Mirror.Parts.{most_at}
 use Rattle.rules.proofs.most_marks.Given as goal
 
 abbrev pub invariant-loop-t : goal.invariant-loop-t

@@ -1,6 +1,6 @@
-use Rattle.laws.specs.{Kit.{◌-◌}, Tab.{FilledTo, filled_start, filled_more, filled_end}}
+use Rattle.laws.specs.{Kit.{◌-◌}, Tab.{FilledTo}}
 use Rattle.clock.specs.Vectors.{places}
-use Rattle.rules.specs.Mirror.Test.{own_at, owns}
+use Rattle.rules.specs.Mirror.Test.{own_at}
 use Rattle.rules.proofs.own_counts.Given as goal
 
 abbrev pub invariant-loop-t : goal.invariant-loop-t

@@ -1,6 +1,6 @@
-use Rattle.laws.specs.Kit.{true, ◌≡◌, sym, ◌∙◌, not-true, not-false}
+use Rattle.laws.specs.Kit.{true, ◌≡◌, sym, ◌∙◌}
 use Rattle.machine.specs.Steps.{begins}
-use Rattle.rules.specs.{Mirror.Test.{own_test}, Link.CodeLaws.{desks-within}}
+use Rattle.rules.specs.{Mirror.Test.{own_test}}
 use Rattle.rules.proofs.passes.Goals as goal
 use Rattle.rules.proofs.passes.Goals.{Else-not-begins}
 

@@ -1,8 +1,6 @@
 use Rattle.std.proofs.Common.{rules}
-use Rattle.laws.specs.{Kit.{sym, ◌∙◌, ◌-◌, not-true, not-false, get_or}, All.{Rest, rest-fails, rest-next, rest_end}}
-use Rattle.table.specs.Value.{desk0}
-use Rattle.clock.specs.Vectors.{places}
-use Rattle.rules.specs.Mirror.Parts.{used_desk, used_desks}
+use Rattle.laws.specs.{Kit.{sym, ◌∙◌}, All.{rest-fails, rest-next, rest_end}}
+use Rattle.rules.specs.Mirror.Parts.{used_desks}
 use Rattle.rules.proofs.used_desks_ok.Goals as goal
 
 pub loop-i-init : goal.loop-i-init

@@ -1,4 +1,4 @@
-use Rattle.laws.specs.{Kit.{sym, ◌∙◌, ◌-◌, not-true, not-false, get_or}, All.{Rest, rest-fails, rest-next, rest_end}}
+use Rattle.laws.specs.{Kit.{◌-◌, get_or}, All.{Rest}}
 use Rattle.table.specs.Value.{desk0}
 use Rattle.clock.specs.Vectors.{places}
 use Rattle.rules.specs.Mirror.Parts.{used_desk, used_desks}

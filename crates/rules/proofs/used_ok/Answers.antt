@@ -1,5 +1,5 @@
-use Rattle.laws.specs.Kit.{◌≡◌, sym, ◌∙◌, true, arith, not-true, not-false}
-use Rattle.rules.specs.{Mirror.Test.{ranges_test, used_test}, Link.CodeLaws.{writer-within}}
+use Rattle.laws.specs.Kit.{◌≡◌, sym, ◌∙◌, true}
+use Rattle.rules.specs.{Mirror.Test.{ranges_test, used_test}}
 use Rattle.rules.proofs.used_ok.Goals as goal
 use Rattle.rules.proofs.used_ok.Goals.{Else-not-ranges_ok}
 

@@ -1,6 +1,6 @@
 use Rattle.std.proofs.Common.{rules}
-use Rattle.laws.specs.Kit.{ℕ, ◌≡◌, ◌≤◌, ◌<◌, ◌-◌, refl, arith, length, get_or, get_or-eq_default, eqb, ltb, ltb-true, ltb-false}
-use Rattle.laws.specs.{Loop.{cases}, Says.{Says, says_as, says-one}}
+use Rattle.laws.specs.Kit.{arith, length, get_or-eq_default, eqb, ltb, ltb-true, ltb-false}
+use Rattle.laws.specs.{Loop.{cases}, Says.{says_as, says-one}}
 use Rattle.rules.specs.{Mirror.Parts.{zeros_test}, Link.CodeLaws.{zeros-more}}
 use Rattle.rules.proofs.zeros_from.Goals as goal
 

@@ -1,6 +1,5 @@
-use Rattle.laws.specs.Kit.{ℕ, ◌≡◌, ◌≤◌, ◌<◌, ◌-◌, refl, arith, length, get_or, get_or-eq_default, eqb, ltb, ltb-true, ltb-false}
-use Rattle.laws.specs.{Loop.{cases}, Says.{Says, says_as, says-one}}
-use Rattle.rules.specs.{Mirror.Parts.{zeros_test}, Link.CodeLaws.{zeros-more}}
+use Rattle.laws.specs.Kit.{ℕ, ◌≡◌, ◌≤◌, ◌<◌, ◌-◌, length, get_or, eqb}
+use Rattle.laws.specs.{Says.{Says}}
 use Rattle.rules.proofs.zeros_from.Given as goal
 
 abbrev pub invariant-loop-k : goal.invariant-loop-k

@@ -1,6 +1,5 @@
-use Rattle.laws.specs.Kit.{ℕ, ◌≤◌, ◌+◌, ◌-◌, ◌*◌, ◌≡◌, refl, ◌∙◌, List, inl, inr, some, arith, length, drop}
-use Rattle.text.specs.{Number.{most_number}, Words.{read_onto}, Fields.{digits_on, fields_at, DigitsAre, at_more, at_stop, at_end}}
-use Rattle.text.specs.Fields.{digits_large}
+use Rattle.laws.specs.Kit.{◌≤◌, ◌-◌, ◌≡◌, length, drop}
+use Rattle.text.specs.{Number.{most_number}, Fields.{digits_on}}
 use Rattle.text.proofs.digits.Given as goal
 
 abbrev pub invariant-loop-i : goal.invariant-loop-i

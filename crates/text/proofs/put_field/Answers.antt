@@ -1,5 +1,4 @@
-use Rattle.laws.specs.{Kit.{arith, length-append}, Stores.{left-start, left_put, left-last}}
-use Rattle.text.specs.Number.{decimal}
+use Rattle.laws.specs.{Stores.{left-start, left_put, left-last}}
 use Rattle.text.proofs.put_field.Goals as goal
 
 pub returns : goal.returns

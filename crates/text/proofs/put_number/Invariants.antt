@@ -1,7 +1,6 @@
 -- What is left, in place of the digits to come, makes the whole number.
-use Rattle.laws.specs.Kit.{ℕ, ◌+◌, ◌/◌, ◌%◌, ◌≤◌, ◌<◌, ◌≡◌, refl, sym, ap, ◌∙◌, List, [], ◌∷◌, arith, length, set, length-set, sets}
-use Rattle.laws.specs.Stores.{sets_last}
-use Rattle.text.specs.{Number.{decimal}, Link.Decimal.{decimal-one, decimal-more, decimal_longer, decimal-some}}
+use Rattle.laws.specs.Kit.{◌+◌, ◌<◌, ◌≡◌, length, sets}
+use Rattle.text.specs.{Number.{decimal}}
 use Rattle.text.proofs.put_number.Given as goal
 
 abbrev pub invariant-loop-v : goal.invariant-loop-v

@@ -1,6 +1,6 @@
 -- What is left of the words makes the whole.
-use Rattle.laws.specs.Kit.{◌+◌, ◌-◌, ◌≤◌, ◌<◌, add-zero, add-one, arith, length, drop, drop_of_length-le, drop-cons}
-use Rattle.laws.specs.Stores.{StoresLeft, stored_one, left-start, left_put, left-none}
+use Rattle.laws.specs.Kit.{◌+◌, ◌-◌, ◌≤◌, length, drop}
+use Rattle.laws.specs.Stores.{StoresLeft}
 use Rattle.text.proofs.put_words.Given as goal
 
 abbrev pub invariant-loop-j : goal.invariant-loop-j

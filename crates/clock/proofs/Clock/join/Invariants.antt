@@ -1,5 +1,5 @@
-use Rattle.clock.specs.Vectors.{places, larger_at, joined, clock_of}
-use Rattle.laws.specs.{Kit.{◌≤◌, ◌-◌, ◌≡◌, ap, ◌∙◌, ◌++◌, length, drop, arith}, Tab.{tab, fill_start, fill_more, fill_end}}
+use Rattle.clock.specs.Vectors.{places, larger_at}
+use Rattle.laws.specs.{Kit.{◌≤◌, ◌-◌, ◌≡◌, ◌++◌, length, drop}, Tab.{tab}}
 use Rattle.clock.proofs.Clock.join.Given as goal
 
 abbrev pub invariant-loop-t : goal.invariant-loop-t
