@@ -1,4 +1,5 @@
-use Rattle.laws.specs.Kit.{◌≤◌, ap, ◌∙◌, arith, rules, length, length-sets, length-take-le}
+use Rattle.std.specs.Prelude.{◌≤◌}
+use Rattle.laws.specs.Kit.{ap, ◌∙◌, arith, rules, length, length-sets, length-take-le}
 use Rattle.session.specs.{Transcript.{transcript}, Run.{ran_progress}}
 use Rattle.replay.specs.Answers.{reading_start, reading_comes, reading_sum, reading_on, reading_end}
 use Rattle.replay.specs.Answers.{written-none, written-on, written-all}
