@@ -1,8 +1,8 @@
 -- The answers to a whole text, part by part.
-use Rattle.laws.specs.Kit.{◌≡◌, refl, sym, ap, ◌∙◌, List, [], ◌++◌, append_assoc, append-nil, none, ℕ, ◌+◌, ◌-◌, ◌*◌, ◌<◌, ◌≤◌, arith}
+use Rattle.laws.specs.Kit.{refl, sym, ap, ◌∙◌, List, [], append_assoc, append-nil, none, ℕ, arith}
 use Rattle.laws.specs.{Kit.{length, take, drop, length-append, take_at, drop_at}, Text.{text as bytes}}
 use Rattle.laws.specs.Kit.{take-add, take_all}
-use Rattle.std.specs.Prelude.{Result, Option, None as Unknown, Some as Known}
+use Rattle.std.specs.Prelude.{◌≡◌, ◌++◌, ◌+◌, ◌-◌, ◌*◌, ◌<◌, ◌≤◌, Result, Option, None as Unknown, Some as Known}
 use Rattle.std.specs.{Io.{ReadsAtMost}, Io.KnownBytes.{Appends}}
 use Rattle.table.specs.{declared.Core.{Core}, Model.{table_with}}
 use Rattle.session.specs.{Session.{Session}, Transcript.{transcript_from, most_text, transcript}}

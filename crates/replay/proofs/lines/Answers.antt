@@ -1,6 +1,7 @@
-use Rattle.laws.specs.Kit.{◌≡◌, sym, ap, ◌∙◌, arith, rules, length, length-sets, length-take-le}
+use Rattle.std.specs.Prelude.{◌≤◌}
+use Rattle.laws.specs.Kit.{ap, ◌∙◌, arith, rules, length, length-sets, length-take-le}
 use Rattle.session.specs.{Transcript.{transcript}, Run.{ran_progress}}
-use Rattle.replay.specs.Answers.{Reading, reading_start, reading_comes, reading_sum, reading_on, reading_end}
+use Rattle.replay.specs.Answers.{reading_start, reading_comes, reading_sum, reading_on, reading_end}
 use Rattle.replay.specs.Answers.{written-none, written-on, written-all}
 use Rattle.replay.proofs.lines.Goals as goal
 
@@ -27,7 +28,8 @@ slice_bounds-out-end g c =
 pub slice_bounds-print-end : goal.slice_bounds-print-end
 slice_bounds-print-end g c =
     let r = c.run-p.ensures c.loop-at.invariant.going.session c.loop-at.invariant.going.holds in
-    sym (length-take-le _ _ (omega (arith, r.len_is, r.fits, ap length r.stored ∙ length-sets c.loop-at.out 0 r.lines)))
+    let n : c.run-p.result.len ≤ length c.run-p.new.out = omega (arith, r.len_is, r.fits, ap length r.stored ∙ length-sets c.loop-at.out 0 r.lines) in
+    omega (arith, length-take-le c.run-p.result.len c.run-p.new.out n)
 
 pub print-requires : goal.print-requires
 print-requires g c =

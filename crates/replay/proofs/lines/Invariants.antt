@@ -1,4 +1,5 @@
-use Rattle.laws.specs.Kit.{◌≡◌, ◌-◌, length, take}
+use Rattle.std.specs.Prelude.{◌≡◌, ◌-◌}
+use Rattle.laws.specs.Kit.{length, take}
 use Rattle.std.specs.Io.KnownBytes.{Appends}
 use Rattle.session.specs.Transcript.{transcript}
 use Rattle.replay.specs.Answers.{Reading}
