@@ -1,5 +1,6 @@
 -- What a step on a table value promises: the machine's step where the value keeps the rules, and 13 where it breaks them.
-use Rattle.laws.specs.Kit.{ℕ, ◌-◌, ◌*◌, ◌≤◌, ◌≡◌, refl, sym, ap, ◌∙◌, List, Bool, true, false, not, arith, get_or, replicate, sets}
+use Rattle.std.specs.Prelude.{◌-◌, ◌*◌, ◌≤◌, ◌≡◌}
+use Rattle.laws.specs.Kit.{ℕ, refl, sym, ap, ◌∙◌, List, Bool, true, false, not, arith, get_or, replicate, sets}
 use Rattle.laws.specs.Says.{Says}
 use Rattle.clock.specs.Vectors.{places}
 use Rattle.machine.specs.Answer as machine

@@ -1,6 +1,7 @@
 -- The contract leaves no choice: the code's answer, the core and the cells are fixed as values, of the open writes the set, and a refusal hands
 -- back the very table.
-use Rattle.laws.specs.{Kit.{ℕ, ◌<◌, ◌≡◌, refl, sym, ap, ◌∙◌, List, [], ◌∷◌, inl, inr, arith, sets}, Loop.{cases}, Says.{apart}}
+use Rattle.std.specs.Prelude.{◌<◌, ◌≡◌, ◌∷◌}
+use Rattle.laws.specs.{Kit.{ℕ, refl, sym, ap, ◌∙◌, List, [], inl, inr, arith, sets}, Loop.{cases}, Says.{apart}}
 use Rattle.machine.specs.{Table.{State}, Steps.{Step, Read, Write, Deliver, Trip, step, answers}, Refusals.{Row, rows_of, FirstFails}}
 use Rattle.machine.proofs.Refusals.{refusal-exactly}
 use Rattle.machine.specs.Answer as machine

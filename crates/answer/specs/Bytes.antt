@@ -1,5 +1,6 @@
 -- The output line of an answer (document 01, "Schedule text": "`replay` .. prints one line for each input line").
-use Rattle.laws.specs.{Kit.{ℕ, List, [], ◌∷◌, ◌++◌}, Text.{text}}
+use Rattle.std.specs.Prelude.{◌∷◌, ◌++◌}
+use Rattle.laws.specs.{Kit.{ℕ, List, []}, Text.{text}}
 use Rattle.text.specs.Number.{decimal}
 use Rattle.machine.specs.{Table.{Name}, Answer.{Answer, began, shows, wrote, holds, applies, judged, refused, unset, shown, Verdict, Yes}}
 use Rattle.machine.specs.Answer.{No, Unknown, number_of}

@@ -1,5 +1,6 @@
 -- The answer to writing a line into a lent buffer: document 01's number and values for every case of it, and what it leaves there.
-use Rattle.laws.specs.Kit.{ℕ, ◌+◌, ◌<◌, ◌≤◌, ◌≡◌, refl, Bool, List, ◌++◌, arith, le-leb, lt-leb, leb, length, set, length-append, sets}
+use Rattle.std.specs.Prelude.{◌+◌, ◌<◌, ◌≤◌, ◌≡◌, ◌++◌}
+use Rattle.laws.specs.Kit.{ℕ, refl, Bool, List, arith, le-leb, lt-leb, leb, length, set, length-append, sets}
 use Rattle.laws.specs.{Loop.{pick}, Stores.{Stored, stored_one, left-start, left_put, left-last}, Text.{text}}
 use Rattle.machine.specs.Answer.{Refusal, short}
 use Rattle.answer.specs.{declared.Written.{Written}, declared.Written.TheVariants.{Upto, Short}}

@@ -1,5 +1,6 @@
 -- Lines as in document 01's session, computed; in a name the two numbers differ, so that neither stands for the other.
-use Rattle.laws.specs.{Kit.{◌≡◌, refl, [], ◌∷◌}, Text.{text}}
+use Rattle.std.specs.Prelude.{◌≡◌, ◌∷◌}
+use Rattle.laws.specs.{Kit.{refl, []}, Text.{text}}
 use Rattle.machine.specs.{Table.{name}, Answer.{began, shows, wrote, holds, applies, judged, refused, unset, shown, Yes, No, Unknown}}
 use Rattle.machine.specs.Answer.{own_write, short}
 use Rattle.text.specs.Number.{digits, decimal}

@@ -1,5 +1,6 @@
 -- One value only stands for what writing a line comes to.
-use Rattle.laws.specs.Kit.{◌≡◌, refl, sym, ap, ◌∙◌}
+use Rattle.std.specs.Prelude.{◌≡◌}
+use Rattle.laws.specs.Kit.{refl, sym, ap, ◌∙◌}
 use Rattle.answer.specs.{declared.Written.{Written}, declared.Written.TheVariants.{Upto}, Outcome.{PutAnswer, upto, refused}}
 use Rattle.answer.specs.Outcome.{written_of}
 use Rattle.answer.specs.declared.Written.TheVariants as written

@@ -1,5 +1,6 @@
 -- Document 01, "Saved image", and document 02, T-06: the bytes of a block and its fields.
-use Rattle.laws.specs.{Kit.{ℕ, suc, ◌-◌, ◌/◌, ◌%◌, ◌≡◌, refl, List, [], ◌∷◌, ◌++◌, length, replicate}, Tab.{tab, length-tab}, Cat.{cat}}
+use Rattle.std.specs.Prelude.{◌-◌, ◌/◌, ◌%◌, ◌≡◌, ◌∷◌, ◌++◌}
+use Rattle.laws.specs.{Kit.{ℕ, suc, refl, List, [], length, replicate}, Tab.{tab, length-tab}, Cat.{cat}}
 use Rattle.laws.specs.Cat.{length-cat}
 use Rattle.machine.specs.Table.{Vec}
 use Rattle.block.specs.{Check.{check_of}, Limits.{payload_bytes, vector_bytes, edition_of}}

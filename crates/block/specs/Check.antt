@@ -1,5 +1,6 @@
 -- The check of a block: the format's definition, the handbook's, that they are one number, and all that anything else knows of it.
-use Rattle.laws.specs.Kit.{ℕ, zero, suc, ◌+◌, ◌*◌, ◌<◌, ◌≤◌, pred, ◌≡◌, refl, ◌∙◌, ap, List, [], ◌∷◌, ◌++◌, arith, mul-le-mul_left, length}
+use Rattle.std.specs.Prelude.{◌+◌, ◌*◌, ◌<◌, ◌≤◌, ◌≡◌, ◌∷◌, ◌++◌}
+use Rattle.laws.specs.Kit.{ℕ, zero, suc, pred, refl, ◌∙◌, ap, List, [], arith, mul-le-mul_left, length}
 use Rattle.laws.specs.{Kit.{get_or, get_or-append}, Sum.{sum, sum_same, sum-le}, Each.{Each, each_at}}
 use Rattle.block.specs.Limits.{check_at}
 

@@ -1,5 +1,6 @@
 -- What 15 and 12 are given for: "image length not a nonzero multiple of 512", and "a block check wrong".
-use Rattle.laws.specs.Kit.{ℕ, ◌+◌, ◌*◌, ◌/◌, ◌%◌, ◌<◌, ◌≤◌, ◌≡◌, Bool, false, ◌&&◌, List, arith, eqb, leb, length, get_or, get_or-append-add}
+use Rattle.std.specs.Prelude.{◌+◌, ◌*◌, ◌/◌, ◌%◌, ◌<◌, ◌≤◌, ◌≡◌, ◌&&◌}
+use Rattle.laws.specs.Kit.{ℕ, Bool, false, List, arith, eqb, leb, length, get_or, get_or-append-add}
 use Rattle.laws.specs.{Says.{Says, clash, says-leb, says-eqb, says_as, says_both}, Cat.{part}, FirstNot.{first_not, FirstNot, first_found}}
 use Rattle.block.specs.{Check.{check_of, check_first}, Block.{long, body, block}, Link.BlockPlaces.{length-body}, Limits.{block_bytes}}
 use Rattle.block.specs.Limits.{check_at, payload_bytes}

@@ -1,5 +1,6 @@
 -- Document 02, T-01: the place test, computed.
-use Rattle.laws.specs.{Kit.{ℕ, ◌≡◌, refl, List, [], ◌∷◌, ◌++◌, map}, FirstNot.{first_not}, Loop.{scan, turns}, Cat.{part}}
+use Rattle.std.specs.Prelude.{◌≡◌, ◌∷◌, ◌++◌}
+use Rattle.laws.specs.{Kit.{ℕ, refl, List, [], map}, FirstNot.{first_not}, Loop.{scan, turns}, Cat.{part}}
 use Rattle.block.specs.{Block.{block}, Stands.{first_misplaced}}
 
 -- three blocks that can stand at 0, 1 and 2: the image of a fresh table of a desk and a cell

@@ -1,6 +1,7 @@
 -- Document 01, "Saved image", and document 02, T-06: the numbers of the layout, each named once. A vector has p places, 8 in edition 1 and 16 in
 -- edition 2, and from that the documents' other numbers follow (edition_1, edition_2).
-use Rattle.laws.specs.Kit.{ℕ, ◌+◌, ◌-◌, ◌*◌, ◌/◌, ◌<◌, ◌≤◌, ◌≡◌, refl, arith, mul-div-le, div-mul-le_self, le-div_iff_mul-le, leb, leb-true}
+use Rattle.std.specs.Prelude.{◌+◌, ◌-◌, ◌*◌, ◌/◌, ◌<◌, ◌≤◌, ◌≡◌}
+use Rattle.laws.specs.Kit.{ℕ, refl, arith, mul-div-le, div-mul-le_self, le-div_iff_mul-le, leb, leb-true}
 use Rattle.laws.specs.{Kit.{div-lt_iff_lt-mul, lt-div-mul-add, mul-le-mul, mul-le-mul_left}, Loop.{pick, cases}}
 use Rattle.machine.specs.Table.{most_desks, most_writes, most_cells, most_open}
 

@@ -1,5 +1,6 @@
 -- Document 02, T-01: whether a block can stand where it is, by its own "place, edition or kind".
-use Rattle.laws.specs.Kit.{ℕ, zero, suc, ◌+◌, ◌*◌, ◌<◌, ◌≤◌, ◌≡◌, refl, Bool, false, ◌&&◌, List, arith, div-add-mod', eqb, leb, get_or}
+use Rattle.std.specs.Prelude.{◌+◌, ◌*◌, ◌<◌, ◌≤◌, ◌≡◌, ◌&&◌}
+use Rattle.laws.specs.Kit.{ℕ, zero, suc, refl, Bool, false, List, arith, div-add-mod', eqb, leb, get_or}
 use Rattle.laws.specs.{Kit.{dec_le}, Says.{Says, clash, says-leb, says-eqb, says_as, says_both}, FirstNot.{first_not, FirstNot}}
 use Rattle.laws.specs.{FirstNot.{first_found}, Each.{each_at, each_part}}
 use Rattle.block.specs.{Check.{Byte, Bytes}, Block.{block}, Damage.{block_in, blocks_in}}

@@ -1,6 +1,7 @@
 -- `access_run`: the table saved in an image, run over a schedule; its answers and the table saved after it. And `access_inspect`: what is wrong with
 -- an image, or the sizes of its table.
-use Rattle.laws.specs.{Kit.{Bool, ◌&&◌, List, [], ◌∷◌, none, some, ℕ, leb, length, sets}, Loop.{pick}}
+use Rattle.std.specs.Prelude.{◌&&◌, ◌∷◌}
+use Rattle.laws.specs.{Kit.{Bool, List, [], none, some, ℕ, leb, length, sets}, Loop.{pick}}
 use Rattle.machine.specs.Answer.{Refusal, number_of, short}
 use Rattle.session.specs.{Session.{Session}, Transcript.{transcript_from, session_from, most_text}}
 use Rattle.image.specs.{Encode.{encode}, Load.{fault_refusal, Loaded, loaded, refused, load}}

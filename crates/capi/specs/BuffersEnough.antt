@@ -1,5 +1,6 @@
 -- Buffers that are never too short: the header's ACCESS_ANSWERS_BOUND and ACCESS_MAX_IMAGE.
-use Rattle.laws.specs.Kit.{◌≡◌, refl, sym, ap, ◌∙◌, List, [], ◌∷◌, none, some, ℕ, ◌≤◌, arith, length}
+use Rattle.std.specs.Prelude.{◌≡◌, ◌∷◌, ◌≤◌}
+use Rattle.laws.specs.Kit.{refl, sym, ap, ◌∙◌, List, [], none, some, ℕ, arith, length}
 use Rattle.block.specs.Limits.{broad, image_bytes}
 use Rattle.image.proofs.Editions.{image-largest}
 use Rattle.image.specs.Load.{fault_refusal, Loaded, refused, loaded, load}

@@ -1,5 +1,6 @@
 -- Any number of calls of `access_run` one after the other, and demand 3 of the table that they leave: no bound on the bytes of all their schedules.
-use Rattle.laws.specs.Kit.{◌≡◌, refl, sym, ap, ◌∙◌, List, [], ◌++◌, none, some, ℕ}
+use Rattle.std.specs.Prelude.{◌≡◌, ◌++◌}
+use Rattle.laws.specs.Kit.{refl, sym, ap, ◌∙◌, List, [], none, some, ℕ}
 use Rattle.machine.specs.Table.{State}
 use Rattle.session.specs.{Session.{Session}, Transcript.{TextLine, lines_of, answers_of, session_of, printed, transcript_from, session_from}}
 use Rattle.session.proofs.SessionRules.{lines-kept}

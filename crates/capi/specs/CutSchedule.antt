@@ -1,5 +1,6 @@
 -- A schedule cut between two lines, and run by two calls.
-use Rattle.laws.specs.Kit.{◌≡◌, refl, sym, ap, ◌∙◌, List, [], ◌∷◌, ◌++◌, none, some, ℕ, arith}
+use Rattle.std.specs.Prelude.{◌≡◌, ◌∷◌, ◌++◌}
+use Rattle.laws.specs.Kit.{refl, sym, ap, ◌∙◌, List, [], none, some, ℕ, arith}
 use Rattle.image.specs.Encode.{encode}
 use Rattle.image.proofs.Load.{load-encode}
 use Rattle.image.proofs.EachBlock.{image-sound}

@@ -1,5 +1,6 @@
 -- `access_inspect` and `access_run` tell the same of an image.
-use Rattle.laws.specs.Kit.{ℕ, ◌≡◌, refl, sym, ap, ◌∙◌, List, [], ◌∷◌, some, length, get_or}
+use Rattle.std.specs.Prelude.{◌≡◌, ◌∷◌}
+use Rattle.laws.specs.Kit.{ℕ, refl, sym, ap, ◌∙◌, List, [], some, length, get_or}
 use Rattle.machine.specs.{Table.{State}, Steps.{open_count}}
 use Rattle.block.specs.Damage.{whole_blocks}
 use Rattle.image.specs.Load.{Loaded, refused, loaded, load}

@@ -1,6 +1,7 @@
 -- Demand 3 of the lines of schedule text, and what a held answer to one more names: the table that they leave, and the history of their own
 -- steps.
-use Rattle.laws.specs.{Kit.{◌≡◌, refl, sym, ap, subst, ◌∙◌, List, [], ◌∷◌, ◌++◌, Option, none, some, Bool, true, false, ℕ}, Says.{clash}}
+use Rattle.std.specs.Prelude.{◌≡◌, ◌∷◌, ◌++◌}
+use Rattle.laws.specs.{Kit.{refl, sym, ap, subst, ◌∙◌, List, [], Option, none, some, Bool, true, false, ℕ}, Says.{clash}}
 use Rattle.laws.specs.Loop.{pick, cases}
 use Rattle.machine.specs.{Table.{State, most_desks, most_cells, fresh}, Answer.{began}, Steps.{begins, begin, step}, Rules.{In}}
 use Rattle.machine.specs.{History.{Act, take_step, run, history}, Demand3.{Demand3}, HoldNames.{HoldNames}}

@@ -1,5 +1,6 @@
 -- Readiness over lists of counts and vectors is the machine's.
-use Rattle.laws.specs.Kit.{ℕ, suc, ◌+◌, ◌-◌, ◌≤◌, ◌<◌, ◌≡◌, refl, sym, ap, ◌∙◌, Bool, false, not, List, Option, none, some, arith}
+use Rattle.std.specs.Prelude.{◌+◌, ◌-◌, ◌≤◌, ◌<◌, ◌≡◌}
+use Rattle.laws.specs.Kit.{ℕ, suc, refl, sym, ap, ◌∙◌, Bool, false, not, List, Option, none, some, arith}
 use Rattle.laws.specs.Kit.{add-one, ltb-true, lt-ltb, le-ltb, eq-eqb, ne_eqb, length, get_or, set, get_or-set_same, get_or-set_other, ltb, eqb}
 use Rattle.laws.specs.{Loop.{pick, cases, scan-short}, All.{all, all-next, all-fails, all_end, all-fails-at, all_same}}
 use Rattle.laws.specs.{All.{all_shift}, Update.{same_or}}

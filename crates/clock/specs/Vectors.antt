@@ -1,5 +1,6 @@
 -- Vectors as lists of numbers: place t of a list, from 1; the larger place by place; one place raised. Of any number of places.
-use Rattle.laws.specs.Kit.{ℕ, zero, suc, ◌+◌, ◌-◌, ◌≤◌, ◌<◌, max, ◌≡◌, refl, ap, ◌∙◌, fun_ext, Bool, false, List, arith, add-one, ltb-true}
+use Rattle.std.specs.Prelude.{◌+◌, ◌-◌, ◌≤◌, ◌<◌, ◌≡◌}
+use Rattle.laws.specs.Kit.{ℕ, zero, suc, max, refl, ap, ◌∙◌, fun_ext, Bool, false, List, arith, add-one, ltb-true}
 use Rattle.laws.specs.{Kit.{ltb-false, lt-ltb, le-ltb, length, get_or, set, get_or-eq_default, ext_get_or, ltb}, Loop.{pick, cases}}
 use Rattle.laws.specs.{Tab.{tab, get_or-tab, length-tab}, Update.{upd, seen1, lift_set1}}
 use Rattle.machine.specs.{Table.{Vec, most_desks, most_writes}, Steps.{join}}

@@ -1,5 +1,6 @@
 -- A saved table is read back.
-use Rattle.laws.specs.Kit.{ℕ, suc, ◌+◌, ◌/◌, ◌%◌, ◌<◌, ◌≤◌, ◌≡◌, refl, sym, ap, ◌∙◌, fun_ext, true, false, not, ◌&&◌, List, []}
+use Rattle.std.specs.Prelude.{◌+◌, ◌/◌, ◌%◌, ◌<◌, ◌≤◌, ◌≡◌, ◌&&◌}
+use Rattle.laws.specs.Kit.{ℕ, suc, refl, sym, ap, ◌∙◌, fun_ext, true, false, not, List, []}
 use Rattle.laws.specs.{Kit.{Option, none, some, arith, div-add-mod, mod-lt, eqb, get_or, replicate}, Loop.{cases}, Update.{same_or}}
 use Rattle.laws.specs.{Says.{Says, says-eqb, apart, clash, says_both}, Tab.{tab, length-tab, get_or-tab}, FromOne.{from1-is}}
 use Rattle.laws.specs.{Find.{FoundAt, first-is, first-not}, Cat.{part}, Each.{each_in, get_or-map_in}}

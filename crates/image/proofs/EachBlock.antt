@@ -1,5 +1,6 @@
 -- Of every table's image, whether it keeps the rules or not: no block of it is damaged, and each can stand where it is.
-use Rattle.laws.specs.{Kit.{ℕ, ◌<◌, arith, leb}, Loop.{cases}}
+use Rattle.std.specs.Prelude.{◌<◌}
+use Rattle.laws.specs.{Kit.{ℕ, arith, leb}, Loop.{cases}}
 use Rattle.machine.specs.Table.{State}
 use Rattle.block.specs.{Damage.{Right, blocks_in, Undamaged, right_block}, Stands.{EditionStands, Stands, StandsAt, block-stands}}
 use Rattle.block.specs.Limits.{Wide, wide_for, narrow, places_for, edition_of}

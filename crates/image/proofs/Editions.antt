@@ -1,6 +1,7 @@
 -- Document 02, T-06: what an image of each edition holds at most, that all its blocks tell its edition, and that an old program takes no image
 -- of edition 2.
-use Rattle.laws.specs.Kit.{ℕ, ◌<◌, ◌≤◌, ◌≡◌, ◌≢◌, refl, sym, ap, ◌∙◌, List, arith, dec_le, length, get_or}
+use Rattle.std.specs.Prelude.{◌<◌, ◌≤◌, ◌≡◌, ◌≢◌}
+use Rattle.laws.specs.Kit.{ℕ, refl, sym, ap, ◌∙◌, List, arith, dec_le, length, get_or}
 use Rattle.machine.specs.{Table.{State}, Rules.{Rules}}
 use Rattle.block.specs.{Check.{Bytes}, Block.{block}, Damage.{blocks_in, Undamaged}, Stands.{told_edition, StandsAt, first_misplaced}}
 use Rattle.block.specs.{Stands.{first_misplaced_lem}, Limits.{narrow, broad, places_for, edition_of, edition_1, edition_2, desks-placed}}

@@ -1,5 +1,6 @@
 -- Where each field stands in the image.
-use Rattle.laws.specs.Kit.{ℕ, zero, suc, ◌+◌, ◌-◌, ◌*◌, ◌/◌, ◌%◌, ◌<◌, ◌≤◌, ◌≡◌, refl, List}
+use Rattle.std.specs.Prelude.{◌+◌, ◌-◌, ◌*◌, ◌/◌, ◌%◌, ◌<◌, ◌≤◌, ◌≡◌}
+use Rattle.laws.specs.Kit.{ℕ, zero, suc, refl, List}
 use Rattle.laws.specs.Kit.{map, arith, leb, ltb, ne_eqb, length, replicate}
 use Rattle.laws.specs.Kit.{length-replicate, mul-le-mul_left}
 use Rattle.laws.specs.{Cat.{part, part-cat, piece-cat, length-cat}, Each.{each_at, each_map}}

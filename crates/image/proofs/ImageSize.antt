@@ -1,5 +1,6 @@
 -- Every byte of an image is below 256.
-use Rattle.laws.specs.Kit.{ℕ, suc, ◌+◌, ◌-◌, ◌*◌, ◌/◌, ◌%◌, ◌<◌, ◌≤◌, ◌≡◌, refl, List, [], ◌∷◌, ◌++◌, map, Option, none, some, arith}
+use Rattle.std.specs.Prelude.{◌+◌, ◌-◌, ◌*◌, ◌/◌, ◌%◌, ◌<◌, ◌≤◌, ◌≡◌, ◌∷◌, ◌++◌}
+use Rattle.laws.specs.Kit.{ℕ, suc, refl, List, [], map, Option, none, some, arith}
 use Rattle.laws.specs.{Kit.{length, replicate, eqb, leb, ltb, leb-true}, Each.{no, and, each_at}}
 use Rattle.laws.specs.{Each.{each_append, each-replicate, each-cat, each-tab, each_map}, Loop.{cases}}
 use Rattle.machine.specs.{Table.{most_cells, most_writes, Vec, Cell, blank, set, Open, State}, Steps.{open_count}, Rules.{Issued}}

@@ -1,5 +1,6 @@
 -- What loading comes to: to one thing only, and each answer exactly in its condition.
-use Rattle.laws.specs.Kit.{ℕ, ◌<◌, ◌≤◌, ◌≡◌, refl, sym, ap, ◌∙◌, ◌↔◌, ◌&&◌, List, arith}
+use Rattle.std.specs.Prelude.{◌<◌, ◌≤◌, ◌≡◌, ◌↔◌, ◌&&◌}
+use Rattle.laws.specs.Kit.{ℕ, refl, sym, ap, ◌∙◌, List, arith}
 use Rattle.laws.specs.{Kit.{lt-ltb, le-ltb}, Loop.{cases}, Says.{Says, says_both}, Tests.{same, says_same}}
 use Rattle.laws.specs.FirstNot.{FirstNot, first_as, fails-below, below_fails, all_pass}
 use Rattle.machine.specs.{Table.{State}, Rules.{Rules}, RulesTest.{keeps}}

@@ -1,5 +1,6 @@
 -- No name stands twice in the list of the open writes.
-use Rattle.laws.specs.Kit.{ℕ, ◌<◌, ◌≡◌, length, get_or}
+use Rattle.std.specs.Prelude.{◌<◌, ◌≡◌}
+use Rattle.laws.specs.Kit.{ℕ, length, get_or}
 use Rattle.machine.specs.{Table.{State}, Rules.{Rules}}
 use Rattle.image.specs.OpenNames.{names, no_name}
 use Rattle.image.proofs.OrderFromCounts.{names-counted}

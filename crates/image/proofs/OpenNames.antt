@@ -1,5 +1,6 @@
 -- Of the list of the open writes: as many as are open, each name is that of an open write, and each open write has its name there.
-use Rattle.laws.specs.{Kit.{ℕ, zero, suc, ◌≡◌, refl, ◌∙◌, Bool, true, false, arith, length}}
+use Rattle.std.specs.Prelude.{◌≡◌}
+use Rattle.laws.specs.Kit.{ℕ, zero, suc, refl, ◌∙◌, Bool, true, false, arith, length}
 use Rattle.laws.specs.{Sum.{sum_same, tally, one}, Cat.{length_cats}, Each.{Each, no, and, each-cat, StandsAt, has-cat}}
 use Rattle.machine.specs.{Table.{name, State, written}, Steps.{is_open, open_count}}
 use Rattle.image.specs.OpenNames.{name_if, names_of_desk, names, no_name, OpenName}

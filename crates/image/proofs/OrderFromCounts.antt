@@ -1,5 +1,6 @@
 -- By the rules the counts alone tell in what order the open writes are saved.
-use Rattle.laws.specs.Kit.{ℕ, zero, suc, ◌+◌, ◌-◌, ◌≡◌, ap, ◌∙◌, Bool, append-nil, arith, ltb-true, ltb-false, ltb}
+use Rattle.std.specs.Prelude.{◌+◌, ◌-◌, ◌≡◌}
+use Rattle.laws.specs.Kit.{ℕ, zero, suc, ap, ◌∙◌, Bool, append-nil, arith, ltb-true, ltb-false, ltb}
 use Rattle.laws.specs.{Loop.{cases}, Tab.{tab, tab_from, tab-more}, Cat.{cat, cat-same}}
 use Rattle.machine.specs.{Table.{name, State, written}, Steps.{is_open}, Rules.{Rules}}
 use Rattle.image.specs.OpenNames.{name_if, names_of_desk, names}

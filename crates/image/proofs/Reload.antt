@@ -1,6 +1,7 @@
 -- Saving a table and loading it again, as a step of a schedule: demand 3, what a held answer names, the condition on
 -- blanks and the paper's run with nothing assumed.
-use Rattle.laws.specs.Kit.{◌≡◌, ◌≢◌, ap, List, ◌++◌, Memᴰ, ◌↔◌, ℕ}
+use Rattle.std.specs.Prelude.{◌≡◌, ◌≢◌, ◌++◌, ◌↔◌}
+use Rattle.laws.specs.Kit.{ap, List, Memᴰ, ℕ}
 use Rattle.machine.specs.{Table.{most_desks, most_cells, Name, State, fresh}, Answer.{unset, holds}, Steps.{shown_at, Deliver, step}}
 use Rattle.machine.specs.{Rules.{In, Rules}, Refusals.{Accepted}, History.{Event, desk_list, Act, run, history}, Blanks.{Unwritten}}
 use Rattle.machine.specs.{Demand3.{Has, Demand3}, HoldNames.{HoldNames}, PaperRuns.{RunsAsPaper, ReceivedIsSent}}

@@ -1,5 +1,6 @@
 -- What the code puts for a table that keeps the rules is the image of its model.
-use Rattle.laws.specs.Kit.{ℕ, suc, ◌+◌, ◌*◌, ◌/◌, ◌%◌, ◌<◌, ◌≤◌, ◌≡◌, sym, ap, ◌∙◌, fun_ext, not, List, ◌∷◌, map, Option, some}
+use Rattle.std.specs.Prelude.{◌+◌, ◌*◌, ◌/◌, ◌%◌, ◌<◌, ◌≤◌, ◌≡◌, ◌∷◌}
+use Rattle.laws.specs.Kit.{ℕ, suc, sym, ap, ◌∙◌, fun_ext, not, List, map, Option, some}
 use Rattle.laws.specs.Kit.{arith, dec_lt, eqb-true, lt-ltb, le-ltb, eqb, length, get_or, replicate}
 use Rattle.laws.specs.{Kit.{get_or-eq_default, length-map}, Loop.{cases}, Says.{clash}, Each.{each_in, get_or-map_in}}
 use Rattle.clock.specs.Vectors.{places, place}

@@ -1,5 +1,6 @@
 -- Reading an image leniently: each field at its place, whatever stands around it.
-use Rattle.laws.specs.Kit.{ℕ, ◌+◌, ◌*◌, ◌/◌, ◌%◌, ◌≤◌, ◌≡◌, refl, Bool, true, ◌&&◌, List}
+use Rattle.std.specs.Prelude.{◌+◌, ◌*◌, ◌/◌, ◌%◌, ◌≤◌, ◌≡◌, ◌&&◌}
+use Rattle.laws.specs.Kit.{ℕ, refl, Bool, true, List}
 use Rattle.laws.specs.{Kit.{Option, none, some, arith, eqb, get_or}, Loop.{pick}}
 use Rattle.laws.specs.{Tab.{tab}, FromOne.{from1}}
 use Rattle.laws.specs.{Find.{first_of}, Cat.{part}}

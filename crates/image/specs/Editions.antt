@@ -1,5 +1,6 @@
 -- Document 02, T-06: the two editions of an image. Which one a table has, and what a block tells of it.
-use Rattle.laws.specs.Kit.{ℕ, ◌<◌, ◌≤◌, ◌≡◌, List, le-leb, lt-leb}
+use Rattle.std.specs.Prelude.{◌<◌, ◌≤◌, ◌≡◌}
+use Rattle.laws.specs.Kit.{ℕ, List, le-leb, lt-leb}
 use Rattle.machine.specs.{Table.{State}}
 use Rattle.block.specs.{Damage.{block_in}, Stands.{told_edition}}
 use Rattle.block.specs.{Limits.{narrow, broad, places_for}}

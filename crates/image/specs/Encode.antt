@@ -1,5 +1,6 @@
 -- Document 01, "Saved image", and document 02, T-06: the bytes of a table. Desks and cells count from 1, so where i counts from 0 the desk is suc i.
-use Rattle.laws.specs.{Kit.{ℕ, suc, ◌+◌, ◌*◌, List, [], ◌∷◌, ◌++◌, map, Option, none, some, get_or, replicate}, Cat.{cat}}
+use Rattle.std.specs.Prelude.{◌+◌, ◌*◌, ◌∷◌, ◌++◌}
+use Rattle.laws.specs.{Kit.{ℕ, suc, List, [], map, Option, none, some, get_or, replicate}, Cat.{cat}}
 use Rattle.machine.specs.{Table.{Vec, Name, Cell, blank, set, Open, State}, Steps.{open_count}}
 use Rattle.block.specs.{Limits.{cell_bytes, open_bytes, cells_in, opens_in, blocks_for, places_for}, Block.{block_of, vector_words, mark_bytes}}
 use Rattle.image.specs.OpenNames.{names}

@@ -1,5 +1,6 @@
 -- The document's numbers, computed.
-use Rattle.laws.specs.{Kit.{◌*◌, ◌≡◌, refl, true, false, none, [], ◌∷◌, ◌++◌, map, length, replicate}, Update.{upd, upd2}, Sum.{sum}}
+use Rattle.std.specs.Prelude.{◌*◌, ◌≡◌, ◌∷◌, ◌++◌}
+use Rattle.laws.specs.{Kit.{refl, true, false, none, [], map, length, replicate}, Update.{upd, upd2}, Sum.{sum}}
 use Rattle.laws.specs.{Loop.{scan, turns}, All.{all}, Tab.{tab, tab_from}, Cat.{cat, part}, FirstNot.{first_not}}
 use Rattle.machine.specs.{Table.{zeros, sized, State, fresh}, Steps.{open_count, everywhere, failing, write, step, Write}}
 use Rattle.machine.specs.{Steps.{Deliver, settle, first_due}, History.{run, take_step}, RulesTest.{keeps}}

@@ -1,5 +1,6 @@
 -- Document 02, T-01, computed on images of three blocks. The place test by itself: `block/specs/Examples.antt`.
-use Rattle.laws.specs.{Kit.{ℕ, ◌+◌, ◌≡◌, refl, List, [], ◌∷◌, ◌++◌, set, get_or, replicate}, FirstNot.{first_not}, Loop.{scan, turns}}
+use Rattle.std.specs.Prelude.{◌+◌, ◌≡◌, ◌∷◌, ◌++◌}
+use Rattle.laws.specs.{Kit.{ℕ, refl, List, [], set, get_or, replicate}, FirstNot.{first_not}, Loop.{scan, turns}}
 use Rattle.laws.specs.{All.{all}, Sum.{sum}, Cat.{cat, part}, Tab.{tab, tab_from}, FromOne.{from1}, Tests.{same}}
 use Rattle.machine.specs.{Table.{fresh}, Steps.{open_count, everywhere, failing}, RulesTest.{keeps}}
 use Rattle.block.specs.{Check.{check_of}, Block.{vector_words, block}, Damage.{check_in, whole_blocks}, Limits.{places_for, edition_of}}

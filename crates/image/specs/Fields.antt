@@ -1,5 +1,6 @@
 -- The readers of a field, and that they read what was written.
-use Rattle.laws.specs.Kit.{ℕ, zero, suc, ◌+◌, ◌*◌, ◌≤◌, ◌≡◌, refl, ◌∙◌, List, [], ◌∷◌, ◌++◌, Option, none, some, arith, div-add-mod'}
+use Rattle.std.specs.Prelude.{◌+◌, ◌*◌, ◌≤◌, ◌≡◌, ◌∷◌, ◌++◌}
+use Rattle.laws.specs.Kit.{ℕ, zero, suc, refl, ◌∙◌, List, [], Option, none, some, arith, div-add-mod'}
 use Rattle.laws.specs.Kit.{add-zero, eqb, length, get_or, replicate, length-append, length-replicate, replicate-append-replicate, ne_eqb}
 use Rattle.laws.specs.{Loop.{pick}, Update.{same_or}, Tab.{tab, get_or-tab}, FromOne.{from1, from1-is}, Cat.{cat, part, part-whole}}
 use Rattle.laws.specs.Cat.{part_right, part_left, get_or-cat, length-cat}

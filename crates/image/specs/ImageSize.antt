@@ -1,5 +1,6 @@
 -- How many blocks an image has at most.
-use Rattle.laws.specs.Kit.{ℕ, ◌*◌, ◌≤◌}
+use Rattle.std.specs.Prelude.{◌*◌, ◌≤◌}
+use Rattle.laws.specs.Kit.{ℕ}
 use Rattle.laws.specs.{Kit.{mul-le-mul, add-le-add, le_refl}}
 use Rattle.machine.specs.{Table.{most_cells, most_open, State}, Steps.{open_count}}
 use Rattle.machine.specs.Rules.{Rules}

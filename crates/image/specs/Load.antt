@@ -1,5 +1,6 @@
 -- Loading: what an image is accepted as, which number refuses it, and where (document 02, T-01).
-use Rattle.laws.specs.Kit.{ℕ, ◌<◌, ◌≡◌, Bool, ◌&&◌, List, Option, none, some, arith, ltb, ltb-true}
+use Rattle.std.specs.Prelude.{◌<◌, ◌≡◌, ◌&&◌}
+use Rattle.laws.specs.Kit.{ℕ, Bool, List, Option, none, some, arith, ltb, ltb-true}
 use Rattle.laws.specs.{Kit.{ltb-false}, Loop.{pick, cases}, Says.{Says, apart}, Tests.{same}}
 use Rattle.laws.specs.FirstNot.{FirstNot}
 use Rattle.machine.specs.{Table.{State}, Answer.{Refusal, wrong_length, damaged, broken}, Rules.{Rules}, RulesTest.{keeps}}

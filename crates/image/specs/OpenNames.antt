@@ -1,5 +1,6 @@
 -- The open writes by name: "by writer then number".
-use Rattle.laws.specs.{Kit.{ℕ, suc, ◌≡◌, Bool, true, List, [], ◌∷◌}, Loop.{pick}}
+use Rattle.std.specs.Prelude.{◌≡◌, ◌∷◌}
+use Rattle.laws.specs.{Kit.{ℕ, suc, Bool, true, List, []}, Loop.{pick}}
 use Rattle.laws.specs.{Cat.{cat}}
 use Rattle.machine.specs.{Table.{Name, name, State, written}, Steps.{is_open}, Rules.{In}}
 

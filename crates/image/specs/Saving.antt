@@ -1,5 +1,6 @@
 -- The answer to a save: document 01's number and values for every case of it, and what it leaves in the buffer.
-use Rattle.laws.specs.Kit.{ℕ, ◌<◌, ◌≤◌, ◌≡◌, List, length, sets}
+use Rattle.std.specs.Prelude.{◌<◌, ◌≤◌, ◌≡◌}
+use Rattle.laws.specs.Kit.{ℕ, List, length, sets}
 use Rattle.machine.specs.Answer.{Refusal, broken, short}
 use Rattle.table.specs.{declared.Table.{Table}, Model.{model_of}, Sound.{SoundTable}}
 use Rattle.image.specs.{declared.Saving.{Saving}, declared.Saving.TheVariants.{Length, Broken, Short}, Encode.{encode}}

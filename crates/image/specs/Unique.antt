@@ -1,5 +1,6 @@
 -- A save comes to one answer and one buffer.
-use Rattle.laws.specs.Kit.{ℕ, ◌≡◌, refl, sym, ap, ◌∙◌, Bool, true, false, List, le-leb, lt-leb, eqb, leb, length, sets}
+use Rattle.std.specs.Prelude.{◌≡◌}
+use Rattle.laws.specs.Kit.{ℕ, refl, sym, ap, ◌∙◌, Bool, true, false, List, le-leb, lt-leb, eqb, leb, length, sets}
 use Rattle.laws.specs.{Loop.{pick, cases}, Says.{Says, clash}}
 use Rattle.machine.specs.Answer.{broken, short, number_of}
 use Rattle.table.specs.{declared.Table.{Table}, Model.{model_of}, Sound.{SoundTable}}

@@ -1,5 +1,6 @@
 -- A test of each of the n indexes from at on.
-use Rattle.laws.specs.Kit.{ℕ, zero, suc, ◌+◌, ◌-◌, ◌<◌, ◌≤◌, ◌≡◌, refl, sym, ap, ◌∙◌, Bool, true, false, not, arith, not-false}
+use Rattle.std.specs.Prelude.{◌+◌, ◌-◌, ◌<◌, ◌≤◌, ◌≡◌}
+use Rattle.laws.specs.Kit.{ℕ, zero, suc, refl, sym, ap, ◌∙◌, Bool, true, false, not, arith, not-false}
 use Rattle.laws.specs.Loop.{scan, turns, scan_miss, scan-here, scan-next, scan_end, scan-same, cases}
 
 unfoldable pub all : (ℕ → Bool) → ℕ → ℕ → Bool

@@ -1,5 +1,6 @@
 -- Lists put together of pieces, f 0, f 1, ..; and a part of a list, cut out.
-use Rattle.laws.specs.Kit.{ℕ, zero, suc, ◌+◌, ◌*◌, ◌<◌, ◌≤◌, ◌≡◌, refl, ◌∙◌, inl, inr, List, [], ◌++◌, arith, eq-or-lt_of_le}
+use Rattle.std.specs.Prelude.{◌+◌, ◌*◌, ◌<◌, ◌≤◌, ◌≡◌, ◌++◌}
+use Rattle.laws.specs.Kit.{ℕ, zero, suc, refl, ◌∙◌, inl, inr, List, [], arith, eq-or-lt_of_le}
 use Rattle.laws.specs.Kit.{add-zero, length, get_or, take, drop, length-append, length-drop, get_or-append, drop-append-add}
 use Rattle.laws.specs.{Kit.{drop-append-le, take-append-le, get_or-append-add, take-length}, Sum.{sum}}
 

@@ -1,5 +1,6 @@
 -- How many elements pass a test, and what a store does to that.
-use Rattle.laws.specs.Kit.{ℕ, zero, suc, ◌+◌, ◌<◌, ◌≤◌, ◌≡◌, refl, List, [], ◌∷◌, ◌++◌, Bool, true, false, arith, length, get_or, set}
+use Rattle.std.specs.Prelude.{◌+◌, ◌<◌, ◌≤◌, ◌≡◌, ◌∷◌, ◌++◌}
+use Rattle.laws.specs.Kit.{ℕ, zero, suc, refl, List, [], Bool, true, false, arith, length, get_or, set}
 use Rattle.laws.specs.Loop.{pick, cases}
 
 unfoldable pub count : {A : Type 0} → (A → Bool) → List A → ℕ

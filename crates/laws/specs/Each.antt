@@ -1,5 +1,6 @@
 -- What holds of each element of a list.
-use Rattle.laws.specs.Kit.{ℕ, zero, suc, ◌+◌, ◌<◌, ◌≡◌, refl, ◌∙◌, List, [], ◌∷◌, ◌++◌, map, arith, length, get_or}
+use Rattle.std.specs.Prelude.{◌+◌, ◌<◌, ◌≡◌, ◌∷◌, ◌++◌}
+use Rattle.laws.specs.Kit.{ℕ, zero, suc, refl, ◌∙◌, List, [], map, arith, length, get_or}
 use Rattle.laws.specs.{Kit.{replicate, take, drop}, Tab.{tab, tab_from}, Cat.{cat, part, cat-le, get_or-cat}}
 
 pub data Each {A : Type 0} (P : A → Type 0) : List A → Type 0 where

@@ -1,5 +1,6 @@
 -- A list with one more element at its end.
-use Rattle.laws.specs.Kit.{ℕ, zero, suc, ◌<◌, ◌≡◌, refl, sym, ap, ◌∙◌, subst, List, [], ◌∷◌, ◌++◌, append-nil, append_assoc}
+use Rattle.std.specs.Prelude.{◌<◌, ◌≡◌, ◌∷◌, ◌++◌}
+use Rattle.laws.specs.Kit.{ℕ, zero, suc, refl, sym, ap, ◌∙◌, subst, List, [], append-nil, append_assoc}
 use Rattle.laws.specs.{Kit.{Memᴰ, Memᴰ-head, Memᴰ-tail, some, arith, length, get_elem?}, Says.{clash}}
 
 -- the element b stands at the place p of l, or is the new one

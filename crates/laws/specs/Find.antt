@@ -1,5 +1,6 @@
 -- The first element of a list that passes a test, and what a store does to that.
-use Rattle.laws.specs.Kit.{ℕ, zero, suc, ◌<◌, ◌≡◌, refl, sym, ap, ◌∙◌, Bool, true, false, List, [], ◌∷◌, Option, none, some, arith}
+use Rattle.std.specs.Prelude.{◌<◌, ◌≡◌, ◌∷◌}
+use Rattle.laws.specs.Kit.{ℕ, zero, suc, refl, sym, ap, ◌∙◌, Bool, true, false, List, [], Option, none, some, arith}
 use Rattle.laws.specs.{Kit.{not-suc-le-zero, le_of_suc-le-suc, length, get_or, set, set-get_or}, Loop.{pick, cases}}
 
 unfoldable pub first_of : {A B : Type 0} → (A → Bool) → (A → B) → List A → Option B

@@ -1,5 +1,6 @@
 -- The first of the indexes below n that fails a test; n where none does.
-use Rattle.laws.specs.Kit.{ℕ, zero, suc, ◌+◌, ◌<◌, ◌≤◌, ◌≡◌, Bool, not, arith, dec_le}
+use Rattle.std.specs.Prelude.{◌+◌, ◌<◌, ◌≤◌, ◌≡◌}
+use Rattle.laws.specs.Kit.{ℕ, zero, suc, Bool, not, arith, dec_le}
 use Rattle.laws.specs.{Loop.{scan, turns, cases}, Says.{Says, apart}}
 
 unfoldable pub first_not : (ℕ → Bool) → ℕ → ℕ

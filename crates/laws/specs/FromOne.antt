@@ -1,5 +1,6 @@
 -- Counting from 1: n values stand at 1 to n, and d everywhere else.
-use Rattle.laws.specs.Kit.{ℕ, zero, suc, ◌<◌, ◌≤◌, ◌≡◌, refl, sym, fun_ext, ◌∷◌, arith, dec_lt, get_or}
+use Rattle.std.specs.Prelude.{◌<◌, ◌≤◌, ◌≡◌, ◌∷◌}
+use Rattle.laws.specs.Kit.{ℕ, zero, suc, refl, sym, fun_ext, arith, dec_lt, get_or}
 use Rattle.laws.specs.Tab.{tab, get_or-tab, get_or-tab_out}
 
 unfoldable pub from1 : {A : Type 0} → A → ℕ → (ℕ → A) → ℕ → A

@@ -1,6 +1,7 @@
 -- Tests of a list's elements.
-use Rattle.laws.specs.Kit.{◌≡◌, refl, sym, ap, ◌∙◌, ⊎_elim, Bool, true, false, List, [], ◌∷◌, map, Memᴰ, Memᴰ-head}
-use Rattle.laws.specs.Kit.{Memᴰ-tail, Memᴰ-not_nil, Memᴰ-cases_cons, ℕ, zero, suc, ◌+◌, ◌<◌, ◌≤◌, arith, add-one}
+use Rattle.std.specs.Prelude.{◌≡◌, ◌∷◌, ◌+◌, ◌<◌, ◌≤◌}
+use Rattle.laws.specs.Kit.{refl, sym, ap, ◌∙◌, ⊎_elim, Bool, true, false, List, [], map, Memᴰ, Memᴰ-head}
+use Rattle.laws.specs.Kit.{Memᴰ-tail, Memᴰ-not_nil, Memᴰ-cases_cons, ℕ, zero, suc, arith, add-one}
 use Rattle.laws.specs.{Kit.{length, get_or, drop, drop_of_length-le, drop-cons}, Loop.{cases}, Says.{Says, says_as, clash, apart}}
 
 unfoldable pub any : {A : Type 0} → (A → Bool) → List A → Bool

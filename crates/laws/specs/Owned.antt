@@ -1,5 +1,6 @@
 -- What owning an array of structs tells: its list has as many elements, and each element is a value of its type.
-use Rattle.laws.specs.Kit.{ℕ, zero, suc, ◌<◌, ◌≡◌, ◌∙◌, sym, List, [], ◌∷◌, map, not-suc-le-zero, le_of_suc-le-suc, length, get_or}
+use Rattle.std.specs.Prelude.{◌<◌, ◌≡◌, ◌∷◌}
+use Rattle.laws.specs.Kit.{ℕ, zero, suc, ◌∙◌, sym, List, [], map, not-suc-le-zero, le_of_suc-le-suc, length, get_or}
 use Rattle.laws.specs.Kit.{length-map}
 use mir.Val.{Val}
 use Rattle.std.specs.Borrow.{Fml}

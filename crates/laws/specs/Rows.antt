@@ -1,5 +1,6 @@
 -- A flat list of numbers as rows of one width: a part of it, a row stored, one number of a row stored. Of every width and count.
-use Rattle.laws.specs.Kit.{ℕ, zero, suc, ◌+◌, ◌*◌, ◌<◌, ◌≤◌, ◌≡◌, refl, sym, ap, ◌∙◌, List, arith, add-one, suc-mul, mul-le-mul_right}
+use Rattle.std.specs.Prelude.{◌+◌, ◌*◌, ◌<◌, ◌≤◌, ◌≡◌}
+use Rattle.laws.specs.Kit.{ℕ, zero, suc, refl, sym, ap, ◌∙◌, List, arith, add-one, suc-mul, mul-le-mul_right}
 use Rattle.laws.specs.Kit.{ltb-true, ltb-false, ltb, length, get_or, set, drop, length-set, drop_of_length-le, sets, get_or-set_same}
 use Rattle.laws.specs.{Kit.{get_or-set_other, ext_get_or, drop-cons}, Loop.{cases}, Tab.{tab, tab_from, get_or-tab, length-tab}}
 use Rattle.laws.specs.{Update.{same_or}, StoresRead.{get_d_sets, get_or_sets_below, get_or_sets_above}}

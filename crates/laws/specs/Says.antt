@@ -1,5 +1,6 @@
 -- What a test says, both ways: the laws follow the test's form.
-use Rattle.laws.specs.Kit.{ℕ, zero, suc, ◌+◌, ◌<◌, ◌≤◌, ◌≡◌, refl, sym, ◌∙◌, Bool, true, false, not, ◌&&◌, arith, leb-true, ltb-true}
+use Rattle.std.specs.Prelude.{◌+◌, ◌<◌, ◌≤◌, ◌≡◌, ◌&&◌}
+use Rattle.laws.specs.Kit.{ℕ, zero, suc, refl, sym, ◌∙◌, Bool, true, false, not, arith, leb-true, ltb-true}
 use Rattle.laws.specs.{Kit.{eqb-true, le-leb, lt-ltb, eq-eqb, eqb, leb, ltb}, Loop.{pick, cases, scan, turns}}
 use Rattle.laws.specs.All.{all, all-at, all_true}
 

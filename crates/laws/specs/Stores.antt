@@ -1,5 +1,6 @@
 -- Runs of stores, put together.
-use Rattle.laws.specs.Kit.{ℕ, suc, ◌+◌, ◌≡◌, refl, sym, ap, ◌∙◌, List, [], ◌∷◌, ◌++◌, append-nil, arith, add-zero, length, set}
+use Rattle.std.specs.Prelude.{◌+◌, ◌≡◌, ◌∷◌, ◌++◌}
+use Rattle.laws.specs.Kit.{ℕ, suc, refl, sym, ap, ◌∙◌, List, [], append-nil, arith, add-zero, length, set}
 use Rattle.laws.specs.Kit.{length-append, sets, set_comm, length-sets}
 
 module _ {A : Type 0} where

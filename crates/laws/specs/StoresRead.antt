@@ -1,5 +1,6 @@
 -- Reading back what a run of stores put.
-use Rattle.laws.specs.Kit.{ℕ, zero, suc, ◌+◌, ◌<◌, ◌≤◌, ◌≡◌, refl, ◌∙◌, List, [], ◌∷◌, arith, not-suc-le-zero, le_of_suc-le-suc}
+use Rattle.std.specs.Prelude.{◌+◌, ◌<◌, ◌≤◌, ◌≡◌, ◌∷◌}
+use Rattle.laws.specs.Kit.{ℕ, zero, suc, refl, ◌∙◌, List, [], arith, not-suc-le-zero, le_of_suc-le-suc}
 use Rattle.laws.specs.Kit.{add-zero, length, get_or, set, length-set, sets, get_or-set_same, get_or-set_other}
 
 module _ {A : Type 0} (d : A) where

@@ -1,5 +1,6 @@
 -- Sums f 1 + .. + f n, and how many of 1 .. n pass a test.
-use Rattle.laws.specs.{Kit.{ℕ, zero, suc, ◌+◌, ◌-◌, ◌*◌, ◌<◌, ◌≤◌, ◌≡◌, refl, sym, ◌∙◌, Bool, true, false, arith}, Loop.{cases}}
+use Rattle.std.specs.Prelude.{◌+◌, ◌-◌, ◌*◌, ◌<◌, ◌≤◌, ◌≡◌}
+use Rattle.laws.specs.{Kit.{ℕ, zero, suc, refl, sym, ◌∙◌, Bool, true, false, arith}, Loop.{cases}}
 use Rattle.laws.specs.Update.{same_or}
 
 unfoldable pub sum : ℕ → (ℕ → ℕ) → ℕ

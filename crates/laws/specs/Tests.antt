@@ -1,5 +1,6 @@
 -- More of what a test says (Says): of an implication, of the numbers 1 to n, of two lists.
-use Rattle.laws.specs.Kit.{ℕ, ◌≤◌, ◌<◌, ◌≡◌, refl, sym, Bool, true, false, not, ◌&&◌, List, [], ◌∷◌, arith, eqb, leb, ltb}
+use Rattle.std.specs.Prelude.{◌≤◌, ◌<◌, ◌≡◌, ◌&&◌, ◌∷◌}
+use Rattle.laws.specs.Kit.{ℕ, refl, sym, Bool, true, false, not, List, [], arith, eqb, leb, ltb}
 use Rattle.laws.specs.{Loop.{pick}, All.{all, all-at, all_true}, Says.{Says, says_both, says_if, says-not, says_all, says_as}}
 use Rattle.laws.specs.Says.{says-eqb, says-leb, says-ltb, clash}
 

@@ -1,5 +1,6 @@
 -- The bytes of a text in ASCII.
-use Rattle.laws.specs.Kit.{ℕ, code, String, List, [], ◌∷◌, ◌≡◌, refl}
+use Rattle.std.specs.Prelude.{◌∷◌, ◌≡◌}
+use Rattle.laws.specs.Kit.{ℕ, code, String, List, [], refl}
 use Prim.Native.String as string
 
 abbrev pub text : String → List ℕ

@@ -1,5 +1,6 @@
 -- Functions of a number, updated at one place; of two numbers, at one pair; and how a store into a list is such an update.
-use Rattle.laws.specs.Kit.{ℕ, zero, suc, ◌<◌, ◌≡◌, refl, sym, ap, ◌∙◌, fun_ext, List, [], ◌∷◌, true, false, Option, some, arith}
+use Rattle.std.specs.Prelude.{◌<◌, ◌≡◌, ◌∷◌}
+use Rattle.laws.specs.Kit.{ℕ, zero, suc, refl, sym, ap, ◌∙◌, fun_ext, List, [], true, false, Option, some, arith}
 use Rattle.laws.specs.{Kit.{eqb-true, eqb-false, eq-eqb, ne_eqb, eqb, length, get_or, set, get_or-set_same, get_or-set_other}, Loop.{cases}}
 
 -- f with a at i

@@ -1,5 +1,6 @@
 -- Document 02, T-01: what there is to tell of an image, as five numbers.
-use Rattle.laws.specs.Kit.{ℕ, ◌≡◌, refl, sym, ap, ◌∙◌, List, [], ◌∷◌, map, Option, none, some, arith, eqb, get_or}
+use Rattle.std.specs.Prelude.{◌≡◌, ◌∷◌}
+use Rattle.laws.specs.Kit.{ℕ, refl, sym, ap, ◌∙◌, List, [], map, Option, none, some, arith, eqb, get_or}
 use Rattle.laws.specs.{Loop.{pick, scan, turns}, All.{all}, Sum.{sum}, Update.{upd, upd2}}
 use Rattle.machine.specs.{Table.{fresh}, Answer.{wrong_length, damaged, number_of}, Steps.{open_count, everywhere, write}}
 use Rattle.table.specs.{declared.Table.{Table}, Model.{model_of}}

@@ -1,5 +1,6 @@
 -- The answer to a load: document 01's number and values for every case of it.
-use Rattle.laws.specs.Kit.{ℕ, ◌+◌, ◌*◌, ◌<◌, ◌≤◌, ◌≡◌, ap, ◌∙◌, List, arith, zero-add, length, replicate, take, drop, sets, sets-eq}
+use Rattle.std.specs.Prelude.{◌+◌, ◌*◌, ◌<◌, ◌≤◌, ◌≡◌}
+use Rattle.laws.specs.Kit.{ℕ, ap, ◌∙◌, List, arith, zero-add, length, replicate, take, drop, sets, sets-eq}
 use Rattle.laws.specs.{Kit.{take-append_seam}, FirstNot.{FirstNot}}
 use Rattle.table.specs.{declared.Core.{Core}, declared.Table.{Table}, Beginning.{fresh_table}, Model.{model_of, table_with}}
 use Rattle.table.specs.{Sound.{SoundTable}, Value.{all_cells, cell_width, entries, open_width}}

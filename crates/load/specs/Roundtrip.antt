@@ -1,5 +1,6 @@
 -- "A table saved and loaded is the same table", and an image loaded and saved again gives its bytes: of what `save` and `load` promise.
-use Rattle.laws.specs.Kit.{ℕ, ◌≤◌, ◌≡◌, refl, ap, ◌∙◌, true, List, le-leb, length, take, sets}
+use Rattle.std.specs.Prelude.{◌≤◌, ◌≡◌}
+use Rattle.laws.specs.Kit.{ℕ, refl, ap, ◌∙◌, true, List, le-leb, length, take, sets}
 use Rattle.table.specs.{declared.Table.{Table}, Model.{model_of}, SameTable.{Same}, Sound.{SoundTable}}
 use Rattle.image.specs.declared.Saving.{Saving}
 use Rattle.image.specs.declared.Saving.TheVariants.{Length}

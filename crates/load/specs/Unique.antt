@@ -1,6 +1,7 @@
 -- A load has one outcome: the answer as a value; of an accepted table the core and the cells as values, and of its open writes the set; of a
 -- refusal zeros.
-use Rattle.laws.specs.Kit.{ℕ, ◌≡◌, refl, sym, ap, ◌∙◌, List}
+use Rattle.std.specs.Prelude.{◌≡◌}
+use Rattle.laws.specs.Kit.{ℕ, refl, sym, ap, ◌∙◌, List}
 use Rattle.table.specs.{declared.Table.{Table}, TypeShape.{Shaped}, Model.{model_of}, SameTable.{Same}, Unique.{StandsIn, same-core}}
 use Rattle.table.specs.Unique.{same-opens}
 use Rattle.table.proofs.Unique.{same-cells}

@@ -1,5 +1,6 @@
 -- Applying a write keeps the rules, but that a write held at that desk may be ready: for a delivered write and for the writer's own.
-use Rattle.laws.specs.Kit.{◌≡◌, refl, sym, ◌∙◌, ap, ◌≢◌, ◌↔◌, Iff-trans, Bool, true, false, not, Option, some, ℕ, suc, ◌≤◌, ◌<◌, arith}
+use Rattle.std.specs.Prelude.{◌≡◌, ◌≢◌, ◌↔◌, ◌≤◌, ◌<◌}
+use Rattle.laws.specs.Kit.{refl, sym, ◌∙◌, ap, Iff-trans, Bool, true, false, not, Option, some, ℕ, suc, arith}
 use Rattle.laws.specs.{Kit.{not-true}, Loop.{cases}, Sum.{sum, tally, one, sum-le, sum-one-le}, Update.{upd, upd_same, upd_other, upd-all}}
 use Rattle.laws.specs.Update.{upd2-same, upd2-row, upd2-here, upd2-other, upd2-all, upd2-some, same_or, same_pair_or}
 use Rattle.machine.specs.Table.{most_open, most_writes, most_status, Vec, Cell, set, held, done, Open, State, written}

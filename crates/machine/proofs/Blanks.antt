@@ -1,5 +1,6 @@
 -- A cell that is never written reads unset; a verdict is yes only if every cell shows a written 1; a trip is its reads.
-use Rattle.laws.specs.Kit.{◌≡◌, refl, sym, ap, ◌∙◌, ◌≢◌, ◌↔◌, List, [], ◌∷◌, map, Memᴰ, Memᴰ-head, Memᴰ-tail}
+use Rattle.std.specs.Prelude.{◌≡◌, ◌≢◌, ◌↔◌, ◌∷◌}
+use Rattle.laws.specs.Kit.{refl, sym, ap, ◌∙◌, List, [], map, Memᴰ, Memᴰ-head, Memᴰ-tail}
 use Rattle.laws.specs.{Kit.{Memᴰ-append_left, Memᴰ-append_right, Option, none, some, ℕ, arith, eqb-true, eq-eqb, length}, Loop.{cases}}
 use Rattle.laws.specs.{Says.{Says, clash, apart}, Update.{upd2-all, upd2-other}, Lists.{any, every, any-map, every_map, says_any}}
 use Rattle.laws.specs.Lists.{says-every}

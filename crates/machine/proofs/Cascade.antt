@@ -1,5 +1,6 @@
 -- The cascade keeps the rules, ends with nothing ready held, and applies no more than the desk had left to apply.
-use Rattle.laws.specs.Kit.{◌≡◌, refl, sym, true, Option, none, some, ◌∷◌, [], ℕ, zero, suc, ◌-◌, ◌≤◌, arith, length}
+use Rattle.std.specs.Prelude.{◌≡◌, ◌∷◌, ◌-◌, ◌≤◌}
+use Rattle.laws.specs.Kit.{refl, sym, true, Option, none, some, [], ℕ, zero, suc, arith, length}
 use Rattle.laws.specs.{Loop.{cases, scan-first, scan-none}, Says.{apart, says_both, says-eqb}, Sum.{sum, sum-le, sum_one, tally_above}}
 use Rattle.laws.specs.Update.{same_or}
 use Rattle.machine.specs.{Table.{name, held, Open, State, written}, Steps.{ready, apply, is_open, open_count, due_open, due, first_due}}

@@ -1,5 +1,6 @@
 -- The cases of a delivery, of a write that may close, of the cascade, of a trip and of a step.
-use Rattle.laws.specs.{Kit.{◌≡◌, refl, ◌≢◌, true, false, List, [], ◌∷◌, Option, none, some, ℕ, zero, suc, arith}, Loop.{cases}}
+use Rattle.std.specs.Prelude.{◌≡◌, ◌≢◌, ◌∷◌}
+use Rattle.laws.specs.{Kit.{refl, true, false, List, [], Option, none, some, ℕ, zero, suc, arith}, Loop.{cases}}
 use Rattle.machine.specs.{Table.{most_open, Vec, Name, name, mark_in, away, Open, State, written}, Answer.{Refusal, holds, applies}}
 use Rattle.machine.specs.Steps.{Out, refuse, failing, read, everywhere, still_open, apply, hold, first_due, Settled, apply_next}
 use Rattle.machine.specs.{Steps.{settle_by, settle, deliver_by, reads, Step, Read, Write, Deliver, Trip, step}, Rules.{In}}

@@ -1,5 +1,6 @@
 -- What stays as it was where counts only rise; so a beginning, a read and a hold keep the rules.
-use Rattle.laws.specs.Kit.{◌≡◌, refl, sym, ap, fun_ext, ◌↔◌, Iff-trans, Bool, true, false, not, some, Option, ℕ, ◌≤◌, ◌<◌, arith}
+use Rattle.std.specs.Prelude.{◌≡◌, ◌↔◌, ◌≤◌, ◌<◌}
+use Rattle.laws.specs.Kit.{refl, sym, ap, fun_ext, Iff-trans, Bool, true, false, not, some, Option, ℕ, arith}
 use Rattle.laws.specs.{Says.{apart}, Sum.{sum, tally, sum-zero}, Update.{upd-all, upd2-all, upd2-some}}
 use Rattle.machine.specs.Table.{most_desks, most_cells, most_status, Vec, Cell, blank, set, away, held, done, Open, State, fresh}
 use Rattle.machine.specs.{Table.{written}, Steps.{is_none, ready, read_clock, read, mark, hold, is_open, open_count}, Rules.{In, Below}}

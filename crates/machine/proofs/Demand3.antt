@@ -1,6 +1,7 @@
 -- Demand 3, of every schedule with saves and reloads anywhere.
-use Rattle.laws.specs.Kit.{◌≡◌, sym, ◌∙◌, ap, ◌≢◌, inl, inr, ◌↔◌, Iff-trans, true, List, ◌∷◌, Memᴰ-append_left, some, ℕ, suc}
-use Rattle.laws.specs.{Kit.{◌≤◌, ◌<◌, arith}, Ends.{cut_at}, Update.{same_or}, Says.{apart}}
+use Rattle.std.specs.Prelude.{◌≡◌, ◌≢◌, ◌↔◌, ◌∷◌, ◌≤◌, ◌<◌}
+use Rattle.laws.specs.Kit.{sym, ◌∙◌, ap, inl, inr, Iff-trans, true, List, Memᴰ-append_left, some, ℕ, suc}
+use Rattle.laws.specs.{Kit.{arith}, Ends.{cut_at}, Update.{same_or}, Says.{apart}}
 use Rattle.machine.specs.{Table.{most_desks, most_cells, Vec, name, away, held, done, Open, State, fresh, mark_of}, Steps.{fails}}
 use Rattle.machine.specs.{Steps.{failing, is_none, ready}, Rules.{In, Rules}, History.{Event, write_at, applied, desk_list, Act, run}}
 use Rattle.machine.specs.{History.{history}, Demand3.{WriteAt, of_write, Has, Missing, CauseMissing, Received}}

@@ -1,5 +1,6 @@
 -- A desk as a process of the paper: each effect on the table is the paper's action at its desk, and nothing at any other.
-use Rattle.laws.specs.Kit.{◌≡◌, refl, sym, ap, ◌∙◌, fun_ext, ◌≢◌, true, false, Option, none, some, ℕ, suc, ◌≤◌, ◌<◌, max, arith, eqb-true}
+use Rattle.std.specs.Prelude.{◌≡◌, ◌≢◌, ◌≤◌, ◌<◌}
+use Rattle.laws.specs.Kit.{refl, sym, ap, ◌∙◌, fun_ext, true, false, Option, none, some, ℕ, suc, max, arith, eqb-true}
 use Rattle.laws.specs.{Kit.{eq-eqb, ne_eqb, le-ltb, eqb}, Loop.{cases, scan_empty}, Says.{apart}, Update.{upd, upd2, same_or, upd_same}}
 use Rattle.laws.specs.Update.{upd_other, upd-map, upd2-same, upd2-row, upd2-here, upd2-other, upd2-all, upd2-is}
 use Rattle.machine.specs.{Table.{Vec, Cell, blank, set, held, done, Open, State}, Steps.{fails, failing, ready, is_none, read_clock}}

@@ -1,7 +1,8 @@
 -- Desks' lists and what they show, of a history with one more event.
-use Rattle.laws.specs.Kit.{◌≡◌, refl, sym, ◌∙◌, ap, subst, ◌⊎◌, inl, inr, ◌↔◌, true, false, List, [], ◌∷◌, ◌++◌, append-nil, append_assoc}
+use Rattle.std.specs.Prelude.{◌≡◌, ◌⊎◌, ◌↔◌, ◌∷◌, ◌++◌, ◌+◌, ◌<◌}
+use Rattle.laws.specs.Kit.{refl, sym, ◌∙◌, ap, subst, inl, inr, true, false, List, [], append-nil, append_assoc}
 use Rattle.laws.specs.Kit.{Memᴰ, Memᴰ-head, Memᴰ-tail, Memᴰ-not_nil, Memᴰ-cast, Memᴰ-append_left, Memᴰ-append_right}
-use Rattle.laws.specs.Kit.{Memᴰ-append_cases, Memᴰ-eq_of_singleton, Option, some, ℕ, zero, suc, ◌+◌, ◌<◌, arith, eqb-true, eq-eqb}
+use Rattle.laws.specs.Kit.{Memᴰ-append_cases, Memᴰ-eq_of_singleton, Option, some, ℕ, zero, suc, arith, eqb-true, eq-eqb}
 use Rattle.laws.specs.{Kit.{ne_eqb, eqb, length}, Loop.{cases}, Says.{clash, apart}, Update.{same_or}, Ends.{inside, outside, cut_end}}
 use Rattle.machine.specs.{Table.{Name, name}, Answer.{Shown, unset}, History.{Event, read_at, write_at, receive_at, apply_at, Entry}}
 use Rattle.machine.specs.History.{own_read, applied, entry_of, list_from, desk_list, Written, is_name, written_as, after_write, after_entry}

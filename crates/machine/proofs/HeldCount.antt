@@ -1,5 +1,6 @@
 -- How many writes are held, and what each step does to that number; the numbers that an answer shows.
-use Rattle.laws.specs.Kit.{◌≡◌, refl, sym, ap, ◌∙◌, ◌≢◌, List, Option, some, ℕ, suc, ◌+◌, ◌-◌, ◌*◌, ◌≤◌, arith, ne_eqb, eqb, length}
+use Rattle.std.specs.Prelude.{◌≡◌, ◌≢◌, ◌+◌, ◌-◌, ◌*◌, ◌≤◌}
+use Rattle.laws.specs.Kit.{refl, sym, ap, ◌∙◌, List, Option, some, ℕ, suc, arith, ne_eqb, eqb, length}
 use Rattle.laws.specs.{Each.{Each, no, and, each-then}, Sum.{sum, one, tally, sum-le, sum_same, sum-zero, sum_more, sum_times, tally_miss}}
 use Rattle.laws.specs.{Sum.{tally-none}, Update.{upd, upd_same, upd_other, upd2-same, upd2-other, same_or}}
 use Rattle.machine.specs.Table.{most_desks, most_open, most_status, Name, name, Cell, blank, set, held, done, Open, State, fresh}

@@ -1,6 +1,7 @@
 -- What every history keeps, of itself: each read shows the latest, causes come first. One more event keeps it.
-use Rattle.laws.specs.Kit.{◌≡◌, refl, sym, ◌∙◌, subst, List, ◌∷◌, ◌++◌, Memᴰ, Memᴰ-head, Memᴰ-append_left, Memᴰ-append_right, ℕ}
-use Rattle.laws.specs.{Kit.{◌<◌, arith, length}, Ends.{before, last, at-inside, at-either}, Says.{clash}}
+use Rattle.std.specs.Prelude.{◌≡◌, ◌∷◌, ◌++◌, ◌<◌}
+use Rattle.laws.specs.Kit.{refl, sym, ◌∙◌, subst, List, Memᴰ, Memᴰ-head, Memᴰ-append_left, Memᴰ-append_right, ℕ}
+use Rattle.laws.specs.{Kit.{arith, length}, Ends.{before, last, at-inside, at-either}, Says.{clash}}
 use Rattle.machine.specs.{Table.{name, Name}, Answer.{Shown, unset}, History.{Event, read_at, write_at, apply_at, Entry, own_read}}
 use Rattle.machine.specs.{History.{applied, desk_list, latest, At, Precedes}, Demand3.{WriteAt, OpAt, of_read, of_write, Has}}
 use Rattle.machine.specs.Demand3.{ListsAccepted, ListsOnce, ReadsLatest, CausesFirst}

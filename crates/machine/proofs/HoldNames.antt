@@ -1,5 +1,6 @@
 -- What a held answer names, of every schedule with saves and reloads anywhere.
-use Rattle.laws.specs.Kit.{◌≡◌, refl, sym, ap, subst, ◌∙◌, ◌≢◌, inl, inr, false, Option, List, [], ◌∷◌, ◌++◌, some, ℕ, suc, ◌≤◌, ◌<◌, arith}
+use Rattle.std.specs.Prelude.{◌≡◌, ◌≢◌, ◌∷◌, ◌++◌, ◌≤◌, ◌<◌}
+use Rattle.laws.specs.Kit.{refl, sym, ap, subst, ◌∙◌, inl, inr, false, Option, List, [], some, ℕ, suc, arith}
 use Rattle.laws.specs.{Says.{clash}, Update.{same_or, upd2-other, upd2-all}}
 use Rattle.machine.specs.{Table.{most_desks, most_cells, Name, name, held, Open, State, fresh, mark_in, mark_of}, Answer.{holds}}
 use Rattle.machine.specs.{Steps.{fails, failing, is_none, mark, hold, Deliver, Step, step}, Refusals.{Accepted}, Rules.{In, Rules}}

@@ -1,5 +1,6 @@
 -- The marks of open writes against the receipts of the history.
-use Rattle.laws.specs.{Kit.{◌≡◌, sym, ap, subst, List, Option, some, ℕ, length}, Ends.{before, last, at-either}}
+use Rattle.std.specs.Prelude.{◌≡◌}
+use Rattle.laws.specs.{Kit.{sym, ap, subst, List, Option, some, ℕ, length}, Ends.{before, last, at-either}}
 use Rattle.laws.specs.{Update.{upd2, upd-all, upd2-all}, Says.{clash}}
 use Rattle.machine.specs.{Table.{Name, name, away, Open}, Steps.{mark}, History.{Event, receive_at, apply_at, desk_list, At}}
 use Rattle.machine.specs.Demand3.{WriteAt, Has, Received, its_own, delivered}

@@ -1,5 +1,6 @@
 -- Write names and the open count come from the accepted history.
-use Rattle.laws.specs.Kit.{◌≡◌, refl, sym, ◌∙◌, ap, subst, Bool, true, false, not, List, ◌∷◌, ◌++◌, Memᴰ, ℕ, suc, ◌+◌, ◌≤◌, arith}
+use Rattle.std.specs.Prelude.{◌≡◌, ◌∷◌, ◌++◌, ◌+◌, ◌≤◌}
+use Rattle.laws.specs.Kit.{refl, sym, ◌∙◌, ap, subst, Bool, true, false, not, List, Memᴰ, ℕ, suc, arith}
 use Rattle.laws.specs.{Kit.{ne_eqb, eqb, leb, length}, All.{all_same}, Count.{count, count_end}, Ends.{at_cut, by_parts}}
 use Rattle.laws.specs.{Lists.{any, says_any}, Loop.{cases}, Says.{Says, says-leb, says_as, says-one, clash}, Sum.{sum, one, tally}}
 use Rattle.laws.specs.{Sum.{sum_same, sum-zero, sum_one}, Update.{same_or}}

@@ -1,5 +1,6 @@
 -- What is on its way to each desk: a write sends it, a receipt takes it, nothing else touches it.
-use Rattle.laws.specs.{Kit.{◌≡◌, refl, sym, ap, ◌∙◌, fun_ext, ◌≢◌, true, false, Option, none, some, ℕ, arith, eq-eqb, ne_eqb}, Loop.{cases}}
+use Rattle.std.specs.Prelude.{◌≡◌, ◌≢◌}
+use Rattle.laws.specs.{Kit.{refl, sym, ap, ◌∙◌, fun_ext, true, false, Option, none, some, ℕ, arith, eq-eqb, ne_eqb}, Loop.{cases}}
 use Rattle.laws.specs.Update.{upd, upd2, same_or, upd_same, upd-is}
 use Rattle.machine.specs.{Table.{away, held, done, Open, State, fresh}, Steps.{within, still_open, mark, apply, hold, next_number}}
 use Rattle.machine.specs.{Steps.{new_write, write}, Rules.{In}, Paper.{Message, sent, message_of, marked_of, desk}, PaperRuns.{Ways}}

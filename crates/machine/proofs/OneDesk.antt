@@ -1,5 +1,6 @@
 -- "With n = 1 a write is never open, so 5 is not met."
-use Rattle.laws.specs.{Kit.{◌≡◌, ap, ◌∙◌, inl, inr, false, ℕ, arith}, Loop.{cases}, Says.{clash}, Sum.{one, tally, sum_same, sum-zero}}
+use Rattle.std.specs.Prelude.{◌≡◌}
+use Rattle.laws.specs.{Kit.{ap, ◌∙◌, inl, inr, false, ℕ, arith}, Loop.{cases}, Says.{clash}, Sum.{one, tally, sum_same, sum-zero}}
 use Rattle.machine.specs.{Table.{State, written}, Answer.{full, refused}, Steps.{is_open, open_count, Write, step}, Rules.{Rules}}
 use Rattle.machine.specs.Refusals.{rows_of, FirstFails}
 use Rattle.machine.proofs.Refusals.{refusal-exactly}

@@ -1,5 +1,6 @@
 -- The causal order of a history, and what one more event does to it.
-use Rattle.laws.specs.Kit.{◌≡◌, refl, sym, ap, subst, ◌⊎◌, inl, inr, ◌↔◌, true, false, List, [], ◌∷◌, ◌++◌, ℕ, suc, ◌≤◌, ◌<◌, arith, dec_le}
+use Rattle.std.specs.Prelude.{◌≡◌, ◌⊎◌, ◌↔◌, ◌∷◌, ◌++◌, ◌≤◌, ◌<◌}
+use Rattle.laws.specs.Kit.{refl, sym, ap, subst, inl, inr, true, false, List, [], ℕ, suc, arith, dec_le}
 use Rattle.laws.specs.{Kit.{eq-eqb, ne_eqb, eqb, length}, Ends.{AtEnd, before, last, at-inside, at_before, at_end, at-either, inside}}
 use Rattle.laws.specs.{Ends.{outside, cut_end, by_parts}, Count.{count, count_end}, Says.{clash}, Update.{same_or}}
 use Rattle.machine.specs.{Answer.{shown}, Rules.{In}, History.{Event, read_at, write_at, receive_at, apply_at, write_passes, writes_of}}

@@ -1,5 +1,6 @@
 -- Every accepted step is a run of the paper's atomic actions at its desk, after which no waiting thread is enabled anywhere.
-use Rattle.laws.specs.Kit.{◌≡◌, refl, sym, ap, subst, ◌∙◌, ◌≢◌, true, List, ◌∷◌, map, [], Option, none, some, ℕ, ◌≤◌, arith}
+use Rattle.std.specs.Prelude.{◌≡◌, ◌≢◌, ◌∷◌, ◌≤◌}
+use Rattle.laws.specs.Kit.{refl, sym, ap, subst, ◌∙◌, true, List, map, [], Option, none, some, ℕ, arith}
 use Rattle.laws.specs.{Update.{upd2, same_or, upd_other, upd2-same, upd2-other, upd2-all}, Says.{clash}}
 use Rattle.machine.specs.Table.{most_open, Name, name, Cell, blank, set, held, done, Open, Setup, State}
 use Rattle.machine.specs.{Answer.{shown_of, shows, wrote}, Steps.{Out, failing, read, everywhere, mark, apply, hold, next_number}}

@@ -1,6 +1,7 @@
 -- A schedule of the machine, with saves and reloads, is a run of the paper's n processes and the messages between them.
-use Rattle.laws.specs.Kit.{◌≡◌, refl, sym, ap, subst, ◌∙◌, not, List, ◌∷◌, ◌++◌, map, [], Option, none, some, some-injective, ℕ, suc}
-use Rattle.laws.specs.{Kit.{◌≤◌, ◌<◌, arith, dec_le}, Says.{apart}, Update.{upd, same_or, upd_same, upd_other, upd-is, upd2-all, upd2-same}}
+use Rattle.std.specs.Prelude.{◌≡◌, ◌∷◌, ◌++◌, ◌≤◌, ◌<◌}
+use Rattle.laws.specs.Kit.{refl, sym, ap, subst, ◌∙◌, not, List, map, [], Option, none, some, some-injective, ℕ, suc}
+use Rattle.laws.specs.{Kit.{arith, dec_le}, Says.{apart}, Update.{upd, same_or, upd_same, upd_other, upd-is, upd2-all, upd2-same}}
 use Rattle.laws.specs.Update.{upd2-other}
 use Rattle.machine.specs.Table.{most_desks, most_cells, most_open, Name, name, held, Open, Setup, State, fresh, written}
 use Rattle.machine.specs.{Answer.{wrote}, Steps.{Out, is_none, is_open, failing, apply, hold, next_number, write, settle, Step, Read}}

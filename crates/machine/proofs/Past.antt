@@ -1,6 +1,7 @@
 -- The causal order as it is computed is the causal order.
-use Rattle.laws.specs.Kit.{◌≡◌, refl, inl, inr, ◌↔◌, Bool, true, false, ◌&&◌, ◌||◌, List, [], ◌∷◌, Memᴰ, Memᴰ-head}
-use Rattle.laws.specs.Kit.{Memᴰ-tail, Memᴰ-not_nil, Memᴰ-cases_cons, Option, none, some, ℕ, zero, suc, ◌+◌, ◌≤◌, ◌<◌, arith}
+use Rattle.std.specs.Prelude.{◌≡◌, ◌↔◌, ◌&&◌, ◌||◌, ◌∷◌, ◌+◌, ◌≤◌, ◌<◌}
+use Rattle.laws.specs.Kit.{refl, inl, inr, Bool, true, false, List, [], Memᴰ, Memᴰ-head}
+use Rattle.laws.specs.Kit.{Memᴰ-tail, Memᴰ-not_nil, Memᴰ-cases_cons, Option, none, some, ℕ, zero, suc, arith}
 use Rattle.laws.specs.{Kit.{ltb-true, lt-ltb, eqb-true, eq-eqb, eqb, ltb, length, get_elem?}, Ends.{at-inside}, Loop.{cases}, Says.{clash}}
 use Rattle.laws.specs.Update.{same_or}
 use Rattle.machine.specs.{Table.{most_desks, most_cells, Name, State, fresh}, Answer.{unset, shown}, History.{Event, read_at}}

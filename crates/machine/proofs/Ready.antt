@@ -1,5 +1,6 @@
 -- Readiness, and "applied at all n desks", said of the numbers.
-use Rattle.laws.specs.Kit.{◌≡◌, refl, sym, ◌∙◌, ap, fun_ext, ◌≢◌, Bool, true, false, not, Option, none, some, ℕ, suc, ◌≤◌, ◌<◌, arith}
+use Rattle.std.specs.Prelude.{◌≡◌, ◌≢◌, ◌≤◌, ◌<◌}
+use Rattle.laws.specs.Kit.{refl, sym, ◌∙◌, ap, fun_ext, Bool, true, false, not, Option, none, some, ℕ, suc, arith}
 use Rattle.laws.specs.Kit.{ltb-true, ltb-false, eqb-true, eqb-false, eq-eqb, ne_eqb, le-ltb, not-true, not-false, eqb}
 use Rattle.laws.specs.{Loop.{cases, scan-first, scan-none, scan-map, scan-same}, All.{all, all-at}, Says.{apart, all-not}}
 use Rattle.laws.specs.Update.{upd, upd_same, upd_other, same_or}

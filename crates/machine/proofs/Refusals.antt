@@ -1,5 +1,6 @@
 -- Each refusal is given in its condition and at no other time, and leaves the table as found.
-use Rattle.laws.specs.Kit.{◌≡◌, refl, sym, ap, subst, ◌⊎◌, inl, inr, ⊎_elim, ◌↔◌, Bool, true, false, not, ◌&&◌, List, ◌∷◌, [], Option, none}
+use Rattle.std.specs.Prelude.{◌≡◌, ◌⊎◌, ◌↔◌, ◌&&◌, ◌∷◌}
+use Rattle.laws.specs.Kit.{refl, sym, ap, subst, inl, inr, ⊎_elim, Bool, true, false, not, List, [], Option, none}
 use Rattle.laws.specs.{Kit.{some, ℕ, eqb, leb, ltb, length}, Loop.{cases}, Says.{Says, says-leb, says-ltb, says-eqb, says-not, says_both}}
 use Rattle.laws.specs.{Says.{clash, apart}, Lists.{every, says-every}}
 use Rattle.machine.specs.Table.{most_desks, most_cells, most_open, most_trip, most_writes, most_status, name, away, done, Open, State}

@@ -1,5 +1,6 @@
 -- Every step keeps the rules; what the other proofs need of it stands here under one roof.
-use Rattle.laws.specs.{Kit.{◌≡◌, refl, sym, ap, ◌⊎◌, inl, inr, ◌↔◌, true, List, ◌∷◌, none, ℕ, ◌≤◌, ◌<◌, arith, length}, Says.{apart, clash}}
+use Rattle.std.specs.Prelude.{◌≡◌, ◌⊎◌, ◌↔◌, ◌∷◌, ◌≤◌, ◌<◌}
+use Rattle.laws.specs.{Kit.{refl, sym, ap, inl, inr, true, List, none, ℕ, arith, length}, Says.{apart, clash}}
 use Rattle.laws.specs.Update.{same_or}
 use Rattle.machine.specs.{Table.{most_open, Name, away, held, done, Open, State, written, mark_of, name}, Answer.{Refusal, applies}}
 use Rattle.machine.specs.Steps.{Out, is_none, apply, refuse, failing, Step, Read, Write, Deliver, Trip, step, settle}

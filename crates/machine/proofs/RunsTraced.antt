@@ -1,5 +1,6 @@
 -- The table against its history, through every step and every schedule with saves and reloads.
-use Rattle.laws.specs.Kit.{◌≡◌, refl, List, ◌∷◌, ◌++◌, map, append-nil, append_assoc, Memᴰ, Memᴰ-head, Memᴰ-tail, [], ℕ, suc}
+use Rattle.std.specs.Prelude.{◌≡◌, ◌∷◌, ◌++◌}
+use Rattle.laws.specs.Kit.{refl, List, map, append-nil, append_assoc, Memᴰ, Memᴰ-head, Memᴰ-tail, [], ℕ, suc}
 use Rattle.machine.specs.{Table.{most_open, name, State}, Answer.{Refusal, refused}, Steps.{Out, refuse, settle, reads, Step, Read}}
 use Rattle.machine.specs.{Steps.{Write, Deliver, Trip, step}, Rules.{In, Rules}, History.{Event, apply_at, trip_reads, events_of, Act}}
 use Rattle.machine.specs.History.{take_step, save_and_load, run, history}

@@ -1,5 +1,6 @@
 -- The small steps keep the table traced: read, write (its first half), receive, apply, hold.
-use Rattle.laws.specs.Kit.{◌≡◌, refl, sym, ◌∙◌, ap, subst, subst₂, ◌≢◌, ◌⊎◌, inl, inr, ◌↔◌, Iff-trans, Iff-symm, List, some, ℕ, suc, ◌≤◌}
+use Rattle.std.specs.Prelude.{◌≡◌, ◌≢◌, ◌⊎◌, ◌↔◌, ◌≤◌}
+use Rattle.laws.specs.Kit.{refl, sym, ◌∙◌, ap, subst, subst₂, inl, inr, Iff-trans, Iff-symm, List, some, ℕ, suc}
 use Rattle.laws.specs.{Kit.{arith, dec_le, length, eq-eqb, ne_eqb}, Update.{same_or, upd_same, upd_other, upd-all, upd2-all}, Says.{clash}}
 use Rattle.machine.specs.{Table.{Vec, Name, name, Cell, blank, set, done, held, Open, State}, Answer.{shown, shown_of}}
 use Rattle.machine.specs.Steps.{read_clock, read, shown_at, still_open, mark, apply, hold, next_number, next_vector, raise}

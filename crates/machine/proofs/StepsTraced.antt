@@ -1,5 +1,6 @@
 -- The table against its history, small step by small step.
-use Rattle.laws.specs.{Kit.{◌≡◌, refl, sym, ap, subst, List, [], Memᴰ-not_nil, some, ℕ, suc, arith, length}, Ends.{no_cut}}
+use Rattle.std.specs.Prelude.{◌≡◌}
+use Rattle.laws.specs.{Kit.{refl, sym, ap, subst, List, [], Memᴰ-not_nil, some, ℕ, suc, arith, length}, Ends.{no_cut}}
 use Rattle.laws.specs.{Update.{upd2, upd_same, upd_other}, Says.{clash}}
 use Rattle.machine.specs.{Table.{Name, name, held, done, Open, State, fresh}, Steps.{read, read_clock, still_open, mark, apply, hold}}
 use Rattle.machine.specs.{Steps.{next_number, next_vector, raise, new_write, write}, Rules.{Frame, Rules}, History.{Event, write_at}}

@@ -1,5 +1,6 @@
 -- The table against its history, and the small steps: an operation, a receipt, a write applied, a write held.
-use Rattle.laws.specs.{Kit.{◌≡◌, refl, sym, ◌∙◌, subst, inl, ◌↔◌, Iff-trans, Iff-symm, List, some, ℕ, ◌≤◌, arith, length}, Ends.{at-inside}}
+use Rattle.std.specs.Prelude.{◌≡◌, ◌↔◌, ◌≤◌}
+use Rattle.laws.specs.{Kit.{refl, sym, ◌∙◌, subst, inl, Iff-trans, Iff-symm, List, some, ℕ, arith, length}, Ends.{at-inside}}
 use Rattle.laws.specs.Update.{upd, upd-all, same_or}
 use Rattle.machine.specs.{Table.{Vec, Name, name, set, Open, State}, Answer.{shown_of}, History.{Event, write_at, apply_at, desk_list}}
 use Rattle.machine.specs.History.{latest, writes_of, At, OpOf, a_write, same_desk}

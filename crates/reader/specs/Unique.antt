@@ -1,5 +1,6 @@
 -- No choice is left: a reader is its schedule and its place. (Of a line, `schedule`'s `line-at-unique` says so.)
-use Rattle.laws.specs.Kit.{ℕ, ◌≡◌, sym, ◌∙◌, List}
+use Rattle.std.specs.Prelude.{◌≡◌}
+use Rattle.laws.specs.Kit.{ℕ, sym, ◌∙◌, List}
 use Rattle.std.specs.Borrow.{Bor}
 use Rattle.reader.specs.declared.Reader.{Reader}
 

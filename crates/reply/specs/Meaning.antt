@@ -1,5 +1,6 @@
 -- What the code's answers mean: the machine's answer for every case, and so document 01's numbers and values.
-use Rattle.laws.specs.{Kit.{ℕ, ◌+◌, ◌*◌, ◌≤◌, min, ◌≡◌, List, get_or}, Tab.{tab}}
+use Rattle.std.specs.Prelude.{◌+◌, ◌*◌, ◌≤◌, ◌≡◌}
+use Rattle.laws.specs.{Kit.{ℕ, min, List, get_or}, Tab.{tab}}
 use Rattle.machine.specs.Table.{Name, name, most_open}
 use Rattle.machine.specs.Answer as machine
 use Rattle.reply.specs.{declared.Refusal.{Refusal}, declared.Refusal.TheVariants.{NoDesk, NoCell, NoStatus, Spent, Full, OwnWrite}}

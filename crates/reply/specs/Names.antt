@@ -1,5 +1,6 @@
 -- The names of an answer, for whoever fills the array.
-use Rattle.laws.specs.Kit.{ℕ, ◌+◌, ◌*◌, ◌<◌, ◌≤◌, min, ◌≡◌, refl, ◌∙◌, List, [], ◌∷◌, ◌++◌, arith, length, get_or, set, length-set}
+use Rattle.std.specs.Prelude.{◌+◌, ◌*◌, ◌<◌, ◌≤◌, ◌≡◌, ◌∷◌, ◌++◌}
+use Rattle.laws.specs.Kit.{ℕ, min, refl, ◌∙◌, List, [], arith, length, get_or, set, length-set}
 use Rattle.laws.specs.{Kit.{get_or-set_same, get_or-set_other}, Tab.{tab, tab_from, length-tab, tab-more, tab_ext}}
 use Rattle.machine.specs.Table.{name, most_open}
 use Rattle.reply.specs.Meaning.{name_at, names_of}

@@ -1,5 +1,6 @@
 -- Of the code's answers one only stands for an answer of the machine.
-use Rattle.laws.specs.Kit.{ℕ, min, ◌≡◌, refl, sym, ap, ◌∙◌, List, length}
+use Rattle.std.specs.Prelude.{◌≡◌}
+use Rattle.laws.specs.Kit.{ℕ, min, refl, sym, ap, ◌∙◌, List, length}
 use Rattle.machine.specs.Table.{Name, most_open}
 use Rattle.machine.specs.Answer as machine
 use Rattle.reply.specs.{declared.Refusal.{Refusal}, declared.Refusal.TheVariants.{NoDesk, NoCell, NoStatus, Spent, Full, OwnWrite}}

@@ -1,5 +1,6 @@
 -- Lines at the edges of the grammar, computed.
-use Rattle.laws.specs.Kit.{ℕ, zero, suc, String, ◌≡◌, refl, List, [], ◌∷◌, ◌++◌, map, true, false, Option, none, some, bind, replicate}
+use Rattle.std.specs.Prelude.{◌≡◌, ◌∷◌, ◌++◌}
+use Rattle.laws.specs.Kit.{ℕ, zero, suc, String, refl, List, [], map, true, false, Option, none, some, bind, replicate}
 use Rattle.laws.specs.{Lists.{every}, Text.{text}}
 use Rattle.machine.specs.Steps.{Read, Write, Deliver, Trip}
 use Rattle.schedule.specs.{Lines.{until_lF, from_lF, line_at, ended_at}, Grammar.{Line, begin_line, step_line, form, line_of}}

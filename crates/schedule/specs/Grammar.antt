@@ -1,5 +1,6 @@
 -- Document 01, "Schedule text": what a line says, as a function of its bytes.
-use Rattle.laws.specs.{Kit.{ℕ, code, List, [], ◌∷◌, Option, none, some, bind, length, eqb, leb}, Loop.{pick}}
+use Rattle.std.specs.Prelude.{◌∷◌}
+use Rattle.laws.specs.{Kit.{ℕ, code, List, [], Option, none, some, bind, length, eqb, leb}, Loop.{pick}}
 use Rattle.text.specs.Words.{words, numbers}
 use Rattle.machine.specs.Steps.{Step, Read, Write, Deliver, Trip}
 

@@ -1,5 +1,6 @@
 -- What holds of every line: how many cells it lists, how large its numbers are; and the two public functions leave no choice.
-use Rattle.laws.specs.Kit.{ℕ, ◌+◌, ◌-◌, ◌*◌, ◌≤◌, ◌≡◌, refl, sym, ◌∙◌, List, [], ◌∷◌, Option, none, some, arith, ltb-true, ltb-false}
+use Rattle.std.specs.Prelude.{◌+◌, ◌-◌, ◌*◌, ◌≤◌, ◌≡◌, ◌∷◌}
+use Rattle.laws.specs.Kit.{ℕ, refl, sym, ◌∙◌, List, [], Option, none, some, arith, ltb-true, ltb-false}
 use Rattle.laws.specs.{Kit.{eqb-true, eqb-false, eqb, ltb, length, get_or, take, drop, length-drop, sets, sets-eq, take_at}, Loop.{cases}}
 use Rattle.std.specs.Borrow.{Bor}
 use Rattle.machine.specs.Steps.{Read, Write, Deliver, Trip}

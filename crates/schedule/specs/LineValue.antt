@@ -1,5 +1,6 @@
 -- The code's value for what a line says, and the cells that stand beside it.
-use Rattle.laws.specs.Kit.{◌≡◌, refl, ap, ◌∙◌, List, [], ◌∷◌, Option, none, some, ℕ, length, sets}
+use Rattle.std.specs.Prelude.{◌≡◌, ◌∷◌}
+use Rattle.laws.specs.Kit.{refl, ap, ◌∙◌, List, [], Option, none, some, ℕ, length, sets}
 use Rattle.machine.specs.Steps.{Read as reading, Write as writing, Deliver as delivering, Trip as travelling}
 use Rattle.schedule.specs.{Grammar.{Line as Said, begin_line, step_line}, declared.Line.{Line}, declared.Line.TheVariants.{New}}
 use Rattle.schedule.specs.declared.Line.TheVariants.{Read, Write, Deliver, Trip, NoStep}

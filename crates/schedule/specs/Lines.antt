@@ -1,5 +1,6 @@
 -- Document 01, "Schedule text": the lines of a schedule.
-use Rattle.laws.specs.{Kit.{ℕ, ◌+◌, ◌-◌, min, List, [], ◌∷◌, Bool, length, drop, eqb, ltb}, Loop.{pick}}
+use Rattle.std.specs.Prelude.{◌+◌, ◌-◌, ◌∷◌}
+use Rattle.laws.specs.{Kit.{ℕ, min, List, [], Bool, length, drop, eqb, ltb}, Loop.{pick}}
 use Rattle.std.specs.Borrow.{Bor}
 
 abbrev pub LF : ℕ

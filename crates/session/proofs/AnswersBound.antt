@@ -1,5 +1,6 @@
 -- How long the answers to a text are, all together: the proofs.
-use Rattle.laws.specs.Kit.{ℕ, ◌+◌, ◌-◌, ◌*◌, ◌≤◌, ◌≡◌, refl, Bool, true, false, List, Option, none, some, arith}
+use Rattle.std.specs.Prelude.{◌+◌, ◌-◌, ◌*◌, ◌≤◌, ◌≡◌}
+use Rattle.laws.specs.Kit.{ℕ, refl, Bool, true, false, List, Option, none, some, arith}
 use Rattle.laws.specs.{Kit.{leb, length, drop, length-append, length-drop, leb-true}, Each.{Each, no, and}, Loop.{pick, cases}, Sum.{one}}
 use Rattle.machine.specs.{Table.{most_desks, most_open}, Answer.{refused}}
 use Rattle.machine.specs.Answer.{Refusal}

@@ -1,5 +1,6 @@
 -- Texts at the edges, computed.
-use Rattle.laws.specs.{Kit.{◌≡◌, refl, [], ◌∷◌, ◌++◌, map, bind}, Loop.{turns, scan}, All.{all}, Update.{upd, upd2}, Sum.{sum}}
+use Rattle.std.specs.Prelude.{◌≡◌, ◌∷◌, ◌++◌}
+use Rattle.laws.specs.{Kit.{refl, [], map, bind}, Loop.{turns, scan}, All.{all}, Update.{upd, upd2}, Sum.{sum}}
 use Rattle.laws.specs.{Lists.{any, every}, Text.{text}}
 use Rattle.machine.specs.Steps.{begin, step, failing, everywhere, open_count, first_due, settle, reads, verdict}
 use Rattle.text.specs.{Number.{digits, decimal, is_digit, read_on, number}, Words.{words, numbers}}

@@ -1,5 +1,6 @@
 -- No line of an answer is longer than the longest.
-use Rattle.laws.specs.{Kit.{◌≤◌, Option, none, some, arith, length}}
+use Rattle.std.specs.Prelude.{◌≤◌}
+use Rattle.laws.specs.Kit.{Option, none, some, arith, length}
 use Rattle.machine.specs.{Answer.{no_size, no_step}, Steps.{step}}
 use Rattle.machine.proofs.RulesKept.{step-keeps-rules, at_most_64_applied}
 use Rattle.machine.proofs.Refusals.{begin_cases}

@@ -1,6 +1,7 @@
 -- A run under way, one line on.
-use Rattle.laws.specs.Kit.{◌≡◌, sym, ap, subst, ◌∙◌, List, ◌++◌, Option, none, ℕ, ◌+◌, ◌<◌}
-use Rattle.laws.specs.Kit.{◌≤◌, arith, zero-add, length, length-append, sets}
+use Rattle.std.specs.Prelude.{◌≡◌, ◌++◌, ◌+◌, ◌<◌, ◌≤◌}
+use Rattle.laws.specs.Kit.{sym, ap, subst, ◌∙◌, List, Option, none, ℕ}
+use Rattle.laws.specs.Kit.{arith, zero-add, length, length-append, sets}
 use Rattle.laws.specs.{Loop.{pick}, Stores.{Stored, sets_append}}
 use Rattle.machine.specs.Answer as machine
 use Rattle.schedule.specs.{Grammar.{Line as Said, line_of}, Lines.{line_at, ended_at, next_at}}

@@ -1,5 +1,6 @@
 -- A session whose table keeps the rules: every line leaves one again.
-use Rattle.laws.specs.{Kit.{List, [], ◌∷◌, Option, none, some, ℕ, drop}, Loop.{pick}}
+use Rattle.std.specs.Prelude.{◌∷◌}
+use Rattle.laws.specs.{Kit.{List, [], Option, none, some, ℕ, drop}, Loop.{pick}}
 use Rattle.machine.specs.Steps.{begin}
 use Rattle.machine.proofs.RulesKept.{fresh-rules, step-keeps-rules}
 use Rattle.machine.proofs.Refusals.{begin_cases}

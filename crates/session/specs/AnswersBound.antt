@@ -1,7 +1,8 @@
 -- How long the answers to a text are, all together: 5 bytes for each byte of text, and a name for each write that was held before.
 -- An empty line is one byte and its answer, `E 10` and LF, is 5. A delivery that is held pays for two names: that in its
 -- answer, and its own, which is printed when it is applied.
-use Rattle.laws.specs.Kit.{ℕ, suc, ◌+◌, ◌-◌, ◌*◌, ◌<◌, ◌≤◌, ◌≡◌, refl, true, false, List, [], ◌∷◌, none, some, arith, eqb}
+use Rattle.std.specs.Prelude.{◌+◌, ◌-◌, ◌*◌, ◌<◌, ◌≤◌, ◌≡◌, ◌∷◌}
+use Rattle.laws.specs.Kit.{ℕ, suc, refl, true, false, List, [], none, some, arith, eqb}
 use Rattle.laws.specs.{Kit.{length, length-append}, Each.{Each, no, and}, Loop.{cases}, Sum.{one}}
 use Rattle.machine.specs.{Table.{most_desks, most_open, Name, State}, Answer.{Answer, began, shows, wrote, holds, applies, judged, refused}}
 use Rattle.machine.specs.Answer.{unset, shown, Yes, No, Unknown, Refusal, number_of, no_desk, no_cell, no_status, spent, full, own_write}

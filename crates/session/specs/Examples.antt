@@ -1,5 +1,6 @@
 -- Document 01, "Whole session", bytes to bytes, and texts at the edges.
-use Rattle.laws.specs.{Kit.{◌≡◌, refl, List, bind, ℕ}, Loop.{turns, scan}, All.{all}, Update.{upd, upd2}, Sum.{sum}}
+use Rattle.std.specs.Prelude.{◌≡◌}
+use Rattle.laws.specs.{Kit.{refl, List, bind, ℕ}, Loop.{turns, scan}, All.{all}, Update.{upd, upd2}, Sum.{sum}}
 use Rattle.laws.specs.{Lists.{any, every}, Text.{text}}
 use Rattle.machine.specs.Steps.{begin, step, failing, everywhere, open_count, first_due, settle, reads, verdict}
 use Rattle.text.specs.{Number.{digits, decimal, is_digit, read_on, number}, Words.{words, numbers}}

@@ -1,5 +1,6 @@
 -- What the code's values have to do with a session: with no table every number is zero; a table keeps the rules.
-use Rattle.laws.specs.Kit.{◌≡◌, refl, ap, ◌∙◌, List, none, some, ℕ, ◌+◌, ◌-◌, ◌*◌, ◌<◌, ◌≤◌, arith, length, get_or, set, replicate}
+use Rattle.std.specs.Prelude.{◌≡◌, ◌+◌, ◌-◌, ◌*◌, ◌<◌, ◌≤◌}
+use Rattle.laws.specs.Kit.{refl, ap, ◌∙◌, List, none, some, ℕ, arith, length, get_or, set, replicate}
 use Rattle.laws.specs.{Kit.{get_or-set_same, get_or-set_other}, Rows.{tab-one, part_at}}
 use Rattle.clock.specs.Vectors.{places, place, place_at}
 use Rattle.machine.specs.Table.{State, fresh, most_desks, most_cells}

@@ -1,5 +1,6 @@
 -- One line in, one line out; and how long an output line is.
-use Rattle.laws.specs.Kit.{ℕ, zero, suc, ◌+◌, ◌*◌, ◌/◌, ◌%◌, ◌^◌, ◌<◌, ◌≤◌, max, ◌≡◌, refl, ◌∙◌, List, [], ◌∷◌, ◌++◌, none, arith, pow-suc}
+use Rattle.std.specs.Prelude.{◌+◌, ◌*◌, ◌/◌, ◌%◌, ◌^◌, ◌<◌, ◌≤◌, ◌≡◌, ◌∷◌, ◌++◌}
+use Rattle.laws.specs.Kit.{ℕ, zero, suc, max, refl, ◌∙◌, List, [], none, arith, pow-suc}
 use Rattle.laws.specs.{Kit.{ne_eqb, ltb-true, ltb-false, eqb, ltb, length, length-append}, Count.{count}, Loop.{pick, cases}}
 use Rattle.laws.specs.Each.{Each, and}
 use Rattle.machine.specs.{Table.{Name, most_writes, name, most_open}, Answer.{Answer, began, shows, wrote, holds, applies, judged, refused}}

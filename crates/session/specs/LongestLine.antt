@@ -1,5 +1,6 @@
 -- The longest line of an answer follows from the limits: `A`, a name for each write that may be open, and the LF.
-use Rattle.laws.specs.{Kit.{ℕ, ◌+◌, ◌-◌, ◌*◌, ◌≤◌, ◌≡◌, refl, arith, length, length-append}, Tab.{tab, tab_from}}
+use Rattle.std.specs.Prelude.{◌+◌, ◌-◌, ◌*◌, ◌≤◌, ◌≡◌}
+use Rattle.laws.specs.{Kit.{ℕ, refl, arith, length, length-append}, Tab.{tab, tab_from}}
 use Rattle.text.specs.Number.{digits, decimal}
 use Rattle.machine.specs.{Table.{most_desks, most_writes, most_open, name, State}, Answer.{Answer, began, shows, wrote, holds, applies}}
 use Rattle.machine.specs.{Answer.{judged, refused, unset, shown, Yes, No, Unknown}, Rules.{Rules}}

@@ -1,6 +1,7 @@
 -- A run over the lines of a text: how far it got, what it wrote, and the session it left.
-use Rattle.laws.specs.Kit.{◌≡◌, refl, sym, ap, ◌∙◌, List, [], ◌++◌, append_assoc, append-nil, none, Bool, true, ℕ, ◌+◌, ◌<◌}
-use Rattle.laws.specs.Kit.{◌≤◌, min, max, arith, leb, ltb, length, take, drop, length-append, sets, sets-eq, take_at, le-leb}
+use Rattle.std.specs.Prelude.{◌≡◌, ◌++◌, ◌+◌, ◌<◌, ◌≤◌}
+use Rattle.laws.specs.Kit.{refl, sym, ap, ◌∙◌, List, [], append_assoc, append-nil, none, Bool, true, ℕ}
+use Rattle.laws.specs.Kit.{min, max, arith, leb, ltb, length, take, drop, length-append, sets, sets-eq, take_at, le-leb}
 use Rattle.laws.specs.{Loop.{pick}, Update.{same_or}, Stores.{Stored}}
 use Rattle.schedule.specs.{Grammar.{line_of}, Lines.{line_at, ended_at, next_at}, Link.LineLaws.{ended_is, next-is, next_more}}
 use Rattle.schedule.specs.Link.LineLaws.{next_le}

@@ -1,5 +1,6 @@
 -- Document 01, "Schedule text": all that `replay` prints, as a function of all that it reads.
-use Rattle.laws.specs.{Kit.{Bool, true, false, List, [], ◌∷◌, ◌++◌, none, ℕ, eqb, leb, length, drop}, Loop.{pick}}
+use Rattle.std.specs.Prelude.{◌∷◌, ◌++◌}
+use Rattle.laws.specs.{Kit.{Bool, true, false, List, [], none, ℕ, eqb, leb, length, drop}, Loop.{pick}}
 use Rattle.machine.specs.Answer.{Answer, refused, short}
 use Rattle.schedule.specs.Lines.{LF}
 use Rattle.answer.specs.Bytes.{answer_line}

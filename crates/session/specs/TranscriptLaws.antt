@@ -1,5 +1,6 @@
 -- The transcript line by line.
-use Rattle.laws.specs.Kit.{ℕ, suc, ◌<◌, ◌≤◌, ◌≡◌, ap, ◌∙◌, List, [], ◌∷◌, ◌++◌, none, arith, not-suc-le-zero, le-leb, lt-leb, lt-ltb, eqb}
+use Rattle.std.specs.Prelude.{◌<◌, ◌≤◌, ◌≡◌, ◌∷◌, ◌++◌}
+use Rattle.laws.specs.Kit.{ℕ, suc, ap, ◌∙◌, List, [], none, arith, not-suc-le-zero, le-leb, lt-leb, lt-ltb, eqb}
 use Rattle.laws.specs.{Kit.{ltb, length, drop, length-drop, drop_of_length-le}, Loop.{cases}, Text.{text}}
 use Rattle.schedule.specs.{Lines.{LF, until_lF, from_lF, line_at, ended_at, next_at}, Link.LineLaws.{next-drop}}
 use Rattle.text.specs.Number.{digits, decimal}

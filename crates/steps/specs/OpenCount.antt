@@ -1,5 +1,6 @@
 -- The number of entries in use is the number of open writes.
-use Rattle.laws.specs.Kit.{ℕ, suc, ◌+◌, ◌<◌, ◌≡◌, sym, ap, ◌∙◌, List, [], ◌∷◌, Option, Bool, true, false, not, arith, length, get_or}
+use Rattle.std.specs.Prelude.{◌+◌, ◌<◌, ◌≡◌, ◌∷◌}
+use Rattle.laws.specs.Kit.{ℕ, suc, sym, ap, ◌∙◌, List, [], Option, Bool, true, false, not, arith, length, get_or}
 use Rattle.laws.specs.{Loop.{cases}, Count.{count, count-all, count_miss}, Find.{first_of, first-none}, Sum.{sum, one, tally, sum_same}}
 use Rattle.laws.specs.Sum.{sum-zero, sum_one}
 use Rattle.machine.specs.{Rules.{In}, Steps.{is_none, open_count}, Table.{written, most_open}}

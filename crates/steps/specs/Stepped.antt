@@ -1,5 +1,6 @@
 -- What a step on a desk by value and the two lent arrays must do: the machine's step.
-use Rattle.laws.specs.{Kit.{◌≡◌, List, [], ℕ, ◌-◌, ◌*◌, length, get_or, set, set-get_or}, Loop.{pick, cases}}
+use Rattle.std.specs.Prelude.{◌≡◌, ◌-◌, ◌*◌}
+use Rattle.laws.specs.{Kit.{List, [], ℕ, length, get_or, set, set-get_or}, Loop.{pick, cases}}
 use Rattle.clock.specs.Vectors.{places, place}
 use Rattle.machine.specs.Answer as machine
 use Rattle.machine.specs.{Steps.{Step, within, step}, Rules.{In}, Within.{says-within}}

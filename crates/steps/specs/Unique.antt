@@ -1,6 +1,7 @@
 -- The contracts of the four steps leave one outcome: the answer, the desk and the cells as values, and the names beside the answer. Of the open
 -- writes it is the set: document 01 leaves open which entry holds one.
-use Rattle.laws.specs.Kit.{ℕ, ◌-◌, ◌*◌, ◌≡◌, refl, sym, ap, ◌∙◌, inl, true, List, [], arith, length, get_or, length-set, get_or-set_same}
+use Rattle.std.specs.Prelude.{◌-◌, ◌*◌, ◌≡◌}
+use Rattle.laws.specs.Kit.{ℕ, refl, sym, ap, ◌∙◌, inl, true, List, [], arith, length, get_or, length-set, get_or-set_same}
 use Rattle.laws.specs.{Kit.{get_or-set_other}, Loop.{cases}, Says.{apart}, Update.{same_or}}
 use Rattle.machine.specs.Answer as machine
 use Rattle.machine.specs.{Table.{State}, Rules.{In}, Steps.{Step, Read, Write, Deliver, Trip, within, step}, Paper.{actor}}

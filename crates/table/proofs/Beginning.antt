@@ -1,5 +1,6 @@
 -- A fresh table is the machine's.
-use Rattle.laws.specs.Kit.{ℕ, zero, suc, ◌+◌, ◌*◌, ◌≡◌, refl, ◌∙◌, fun_ext, [], none, Bool, true, false, eq-eqb, get_or, replicate, ltb}
+use Rattle.std.specs.Prelude.{◌+◌, ◌*◌, ◌≡◌}
+use Rattle.laws.specs.Kit.{ℕ, zero, suc, refl, ◌∙◌, fun_ext, [], none, Bool, true, false, eq-eqb, get_or, replicate, ltb}
 use Rattle.laws.specs.{Loop.{pick}, Update.{seen1}}
 use Rattle.clock.specs.Vectors.{places, place}
 use Rattle.machine.specs.Table as machine

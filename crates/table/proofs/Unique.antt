@@ -1,5 +1,6 @@
 -- Of two values of one table that keep the rules: the same cells.
-use Rattle.laws.specs.Kit.{ℕ, ◌+◌, ◌/◌, ◌%◌, ◌<◌, ◌≡◌, sym, ap, ◌∙◌, fun_ext, true, arith, eqb-true, eqb}
+use Rattle.std.specs.Prelude.{◌+◌, ◌/◌, ◌%◌, ◌<◌, ◌≡◌}
+use Rattle.laws.specs.Kit.{ℕ, sym, ap, ◌∙◌, fun_ext, true, arith, eqb-true, eqb}
 use Rattle.laws.specs.{Loop.{cases}}
 use Rattle.clock.specs.Vectors.{place, place_ext}
 use Rattle.machine.specs.Table as machine

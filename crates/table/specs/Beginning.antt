@@ -1,5 +1,6 @@
 -- The beginning: a fresh table is the machine's, and refusal 11 leaves none.
-use Rattle.laws.specs.Kit.{ℕ, zero, suc, ◌*◌, ◌≡◌, refl, ◌∙◌, fun_ext, none, some, true, false, eq-eqb, get_or, replicate}
+use Rattle.std.specs.Prelude.{◌*◌, ◌≡◌}
+use Rattle.laws.specs.Kit.{ℕ, zero, suc, refl, ◌∙◌, fun_ext, none, some, true, false, eq-eqb, get_or, replicate}
 use Rattle.laws.specs.{Loop.{pick}, Says.{apart}}
 use Rattle.clock.specs.Vectors.{places, place, clock_of}
 use Rattle.machine.specs.Table as machine

@@ -1,5 +1,6 @@
 -- The name of an entry's write, and what a search for an entry finds.
-use Rattle.laws.specs.Kit.{ℕ, ◌+◌, ◌-◌, ◌<◌, ◌≤◌, ◌%◌, ◌≡◌, refl, List, Bool, true, false, arith, below_more, eqb-true, eq-eqb, ne_eqb}
+use Rattle.std.specs.Prelude.{◌+◌, ◌-◌, ◌<◌, ◌≤◌, ◌%◌, ◌≡◌}
+use Rattle.laws.specs.Kit.{ℕ, refl, List, Bool, true, false, arith, below_more, eqb-true, eq-eqb, ne_eqb}
 use Rattle.laws.specs.{Kit.{get_or, eqb}, Loop.{pick, cases}, Says.{apart}}
 use Rattle.clock.specs.Vectors.{place, place_at}
 use Rattle.table.specs.{declared.Open.{Open}, declared.Found.{Found}, declared.Found.TheVariants.{At, Nothing}}

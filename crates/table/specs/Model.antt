@@ -1,5 +1,6 @@
 -- The table as the machine's: functions of the desk, the place, the cell and the write's name, all from 1.
-use Rattle.laws.specs.Kit.{ℕ, zero, suc, ◌+◌, ◌-◌, ◌*◌, ◌≡◌, refl, ap, ◌∙◌, List, Option, arith, ltb-true, lt-ltb, length, get_or, set, ltb}
+use Rattle.std.specs.Prelude.{◌+◌, ◌-◌, ◌*◌, ◌≡◌}
+use Rattle.laws.specs.Kit.{ℕ, zero, suc, refl, ap, ◌∙◌, List, Option, arith, ltb-true, lt-ltb, length, get_or, set, ltb}
 use Rattle.laws.specs.{Kit.{eqb}, Loop.{pick, cases}, Update.{upd, upd2, upd2-is, seen1, lift_set1, lift_keep1}, Find.{first_of}}
 use Rattle.clock.specs.Vectors.{places, place}
 use Rattle.machine.specs.Table as machine

@@ -1,5 +1,5 @@
 -- "Open writes count as a set: which entry holds one makes no difference to two tables being the same."
-use Rattle.laws.specs.Kit.{◌≡◌}
+use Rattle.std.specs.Prelude.{◌≡◌}
 use Rattle.table.specs.{declared.Table.{Table}, Model.{model_of}}
 
 -- two tables are the same exactly if their models are equal

@@ -1,5 +1,6 @@
 -- A table value that keeps the rules: its model does, and so does what the model does not see.
-use Rattle.laws.specs.Kit.{◌≡◌, ℕ, ◌<◌}
+use Rattle.std.specs.Prelude.{◌≡◌, ◌<◌}
+use Rattle.laws.specs.Kit.{ℕ}
 use Rattle.clock.specs.Vectors.{place}
 use Rattle.machine.specs.Rules.{Rules}
 use Rattle.table.specs.{declared.Cell.{Cell}, declared.Table.{Table}, Value.{all_cells, cell_at}, Model.{model_of}}

@@ -1,5 +1,6 @@
 -- What the types tell of the lists within a table.
-use Rattle.laws.specs.Kit.{ℕ, ◌<◌, ◌*◌, ◌≡◌, List, get_or, length}
+use Rattle.std.specs.Prelude.{◌<◌, ◌*◌, ◌≡◌}
+use Rattle.laws.specs.Kit.{ℕ, List, get_or, length}
 use Rattle.clock.specs.Vectors.{places}
 use Rattle.table.specs.{declared.Desk.{Desk}, declared.Table.{Table}, Value.{desk0, all_cells, cell_width, entries, open_width}}
 

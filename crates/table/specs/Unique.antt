@@ -1,5 +1,6 @@
 -- Two values of one table that keep the rules differ in nothing but where open writes stand and what lies in free entries.
-use Rattle.laws.specs.Kit.{ℕ, zero, suc, ◌+◌, ◌*◌, ◌/◌, ◌%◌, ◌<◌, ◌≡◌, refl, sym, ap, ◌∙◌, false, List, arith}
+use Rattle.std.specs.Prelude.{◌+◌, ◌*◌, ◌/◌, ◌%◌, ◌<◌, ◌≡◌}
+use Rattle.laws.specs.Kit.{ℕ, zero, suc, refl, sym, ap, ◌∙◌, false, List, arith}
 use Rattle.laws.specs.{Kit.{length, get_or, ext_get_or}, Rows.{row, part_at, length_part}}
 use Rattle.clock.specs.Vectors.{places, place, place_ext}
 use Rattle.machine.specs.Table as machine

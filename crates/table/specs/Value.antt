@@ -1,5 +1,6 @@
 -- Cells and open writes as rows of the two flat lists: reading one, storing one, marking one, handing one back.
-use Rattle.laws.specs.Kit.{ℕ, suc, ◌+◌, ◌*◌, ◌<◌, ◌≡◌, sym, ap, ◌∙◌, List, [], ◌∷◌, ◌++◌, Bool, arith, length, get_or, set, length-set}
+use Rattle.std.specs.Prelude.{◌+◌, ◌*◌, ◌<◌, ◌≡◌, ◌∷◌, ◌++◌}
+use Rattle.laws.specs.Kit.{ℕ, suc, sym, ap, ◌∙◌, List, [], Bool, arith, length, get_or, set, length-set}
 use Rattle.laws.specs.Kit.{length-append, get_or-append, sets, get_or-append-add, get_or-set_same, get_or-set_other, length-sets, eqb}
 use Rattle.laws.specs.{Tab.{tab, get_or-tab, length-tab}, Stores.{sets_append}, Rows.{numbers_from, part_at, part_same, numbers_of_numbers}}
 use Rattle.laws.specs.Rows.{part-all, part-set, part_set_off, length_part, row, put_row, row_put, row_put_other, rows_put, rows_set}

@@ -1,5 +1,6 @@
 -- Numbers of one digit and of five, computed.
-use Rattle.laws.specs.{Kit.{◌≡◌, refl}, Text.{text}}
+use Rattle.std.specs.Prelude.{◌≡◌}
+use Rattle.laws.specs.{Kit.{refl}, Text.{text}}
 use Rattle.text.specs.Number.{digits, decimal}
 
 decimal_0 : decimal 0 ≡ text "0"

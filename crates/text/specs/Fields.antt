@@ -1,5 +1,6 @@
 -- The numbers of a line's fields from a place on, and what reading one field does to them.
-use Rattle.laws.specs.Kit.{ℕ, ◌+◌, ◌*◌, ◌-◌, ◌<◌, ◌≤◌, ◌≡◌, refl, ◌∙◌, List, [], ◌∷◌, ◌⊎◌, inl, inr, true, false, ◌&&◌, and-false, Option}
+use Rattle.std.specs.Prelude.{◌+◌, ◌*◌, ◌-◌, ◌<◌, ◌≤◌, ◌≡◌, ◌∷◌, ◌⊎◌, ◌&&◌}
+use Rattle.laws.specs.Kit.{ℕ, refl, ◌∙◌, List, [], inl, inr, true, false, and-false, Option}
 use Rattle.laws.specs.Kit.{none, some, arith, zero-add, add-one, ne_eqb, le-leb, lt-leb, eqb, leb, length, get_or, drop, drop_of_length-le}
 use Rattle.laws.specs.{Kit.{drop-cons}, Lists.{every, every_first, every-fails}, Loop.{pick, cases}}
 use Rattle.text.specs.{declared.Field.{Field}, declared.Field.TheVariants.{Num, Bad}, Number.{most_number, is_digit, read_on}}

@@ -1,5 +1,6 @@
 -- Fields that were written read as their numbers, and fields that are read are written as the same bytes.
-use Rattle.laws.specs.Kit.{ℕ, suc, ◌≡◌, refl, sym, ap, ◌∙◌, List, [], ◌∷◌, ◌++◌, append-nil, true, Option, none, some, arith, ne_eqb}
+use Rattle.std.specs.Prelude.{◌≡◌, ◌∷◌, ◌++◌}
+use Rattle.laws.specs.Kit.{ℕ, suc, refl, sym, ap, ◌∙◌, List, [], append-nil, true, Option, none, some, arith, ne_eqb}
 use Rattle.laws.specs.{Kit.{eqb-true, eqb}, Lists.{every, every-cons}, Loop.{cases}}
 use Rattle.text.specs.{Number.{decimal, is_digit, number}, Words.{space, onto, words, read_onto, numbers, fields}, Fields.{rest}}
 use Rattle.text.specs.{Link.NumberBounds.{SmallNumbers}, ReadBack.{decimal-all, digit_least, read-written, written_read}}

@@ -1,5 +1,6 @@
 -- Document 01, "Schedule text": a number in decimal, as it is written and as it is read.
-use Rattle.laws.specs.Kit.{ℕ, zero, suc, ◌+◌, ◌-◌, ◌*◌, ◌/◌, ◌%◌, code, List, [], ◌∷◌, ◌++◌, Bool, true, false, not, ◌&&◌, Option, none}
+use Rattle.std.specs.Prelude.{◌+◌, ◌-◌, ◌*◌, ◌/◌, ◌%◌, ◌∷◌, ◌++◌, ◌&&◌}
+use Rattle.laws.specs.Kit.{ℕ, zero, suc, code, List, [], Bool, true, false, not, Option, none}
 use Rattle.laws.specs.{Kit.{some, eqb, leb}, Lists.{every}}
 
 -- "[A number] is at most 65,535"

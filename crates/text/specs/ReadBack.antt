@@ -1,6 +1,7 @@
 -- A number that was written reads as itself, and a number that is read is written as the same bytes.
-use Rattle.laws.specs.Kit.{ℕ, zero, suc, ◌+◌, ◌-◌, ◌*◌, ◌/◌, ◌%◌, ◌<◌, ◌≤◌, ◌≡◌, refl, sym, ap, ◌∙◌, List, [], ◌∷◌, ◌++◌, append_assoc}
-use Rattle.laws.specs.Kit.{append-nil, Bool, true, false, ◌&&◌, some, arith, zero-add, ne_eqb, le-leb, leb-true, ltb-true, ltb-false}
+use Rattle.std.specs.Prelude.{◌+◌, ◌-◌, ◌*◌, ◌/◌, ◌%◌, ◌<◌, ◌≤◌, ◌≡◌, ◌∷◌, ◌++◌, ◌&&◌}
+use Rattle.laws.specs.Kit.{ℕ, zero, suc, refl, sym, ap, ◌∙◌, List, [], append_assoc}
+use Rattle.laws.specs.Kit.{append-nil, Bool, true, false, some, arith, zero-add, ne_eqb, le-leb, leb-true, ltb-true, ltb-false}
 use Rattle.laws.specs.{Kit.{eqb-false, eqb, leb, ltb, get_or}, Lists.{every, every_first, every-cons}, Loop.{cases}, Says.{clash}}
 use Rattle.text.specs.{Number.{most_number, digits, decimal, is_digit, read_on, unpadded, is_number, number}, Link.Decimal.{digits-zero}}
 use Rattle.text.specs.{Link.Decimal.{decimal-one, decimal-more, read-decimal}, Fields.{is_digit_lem}}

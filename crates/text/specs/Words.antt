@@ -1,5 +1,6 @@
 -- Document 01, "Schedule text": "A line is a letter and decimal fields, one space between."
-use Rattle.laws.specs.{Kit.{ℕ, code, List, [], ◌∷◌, ◌++◌, Option, none, some, eqb}, Loop.{pick}}
+use Rattle.std.specs.Prelude.{◌∷◌, ◌++◌}
+use Rattle.laws.specs.{Kit.{ℕ, code, List, [], Option, none, some, eqb}, Loop.{pick}}
 use Rattle.text.specs.Number.{decimal, number}
 
 abbrev pub space : ℕ

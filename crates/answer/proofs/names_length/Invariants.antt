@@ -1,5 +1,6 @@
 -- The sum so far and what is left are the whole; each name has at most 12 bytes with its space.
-use Rattle.laws.specs.Kit.{◌+◌, ◌-◌, ◌*◌, ◌≤◌, ◌≡◌, length}
+use Rattle.std.specs.Prelude.{◌+◌, ◌-◌, ◌*◌, ◌≤◌, ◌≡◌}
+use Rattle.laws.specs.Kit.{length}
 use Rattle.answer.specs.Link.NameLengths.{names_left}
 use Rattle.answer.proofs.names_length.Given as goal
 

@@ -1,5 +1,6 @@
 use Rattle.std.proofs.Common.{rules}
-use Rattle.laws.specs.{Kit.{ℕ, ◌<◌, ◌≤◌, ◌≡◌, List, ◌++◌, arith, length, length-append}, Text.{text}}
+use Rattle.std.specs.Prelude.{◌<◌, ◌≤◌, ◌≡◌, ◌++◌}
+use Rattle.laws.specs.{Kit.{ℕ, List, arith, length, length-append}, Text.{text}}
 use Rattle.reply.specs.{declared.Answer.{Answer}, Meaning.{answer_of}}
 use Rattle.answer.specs.{Bytes.{answer_bytes, most_answer}, Outcome.{line-ended}}
 use Rattle.answer.proofs.put.Goals as goal

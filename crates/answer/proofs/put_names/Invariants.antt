@@ -1,5 +1,6 @@
 -- What is left of the names makes the whole.
-use Rattle.laws.specs.{Kit.{◌+◌, ◌-◌, ◌≤◌, length}, Stores.{StoresLeft}}
+use Rattle.std.specs.Prelude.{◌+◌, ◌-◌, ◌≤◌}
+use Rattle.laws.specs.{Kit.{length}, Stores.{StoresLeft}}
 use Rattle.answer.specs.Link.NameLengths.{names_left}
 use Rattle.answer.proofs.put_names.Given as goal
 

@@ -1,5 +1,6 @@
 -- How long a name is, and the names of an answer one by one.
-use Rattle.laws.specs.{Kit.{ℕ, ◌+◌, ◌-◌, ◌<◌, ◌≤◌, min, ◌≡◌, List, [], ◌++◌, append_assoc, arith, length, length-append}, Tab.{tab_from}}
+use Rattle.std.specs.Prelude.{◌+◌, ◌-◌, ◌<◌, ◌≤◌, ◌≡◌, ◌++◌}
+use Rattle.laws.specs.{Kit.{ℕ, min, List, [], append_assoc, arith, length, length-append}, Tab.{tab_from}}
 use Rattle.laws.specs.{Tab.{tab-start, tab-next, tab_end}, Text.{text}}
 use Rattle.machine.specs.{Table.{name, most_open}, Answer.{shows, shown}}
 use Rattle.reply.specs.Meaning.{name_at, names_of}

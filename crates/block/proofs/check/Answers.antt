@@ -1,6 +1,7 @@
 use Rattle.std.proofs.Common.{rules}
 use Rattle.block.specs.Check.{walk_back, handbook, handbook_is_check}
-use Rattle.laws.specs.Kit.{ℕ, zero, suc, ◌≡◌, refl, sym, ◌∙◌, ap, List, get_or, ◌+◌, ◌≤◌, ◌-◌, arith}
+use Rattle.std.specs.Prelude.{◌≡◌, ◌+◌, ◌≤◌, ◌-◌}
+use Rattle.laws.specs.Kit.{ℕ, zero, suc, refl, sym, ◌∙◌, ap, List, get_or, arith}
 use Rattle.block.proofs.check.Goals as goal
 
 -- one byte further back

@@ -1,5 +1,5 @@
 use Rattle.block.specs.{Limits.{check_at}, Check.{walk_back}}
-use Rattle.laws.specs.Kit.{◌≡◌, ◌*◌, ◌≤◌, ◌-◌}
+use Rattle.std.specs.Prelude.{◌≡◌, ◌*◌, ◌≤◌, ◌-◌}
 use Rattle.block.proofs.check.Given as goal
 
 -- the walk from here gives what the whole walk gives; each of the sums so far is at most 508 times 255

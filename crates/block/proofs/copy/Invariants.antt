@@ -1,4 +1,5 @@
-use Rattle.laws.specs.Kit.{◌≤◌, ◌-◌, ◌≡◌, length, take, sets}
+use Rattle.std.specs.Prelude.{◌≤◌, ◌-◌, ◌≡◌}
+use Rattle.laws.specs.Kit.{length, take, sets}
 use Rattle.block.proofs.copy.Given as goal
 
 abbrev pub invariant-loop-j : goal.invariant-loop-j

@@ -1,7 +1,7 @@
 use Rattle.std.proofs.Common.{rules}
 use Rattle.block.specs.{Limits.{block_bytes}, Mirror.BlockTests.{PassesAt}}
-use Rattle.laws.specs.{Cat.{part}, Says.{Says, apart}, Kit.{below_more, arith, ◌≡◌}}
-use Rattle.laws.specs.Kit.{◌+◌, ◌*◌, ◌-◌}
+use Rattle.std.specs.Prelude.{◌≡◌, ◌+◌, ◌*◌, ◌-◌}
+use Rattle.laws.specs.{Cat.{part}, Says.{Says, apart}, Kit.{below_more, arith}}
 use Rattle.block.proofs.first_not.Goals as goal
 use Rattle.block.proofs.first_not.Goals.{After-passes}
 

@@ -1,6 +1,6 @@
 use Rattle.block.specs.{Mirror.BlockTests.{PassesAt}}
-use Rattle.laws.specs.{Kit.{ℕ, ◌<◌}}
-use Rattle.laws.specs.Kit.{◌≤◌, ◌-◌}
+use Rattle.std.specs.Prelude.{◌<◌, ◌≤◌, ◌-◌}
+use Rattle.laws.specs.Kit.{ℕ}
 use Rattle.block.proofs.first_not.Given as goal
 
 abbrev pub invariant-loop-k : goal.invariant-loop-k

@@ -1,6 +1,7 @@
 use Rattle.std.proofs.Common.{rules}
 use Rattle.block.specs.{Link.BlockFill.{tab_put}, Block.{mark_bytes}}
-use Rattle.laws.specs.{Tab.{tab, tab_from}, Kit.{get_or, ◌≡◌, ◌∙◌, arith}}
+use Rattle.std.specs.Prelude.{◌≡◌}
+use Rattle.laws.specs.{Tab.{tab, tab_from}, Kit.{get_or, ◌∙◌, arith}}
 use Rattle.block.proofs.put_marks.Goals as goal
 
 pub loop-t-init : goal.loop-t-init

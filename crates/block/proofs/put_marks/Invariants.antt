@@ -1,4 +1,5 @@
-use Rattle.laws.specs.{Tab.{tab}, Kit.{sets, get_or, ◌≡◌, ◌≤◌, ◌-◌}}
+use Rattle.std.specs.Prelude.{◌≡◌, ◌≤◌, ◌-◌}
+use Rattle.laws.specs.{Tab.{tab}, Kit.{sets, get_or}}
 use Rattle.block.proofs.put_marks.Given as goal
 
 abbrev pub invariant-loop-t : goal.invariant-loop-t

@@ -1,6 +1,7 @@
 use Rattle.std.proofs.Common.{rules}
 use Rattle.block.specs.{Link.BlockFill.{sets_more}, Block.{word, vector_words}}
-use Rattle.laws.specs.{Cat.{cat, length-cat}, Kit.{get_or, ◌≡◌, refl, ◌∙◌, arith, ◌*◌}}
+use Rattle.std.specs.Prelude.{◌≡◌, ◌*◌}
+use Rattle.laws.specs.{Cat.{cat, length-cat}, Kit.{get_or, refl, ◌∙◌, arith}}
 use Rattle.block.proofs.put_words.Goals as goal
 
 pub loop-t-init : goal.loop-t-init

@@ -1,5 +1,6 @@
 use Rattle.block.specs.{Block.{word}}
-use Rattle.laws.specs.{Cat.{cat}, Kit.{sets, get_or, ◌≡◌, ◌≤◌, ◌-◌}}
+use Rattle.std.specs.Prelude.{◌≡◌, ◌≤◌, ◌-◌}
+use Rattle.laws.specs.{Cat.{cat}, Kit.{sets, get_or}}
 use Rattle.block.proofs.put_words.Given as goal
 
 abbrev pub invariant-loop-t : goal.invariant-loop-t

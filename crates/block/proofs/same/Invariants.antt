@@ -1,5 +1,5 @@
-use Rattle.laws.specs.{Says.{Says}, Kit.{length, get_or, ◌≡◌, ℕ, ◌≤◌}}
-use Rattle.laws.specs.Kit.{◌<◌, ◌-◌}
+use Rattle.std.specs.Prelude.{◌≡◌, ◌≤◌, ◌<◌, ◌-◌}
+use Rattle.laws.specs.{Says.{Says}, Kit.{length, get_or, ℕ}}
 use Rattle.block.proofs.same.Given as goal
 
 abbrev pub invariant-loop-i : goal.invariant-loop-i

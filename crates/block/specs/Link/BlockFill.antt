@@ -1,5 +1,6 @@
 -- Stores one after the other: what a loop that puts a piece each turn has put so far; and a block of zeros that is filled from its start on.
-use Rattle.laws.specs.Kit.{ℕ, zero, suc, ◌+◌, ◌-◌, ◌*◌, ◌<◌, ◌≤◌, ◌≡◌, sym, ap, ◌∙◌, List, [], ◌∷◌, ◌++◌, append_assoc, append-nil}
+use Rattle.std.specs.Prelude.{◌+◌, ◌-◌, ◌*◌, ◌<◌, ◌≤◌, ◌≡◌, ◌∷◌, ◌++◌}
+use Rattle.laws.specs.Kit.{ℕ, zero, suc, sym, ap, ◌∙◌, List, [], append_assoc, append-nil}
 use Rattle.laws.specs.Kit.{add-zero, zero-add, arith, add-one, length, get_or, set, take, drop, replicate, length-replicate, sets, sets-eq}
 use Rattle.laws.specs.{Kit.{take-suc, take-add, take_all, length-take-le}, Cat.{cat, part}, Tab.{tab, tab-more, length-tab}}
 use Rattle.laws.specs.Stores.{sets_append}

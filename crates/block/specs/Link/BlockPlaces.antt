@@ -1,5 +1,6 @@
 -- Where each field stands in a block.
-use Rattle.laws.specs.Kit.{ℕ, ◌+◌, ◌-◌, ◌*◌, ◌/◌, ◌<◌, ◌≤◌, ◌≡◌, refl, ◌∙◌, List, ◌∷◌, ◌++◌, arith, length, replicate, length-append}
+use Rattle.std.specs.Prelude.{◌+◌, ◌-◌, ◌*◌, ◌/◌, ◌<◌, ◌≤◌, ◌≡◌, ◌∷◌, ◌++◌}
+use Rattle.laws.specs.Kit.{ℕ, refl, ◌∙◌, List, arith, length, replicate, length-append}
 use Rattle.laws.specs.{Kit.{length-replicate, mul-le-mul_left}, Cat.{cat, part, part_right, part_left, piece-cat, length-cat}}
 use Rattle.block.specs.{Check.{check_of}, Block.{word, long, body, block}, Limits.{fit, piece_inside, block_bytes, payload_at}}
 use Rattle.block.specs.Limits.{check_at, payload_bytes}

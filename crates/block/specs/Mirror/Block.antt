@@ -1,5 +1,6 @@
 -- A block as the code fills it: zeros, then its head and its payload, then its check.
-use Rattle.laws.specs.Kit.{ℕ, zero, suc, ◌+◌, ◌-◌, ◌*◌, ◌<◌, ◌≤◌, ◌≡◌, refl, sym, ap, ◌∙◌, List, [], ◌∷◌, ◌++◌, append_assoc, append-nil}
+use Rattle.std.specs.Prelude.{◌+◌, ◌-◌, ◌*◌, ◌<◌, ◌≤◌, ◌≡◌, ◌∷◌, ◌++◌}
+use Rattle.laws.specs.Kit.{ℕ, zero, suc, refl, sym, ap, ◌∙◌, List, [], append_assoc, append-nil}
 use Rattle.laws.specs.Kit.{arith, length, set, drop, replicate, length-append, length-replicate, replicate-append-replicate, sets, sets-eq}
 use Rattle.laws.specs.{Kit.{take_at, drop-append-add, add-zero}, Cat.{cat, length-cat}}
 use Rattle.block.specs.{Check.{check_of, check_first}, Block.{word, long, vector_words, body, sealed, block, length-words}}

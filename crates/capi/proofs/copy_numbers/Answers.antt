@@ -1,5 +1,6 @@
 use Rattle.std.proofs.Common.{rules}
-use Rattle.laws.specs.Kit.{◌≡◌, sym, ◌∙◌, arith, zero-add, length, take_all, take-length, sets, length-sets}
+use Rattle.std.specs.Prelude.{◌≡◌}
+use Rattle.laws.specs.Kit.{sym, ◌∙◌, arith, zero-add, length, take_all, take-length, sets, length-sets}
 use Rattle.block.specs.Link.BlockFill.{set_more}
 use Rattle.load.specs.Loading.{saved_part}
 use Rattle.capi.proofs.copy_numbers.Goals as goal

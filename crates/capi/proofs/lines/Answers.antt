@@ -1,4 +1,5 @@
-use Rattle.laws.specs.{Kit.{◌+◌, ◌≡◌, ◌∙◌, take, sets}, Loop.{pick}}
+use Rattle.std.specs.Prelude.{◌+◌, ◌≡◌}
+use Rattle.laws.specs.{Kit.{◌∙◌, take, sets}, Loop.{pick}}
 use Rattle.capi.specs.{Link.RunsOfLines.{lining_room}}
 use Rattle.capi.specs.Link.RunsOfLines.{lining_part, lining_less, lining_on, lining_end}
 use Rattle.capi.proofs.lines.Goals as goal

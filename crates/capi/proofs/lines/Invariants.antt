@@ -1,4 +1,5 @@
-use Rattle.laws.specs.{Kit.{◌-◌, ◌≡◌, length}}
+use Rattle.std.specs.Prelude.{◌-◌, ◌≡◌}
+use Rattle.laws.specs.Kit.{length}
 use Rattle.session.specs.{Session.{Session}, Holds.{Holds}}
 use Rattle.capi.specs.{Mirror.AccessParts.{most_part}, Link.RunsOfLines.{Lining}}
 use Rattle.table.specs.Model.{table_with}

@@ -1,5 +1,6 @@
 -- A call from a session: refused where something is too long or too short, else its answers are those of the first run and of the lines behind it.
-use Rattle.laws.specs.Kit.{◌≡◌, sym, ap, ◌∙◌, List, [], ◌∷◌, ◌++◌, append-nil, Bool, ◌&&◌, ℕ, ◌+◌, ◌*◌, ◌^◌, ◌<◌, ◌≤◌, arith, leb, length}
+use Rattle.std.specs.Prelude.{◌≡◌, ◌∷◌, ◌++◌, ◌&&◌, ◌+◌, ◌*◌, ◌^◌, ◌<◌, ◌≤◌}
+use Rattle.laws.specs.Kit.{sym, ap, ◌∙◌, List, [], append-nil, Bool, ℕ, arith, leb, length}
 use Rattle.laws.specs.{Kit.{take, length-append, sets, length-take-le}, Loop.{cases}, Says.{Says, says-leb, says_both}}
 use Rattle.laws.specs.Stores.{sets_append}
 use Rattle.table.specs.declared.Table.{Table}

@@ -1,5 +1,6 @@
 -- What a call that is not refused wrote.
-use Rattle.laws.specs.Kit.{◌≡◌, refl, ap, ◌∙◌, List, [], ◌∷◌, none, some, ℕ, ◌≤◌, arith, length, take, get_or, set, length-set, sets}
+use Rattle.std.specs.Prelude.{◌≡◌, ◌∷◌, ◌≤◌}
+use Rattle.laws.specs.Kit.{refl, ap, ◌∙◌, List, [], none, some, ℕ, arith, length, take, get_or, set, length-set, sets}
 use Rattle.laws.specs.{Kit.{get_or-set_same, get_or-set_other}, Loop.{cases}}
 use Rattle.image.specs.Load.{Loaded, load, Loads, by_length, by_check, by_rule, as_saved}
 use Rattle.image.proofs.Load.{load_loads}

@@ -1,5 +1,6 @@
 -- A text that is cut behind a LF: its lines, their answers and the session that they leave, part by part.
-use Rattle.laws.specs.{Kit.{◌≡◌, refl, sym, ap, ◌∙◌, List, [], ◌∷◌, ◌++◌, append_assoc, ℕ, ◌<◌, arith, eqb, length}, Loop.{cases}}
+use Rattle.std.specs.Prelude.{◌≡◌, ◌∷◌, ◌++◌, ◌<◌}
+use Rattle.laws.specs.{Kit.{refl, sym, ap, ◌∙◌, List, [], append_assoc, ℕ, arith, eqb, length}, Loop.{cases}}
 use Rattle.machine.specs.Answer.{Answer}
 use Rattle.schedule.specs.Lines.{LF}
 use Rattle.answer.specs.Bytes.{answer_line}

@@ -1,5 +1,6 @@
 -- The session that an image starts with, and the call from it.
-use Rattle.laws.specs.Kit.{◌≡◌, refl, ap, ◌∙◌, List, [], ◌∷◌, none, some, ℕ, arith, length}
+use Rattle.std.specs.Prelude.{◌≡◌, ◌∷◌}
+use Rattle.laws.specs.Kit.{refl, ap, ◌∙◌, List, [], none, some, ℕ, arith, length}
 use Rattle.machine.specs.Answer.{Refusal, number_of}
 use Rattle.table.specs.{declared.Table.{Table}, Beginning.{fresh_table}, Model.{model_of}}
 use Rattle.image.specs.Load.{load}

@@ -1,5 +1,6 @@
 -- The call of `access_inspect`, by the code's test of its buffer.
-use Rattle.laws.specs.Kit.{◌<◌, ◌≤◌, ◌≡◌, List, ℕ, le-leb, lt-leb, length, sets}
+use Rattle.std.specs.Prelude.{◌<◌, ◌≤◌, ◌≡◌}
+use Rattle.laws.specs.Kit.{List, ℕ, le-leb, lt-leb, length, sets}
 use Rattle.image.specs.Load.{load}
 use Rattle.load.specs.Finding.{finding_of}
 use Rattle.capi.specs.Access.{five, inspected, access_inspect}

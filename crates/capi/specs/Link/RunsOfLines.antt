@@ -1,6 +1,7 @@
 -- The lines of a text by runs, one after the other: each run's answers go behind those before it.
-use Rattle.laws.specs.Kit.{◌≡◌, refl, sym, ap, ◌∙◌, List, [], ◌++◌, append_assoc, append-nil, Bool, true, false, ℕ, ◌+◌, ◌-◌, ◌*◌, ◌^◌, ◌<◌}
-use Rattle.laws.specs.{Kit.{◌≤◌, max, arith, length, take, length-append, sets, length-sets}, Loop.{pick}, Stores.{sets_append}}
+use Rattle.std.specs.Prelude.{◌≡◌, ◌++◌, ◌+◌, ◌-◌, ◌*◌, ◌^◌, ◌<◌, ◌≤◌}
+use Rattle.laws.specs.Kit.{refl, sym, ap, ◌∙◌, List, [], append_assoc, append-nil, Bool, true, false, ℕ}
+use Rattle.laws.specs.{Kit.{max, arith, length, take, length-append, sets, length-sets}, Loop.{pick}, Stores.{sets_append}}
 use Rattle.table.specs.declared.Table.{Table}
 use Rattle.session.specs.{Session.{Session}, Transcript.{transcript_from, session_from, most_text}, TranscriptLaws.{from_end, left_end}}
 use Rattle.session.specs.{Holds.{Holds}, Run.{Ran, ran_rest, ran_leaves, ran_within, ran_progress, ran_part}}

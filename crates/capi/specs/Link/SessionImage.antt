@@ -1,5 +1,6 @@
 -- The image of the session that the values hold.
-use Rattle.laws.specs.Kit.{◌≡◌, refl, sym, ap, ◌∙◌, [], none, some, ◌*◌, ◌≤◌, arith, length}
+use Rattle.std.specs.Prelude.{◌≡◌, ◌*◌, ◌≤◌}
+use Rattle.laws.specs.Kit.{refl, sym, ap, ◌∙◌, [], none, some, arith, length}
 use Rattle.clock.specs.Vectors.{places}
 use Rattle.table.specs.{declared.Table.{Table}, Value.{desk_cells}, Model.{model_of, applied_m}, Sound.{SoundTable}}
 use Rattle.block.specs.Limits.{places_for, block_bytes}

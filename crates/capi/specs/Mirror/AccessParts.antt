@@ -1,5 +1,6 @@
 -- The parts of `access_run`, for every session that the values at hand hold.
-use Rattle.laws.specs.{Kit.{◌≡◌, Bool, true, List, ◌++◌, ℕ, ◌+◌, ◌*◌, ◌≤◌, length, sets}, Loop.{pick}}
+use Rattle.std.specs.Prelude.{◌≡◌, ◌++◌, ◌+◌, ◌*◌, ◌≤◌}
+use Rattle.laws.specs.{Kit.{Bool, true, List, ℕ, length, sets}, Loop.{pick}}
 use Rattle.machine.specs.Answer.{wrong_length, damaged, broken}
 use Rattle.table.specs.{declared.Core.{Core}, declared.Table.{Table}, Model.{table_with}}
 use Rattle.load.specs.{declared.Outcome.{Outcome}, declared.Outcome.TheVariants.{Accepted, WrongLength, Damaged, Broken}}

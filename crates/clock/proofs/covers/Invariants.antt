@@ -1,5 +1,6 @@
 use Rattle.clock.specs.{Vectors.{places}, Readiness.{covers}}
-use Rattle.laws.specs.{Kit.{◌≤◌, ◌-◌, ◌≡◌, false, not, get_or, ltb}, Loop.{pick}, All.{all}}
+use Rattle.std.specs.Prelude.{◌≤◌, ◌-◌, ◌≡◌}
+use Rattle.laws.specs.{Kit.{false, not, get_or, ltb}, Loop.{pick}, All.{all}}
 use Rattle.clock.proofs.covers.Given as goal
 
 abbrev pub invariant-loop-t : goal.invariant-loop-t

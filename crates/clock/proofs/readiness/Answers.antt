@@ -1,6 +1,7 @@
 use Rattle.std.proofs.Common.{rules}
 use Rattle.clock.specs.{Vectors.{places}}
-use Rattle.laws.specs.{Kit.{ℕ, ◌+◌, refl, sym, ap, ◌∙◌, some}, Loop.{scan-here, scan-next, scan_end}}
+use Rattle.std.specs.Prelude.{◌+◌}
+use Rattle.laws.specs.{Kit.{ℕ, refl, sym, ap, ◌∙◌, some}, Loop.{scan-here, scan-next, scan_end}}
 use Rattle.machine.specs.{Table.{name}, Steps.{failing}}
 use Rattle.clock.proofs.readiness.Goals as goal
 

@@ -1,5 +1,6 @@
 use Rattle.clock.specs.{Vectors.{places, place}, Readiness.{fails_at}}
-use Rattle.laws.specs.{Kit.{◌≤◌, ◌-◌, ◌+◌, ◌≡◌, none, some}, Loop.{scan}}
+use Rattle.std.specs.Prelude.{◌≤◌, ◌-◌, ◌+◌, ◌≡◌}
+use Rattle.laws.specs.{Kit.{none, some}, Loop.{scan}}
 use Rattle.machine.specs.{Steps.{first_unapplied, failing}}
 use Rattle.clock.proofs.readiness.Given as goal
 

@@ -1,6 +1,7 @@
 use Rattle.std.proofs.Common.{rules}
 use Rattle.clock.specs.{Vectors.{places}, Readiness.{ready_out, ready_late, ready-next}}
-use Rattle.laws.specs.Kit.{◌≡◌, sym, ◌∙◌, arith, length}
+use Rattle.std.specs.Prelude.{◌≡◌}
+use Rattle.laws.specs.Kit.{sym, ◌∙◌, arith, length}
 use Rattle.clock.proofs.ready.Goals as goal
 
 pub returns-then-u-eq0 : goal.returns-then-u-eq0

@@ -2,7 +2,8 @@ use Rattle.std.proofs.Common.{rules}
 use Rattle.block.specs.Limits.{payload_at, cell_bytes, cells_in, edition_of, fit, first-inside}
 use Rattle.block.specs.Mirror.Block.{made, zeros-behind}
 use Rattle.image.specs.{Mirror.RawBytes.{cell_raw}, Mirror.TableBytes.{cell_piece, length-cell_piece, cell-there, cell_past, one_more}}
-use Rattle.laws.specs.{Cat.{cat, length-cat}, Kit.{ℕ, ap, ◌∙◌, arith, mul-le-mul_left, ◌+◌, ◌*◌, ◌≤◌}}
+use Rattle.std.specs.Prelude.{◌+◌, ◌*◌, ◌≤◌}
+use Rattle.laws.specs.{Cat.{cat, length-cat}, Kit.{ℕ, ap, ◌∙◌, arith, mul-le-mul_left}}
 use Rattle.table.specs.Value.{desk_cells}
 use Rattle.image.proofs.cell_block.Goals as goal
 

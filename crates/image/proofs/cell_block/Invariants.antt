@@ -1,6 +1,7 @@
 use Rattle.block.specs.Limits.{payload_at, cell_bytes, cells_in}
 use Rattle.image.specs.{Mirror.TableBytes.{cell_piece}}
-use Rattle.laws.specs.{Cat.{cat}, Kit.{ℕ, sets, ◌≡◌, ◌+◌, ◌*◌, ◌<◌, ◌≤◌, ◌-◌, min}}
+use Rattle.std.specs.Prelude.{◌≡◌, ◌+◌, ◌*◌, ◌<◌, ◌≤◌, ◌-◌}
+use Rattle.laws.specs.{Cat.{cat}, Kit.{ℕ, sets, min}}
 use Rattle.table.specs.Value.{desk_cells}
 use Rattle.image.proofs.cell_block.Given as goal
 

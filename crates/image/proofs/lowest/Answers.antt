@@ -1,7 +1,8 @@
 use Rattle.std.proofs.Common.{rules}
 use Rattle.image.specs.{Mirror.EntryOrder.{low-start, low-more, count_at_lem}, Link.OrderFromCounts.{low}}
 use Rattle.table.specs.Model.{applied_m}
-use Rattle.laws.specs.Kit.{arith, ◌≡◌, ◌∙◌, suc}
+use Rattle.std.specs.Prelude.{◌≡◌}
+use Rattle.laws.specs.Kit.{arith, ◌∙◌, suc}
 use Rattle.image.proofs.lowest.Goals as goal
 
 pub loop-i-init : goal.loop-i-init

@@ -1,6 +1,7 @@
 use Rattle.image.specs.{Link.OrderFromCounts.{least}}
 use Rattle.table.specs.Model.{applied_m}
-use Rattle.laws.specs.Kit.{◌≡◌, ◌≤◌, ◌-◌, suc}
+use Rattle.std.specs.Prelude.{◌≡◌, ◌≤◌, ◌-◌}
+use Rattle.laws.specs.Kit.{suc}
 use Rattle.image.proofs.lowest.Given as goal
 
 abbrev pub invariant-loop-i : goal.invariant-loop-i

@@ -2,7 +2,8 @@ use Rattle.std.proofs.Common.{rules}
 use Rattle.block.specs.Limits.{payload_at, open_bytes, opens_in, payload_bytes, edition_of, fit, piece_inside, first-inside}
 use Rattle.block.specs.Mirror.Block.{made, zeros-behind}
 use Rattle.image.specs.Mirror.TableBytes.{open_piece, length-open_piece, open-there, open-past, one_more}
-use Rattle.laws.specs.{Cat.{cat, length-cat}, Kit.{ℕ, ap, ◌∙◌, arith, mul-le-mul_left, ◌+◌, ◌*◌, ◌≤◌}}
+use Rattle.std.specs.Prelude.{◌+◌, ◌*◌, ◌≤◌}
+use Rattle.laws.specs.{Cat.{cat, length-cat}, Kit.{ℕ, ap, ◌∙◌, arith, mul-le-mul_left}}
 use Rattle.table.specs.Value.{entries}
 use Rattle.image.proofs.open_block.Goals as goal
 

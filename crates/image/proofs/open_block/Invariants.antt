@@ -1,6 +1,7 @@
 use Rattle.block.specs.Limits.{payload_at, open_bytes, opens_in}
 use Rattle.image.specs.{Mirror.TableBytes.{open_piece}}
-use Rattle.laws.specs.{Cat.{cat}, Kit.{ℕ, sets, ◌≡◌, ◌+◌, ◌*◌, ◌<◌, ◌≤◌, ◌-◌, min}}
+use Rattle.std.specs.Prelude.{◌≡◌, ◌+◌, ◌*◌, ◌<◌, ◌≤◌, ◌-◌}
+use Rattle.laws.specs.{Cat.{cat}, Kit.{ℕ, sets, min}}
 use Rattle.table.specs.Value.{entries}
 use Rattle.image.proofs.open_block.Given as goal
 

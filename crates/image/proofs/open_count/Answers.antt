@@ -1,7 +1,8 @@
 use Rattle.std.proofs.Common.{rules}
 use Rattle.image.specs.{Mirror.EntryOrder.{ahead_more, low-own, count_at_lem}, Link.OrderFromCounts.{counted}}
 use Rattle.table.specs.Model.{applied_m}
-use Rattle.laws.specs.{Cat.{cat}, Kit.{arith, ◌≡◌, ◌∙◌, refl, suc}}
+use Rattle.std.specs.Prelude.{◌≡◌}
+use Rattle.laws.specs.{Cat.{cat}, Kit.{arith, ◌∙◌, refl, suc}}
 use Rattle.image.proofs.open_count.Goals as goal
 
 pub loop-u-init : goal.loop-u-init

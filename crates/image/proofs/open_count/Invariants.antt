@@ -1,5 +1,6 @@
 use Rattle.image.specs.{Mirror.EntryOrder.{ahead}}
-use Rattle.laws.specs.{Kit.{length, ◌≡◌, ◌≤◌, ◌-◌, ◌*◌}}
+use Rattle.std.specs.Prelude.{◌≡◌, ◌≤◌, ◌-◌, ◌*◌}
+use Rattle.laws.specs.Kit.{length}
 use Rattle.image.proofs.open_count.Given as goal
 
 abbrev pub invariant-loop-u : goal.invariant-loop-u

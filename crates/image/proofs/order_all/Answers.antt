@@ -2,7 +2,8 @@ use Rattle.std.proofs.Common.{rules}
 use Rattle.table.specs.{Model.{applied_m}}
 use Rattle.image.specs.Mirror.EntryOrder.{ordered-none, ordered-next, known-room, low-own}
 use Rattle.image.specs.Link.OrderFromCounts.{counted}
-use Rattle.laws.specs.{Cat.{cat}, Kit.{add-one, arith, ◌≡◌, ◌∙◌, suc}}
+use Rattle.std.specs.Prelude.{◌≡◌}
+use Rattle.laws.specs.{Cat.{cat}, Kit.{add-one, arith, ◌∙◌, suc}}
 use Rattle.image.proofs.order_all.Goals as goal
 
 pub loop-u-init : goal.loop-u-init

@@ -1,6 +1,7 @@
 use Rattle.table.specs.{Value.{entries}}
 use Rattle.image.specs.Mirror.EntryOrder.{ahead, InOrder}
-use Rattle.laws.specs.{Kit.{length, ◌≡◌, ◌≤◌, ◌-◌}}
+use Rattle.std.specs.Prelude.{◌≡◌, ◌≤◌, ◌-◌}
+use Rattle.laws.specs.Kit.{length}
 use Rattle.image.proofs.order_all.Given as goal
 
 abbrev pub invariant-loop-u : goal.invariant-loop-u

@@ -1,7 +1,8 @@
 use Rattle.std.proofs.Common.{rules}
 use Rattle.table.specs.{Link.OpensModel.{found_none}, EntryNames.{named_at, found_at}}
 use Rattle.image.specs.Mirror.EntryOrder.{listed_none, listed_more}
-use Rattle.laws.specs.Kit.{arith, ◌+◌}
+use Rattle.std.specs.Prelude.{◌+◌}
+use Rattle.laws.specs.Kit.{arith}
 use Rattle.image.proofs.order_of.Goals as goal
 
 pub loop-k-init : goal.loop-k-init

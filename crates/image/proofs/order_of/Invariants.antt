@@ -1,5 +1,5 @@
 use Rattle.image.specs.Mirror.EntryOrder.{Listed}
-use Rattle.laws.specs.Kit.{◌≤◌, ◌-◌}
+use Rattle.std.specs.Prelude.{◌≤◌, ◌-◌}
 use Rattle.image.proofs.order_of.Given as goal
 
 abbrev pub invariant-loop-k : goal.invariant-loop-k

@@ -3,7 +3,8 @@ use Rattle.block.specs.Limits.{places-most, desks-placed}
 use Rattle.image.specs.Link.SavedIsImage.{Planned}
 use Rattle.image.proofs.SavedIsImage.{known, planned}
 use Rattle.table.specs.Model.{table_with}
-use Rattle.laws.specs.Kit.{arith, ◌∙◌, ◌+◌}
+use Rattle.std.specs.Prelude.{◌+◌}
+use Rattle.laws.specs.Kit.{arith, ◌∙◌}
 use Rattle.image.proofs.planned.Goals as goal
 use Rattle.image.proofs.planned.Goals.{After-blocks_for}
 

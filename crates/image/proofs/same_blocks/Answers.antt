@@ -4,7 +4,8 @@ use Rattle.image.specs.Link.FieldPlaces.{block_at}
 use Rattle.image.specs.Link.SavedIsImage.{blocks-same}
 use Rattle.image.proofs.SavedIsImage.{same_block}
 use Rattle.laws.specs.{Cat.{part}, Says.{Says, apart, clash}, Kit.{below_more}}
-use Rattle.laws.specs.Kit.{arith, ◌≡◌, refl, ◌+◌, ◌*◌, ◌-◌}
+use Rattle.std.specs.Prelude.{◌≡◌, ◌+◌, ◌*◌, ◌-◌}
+use Rattle.laws.specs.Kit.{arith, refl}
 use Rattle.table.specs.Model.{model_of, table_with}
 use Rattle.image.proofs.same_blocks.Goals as goal
 use Rattle.image.proofs.same_blocks.Goals.{After-same}

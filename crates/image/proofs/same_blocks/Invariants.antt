@@ -1,6 +1,7 @@
 use Rattle.block.specs.{Damage.{block_in}}
 use Rattle.image.specs.{Link.FieldPlaces.{block_at}}
-use Rattle.laws.specs.Kit.{◌≡◌, ℕ, ◌<◌, ◌≤◌, ◌-◌}
+use Rattle.std.specs.Prelude.{◌≡◌, ◌<◌, ◌≤◌, ◌-◌}
+use Rattle.laws.specs.Kit.{ℕ}
 use Rattle.table.specs.Model.{model_of, table_with}
 use Rattle.image.proofs.same_blocks.Given as goal
 

@@ -1,5 +1,6 @@
 use Rattle.image.specs.{Link.FieldPlaces.{block_at}}
-use Rattle.laws.specs.{Cat.{cat}, Kit.{length, sets, ◌≡◌, ◌≤◌, ◌-◌}}
+use Rattle.std.specs.Prelude.{◌≡◌, ◌≤◌, ◌-◌}
+use Rattle.laws.specs.{Cat.{cat}, Kit.{length, sets}}
 use Rattle.table.specs.Model.{model_of, table_with}
 use Rattle.image.proofs.save_blocks.Given as goal
 

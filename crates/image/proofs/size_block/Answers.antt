@@ -1,5 +1,6 @@
 use Rattle.block.specs.{Mirror.Block.{made}, Limits.{payload_at, edition_of}}
-use Rattle.laws.specs.Kit.{[], ◌∷◌, sets, arith}
+use Rattle.std.specs.Prelude.{◌∷◌}
+use Rattle.laws.specs.Kit.{[], sets, arith}
 use Rattle.image.proofs.size_block.Goals as goal
 
 pub returns : goal.returns

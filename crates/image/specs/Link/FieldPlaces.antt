@@ -1,5 +1,6 @@
 -- The block at each place of the image, and that the image is its blocks, one after the other.
-use Rattle.laws.specs.Kit.{ℕ, suc, ◌+◌, ◌-◌, ◌*◌, ◌/◌, ◌%◌, ◌<◌, ◌≡◌, sym, ◌∙◌, Bool, true, false, List, [], ◌∷◌}
+use Rattle.std.specs.Prelude.{◌+◌, ◌-◌, ◌*◌, ◌/◌, ◌%◌, ◌<◌, ◌≡◌, ◌∷◌}
+use Rattle.laws.specs.Kit.{ℕ, suc, sym, ◌∙◌, Bool, true, false, List, []}
 use Rattle.laws.specs.Kit.{append_assoc, arith, eqb, leb, ltb, ne_eqb, le-leb, lt-leb, le-ltb, lt-ltb}
 use Rattle.laws.specs.Kit.{mul-le-mul_left, mul-add-div, mul-add-mod_self_left, div-eq_of_lt, mod-eq_of_lt, add-zero}
 use Rattle.laws.specs.{Loop.{pick}, Cat.{cat, cat-same}}

@@ -1,5 +1,6 @@
 -- No name stands twice in the list that the counts tell.
-use Rattle.laws.specs.Kit.{ℕ, zero, suc, ◌+◌, ◌-◌, ◌<◌, ◌≡◌, sym, ap, ◌∙◌, List, ◌++◌, arith, dec_lt, length, get_or, length-append}
+use Rattle.std.specs.Prelude.{◌+◌, ◌-◌, ◌<◌, ◌≡◌, ◌++◌}
+use Rattle.laws.specs.Kit.{ℕ, zero, suc, sym, ap, ◌∙◌, List, arith, dec_lt, length, get_or, length-append}
 use Rattle.laws.specs.{Kit.{get_or-append, get_or-append-add}, Tab.{length-tab, get_or-tab}, Cat.{cat}}
 use Rattle.machine.specs.{Table.{Name, name, Vec}}
 use Rattle.image.specs.OpenNames.{no_name}

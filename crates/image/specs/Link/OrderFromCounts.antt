@@ -1,5 +1,6 @@
 -- By the rules the counts alone tell which writes are open, so in what order they are saved.
-use Rattle.laws.specs.Kit.{ℕ, zero, suc, ◌+◌, ◌-◌, ◌<◌, ◌≤◌, min, ◌≡◌, List, arith, ltb-true, ltb-false, ltb}
+use Rattle.std.specs.Prelude.{◌+◌, ◌-◌, ◌<◌, ◌≤◌, ◌≡◌}
+use Rattle.laws.specs.Kit.{ℕ, zero, suc, min, List, arith, ltb-true, ltb-false, ltb}
 use Rattle.laws.specs.{Loop.{cases}, Update.{same_or}, Tab.{tab}, Cat.{cat}}
 use Rattle.machine.specs.{Table.{Vec, Name, name, State, written}, Steps.{is_open}, Rules.{In, Rules}}
 

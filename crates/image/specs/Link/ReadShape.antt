@@ -1,5 +1,6 @@
 -- What is read has the shape of a table, whatever the bytes are.
-use Rattle.laws.specs.{Kit.{ℕ, suc, ◌≤◌, ◌≡◌, ◌↔◌, true, ◌&&◌, List, [], some, arith, eqb, get_or}, Loop.{cases}, Says.{says_both}}
+use Rattle.std.specs.Prelude.{◌≤◌, ◌≡◌, ◌↔◌, ◌&&◌}
+use Rattle.laws.specs.{Kit.{ℕ, suc, true, List, [], some, arith, eqb, get_or}, Loop.{cases}, Says.{says_both}}
 use Rattle.laws.specs.{FromOne.{from1, from1-all}, Find.{first-is}, Cat.{part}}
 use Rattle.machine.specs.{Table.{most_desks, Vec, zeros, Cell, blank, set, Open}, Steps.{within}, Rules.{In, Flat, Rules}}
 use Rattle.machine.specs.Within.{says-within}

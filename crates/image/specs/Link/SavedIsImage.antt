@@ -1,5 +1,6 @@
 -- What the code puts for a table that keeps the rules is the image of its model.
-use Rattle.laws.specs.Kit.{ℕ, suc, ◌+◌, ◌-◌, ◌*◌, ◌/◌, ◌%◌, ◌<◌, ◌≤◌, ◌≡◌, sym, ap, ◌∙◌, fun_ext, List, [], ◌∷◌, map}
+use Rattle.std.specs.Prelude.{◌+◌, ◌-◌, ◌*◌, ◌/◌, ◌%◌, ◌<◌, ◌≤◌, ◌≡◌, ◌∷◌}
+use Rattle.laws.specs.Kit.{ℕ, suc, sym, ap, ◌∙◌, fun_ext, List, [], map}
 use Rattle.laws.specs.Kit.{arith, ne_eqb, le-leb, lt-leb, lt-ltb, le-ltb, length, get_or, replicate}
 use Rattle.laws.specs.{Kit.{sets}, Cat.{cat}}
 use Rattle.clock.specs.Vectors.{places, place}

@@ -1,5 +1,6 @@
 -- The open writes in their order: the entries that hold them, by writer then number.
-use Rattle.laws.specs.Kit.{ℕ, zero, suc, ◌+◌, ◌-◌, ◌<◌, ◌≤◌, min, ◌≡◌, refl, sym, ◌∙◌, true, List, [], ◌∷◌, ◌++◌, append_assoc, append-nil}
+use Rattle.std.specs.Prelude.{◌+◌, ◌-◌, ◌<◌, ◌≤◌, ◌≡◌, ◌∷◌, ◌++◌}
+use Rattle.laws.specs.Kit.{ℕ, zero, suc, min, refl, sym, ◌∙◌, true, List, [], append_assoc, append-nil}
 use Rattle.laws.specs.Kit.{none, arith, add-one, dec_lt, length, get_or, set, length-append, length-set, get_or-append, get_or-set_same}
 use Rattle.laws.specs.{Kit.{get_or-set_other, get_or-append-add}, Tab.{tab, tab_from, tab-more, length-tab}, Cat.{cat, cat-le}}
 use Rattle.machine.specs.Table.{Vec, Name, name}

@@ -1,5 +1,6 @@
 -- The bytes of the code's cell and open write.
-use Rattle.laws.specs.Kit.{ℕ, ◌<◌, ◌≡◌, List, ◌∷◌, ◌++◌, arith, length, get_or, length-append}
+use Rattle.std.specs.Prelude.{◌<◌, ◌≡◌, ◌∷◌, ◌++◌}
+use Rattle.laws.specs.Kit.{ℕ, List, arith, length, get_or, length-append}
 use Rattle.clock.specs.Vectors.{place}
 use Rattle.table.specs.{declared.Cell.{Cell}, declared.Open.{Open}}
 use Rattle.block.specs.{Block.{vector_words, mark_bytes, length-words, length-marks}, Limits.{open_bytes}}

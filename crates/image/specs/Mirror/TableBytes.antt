@@ -1,5 +1,6 @@
 -- The bytes of a table's parts, as the code puts them: of the desks, of the flat cells, of the entries in their order.
-use Rattle.laws.specs.Kit.{ℕ, suc, ◌+◌, ◌*◌, ◌<◌, ◌≤◌, ◌≡◌, refl, ◌∙◌, List, Bool, true, false, arith, lt-ltb, le-ltb, ltb, length, get_or}
+use Rattle.std.specs.Prelude.{◌+◌, ◌*◌, ◌<◌, ◌≤◌, ◌≡◌}
+use Rattle.laws.specs.Kit.{ℕ, suc, refl, ◌∙◌, List, Bool, true, false, arith, lt-ltb, le-ltb, ltb, length, get_or}
 use Rattle.laws.specs.{Kit.{replicate, length-replicate, sets}, Loop.{pick}, Cat.{cat, length-cat}}
 use Rattle.clock.specs.Vectors.{places}
 use Rattle.machine.specs.Table as machine

@@ -1,6 +1,7 @@
 use Rattle.std.proofs.Common.{rules}
 use Rattle.load.specs.Mirror.ImageRead.{fill_zeros}
-use Rattle.laws.specs.{Tab.{fill_start, fill_more}, Kit.{get_or, arith, ◌≡◌, ◌∙◌, ◌+◌}}
+use Rattle.std.specs.Prelude.{◌≡◌, ◌+◌}
+use Rattle.laws.specs.{Tab.{fill_start, fill_more}, Kit.{get_or, arith, ◌∙◌}}
 use Rattle.load.proofs.bytes_at.Goals as goal
 
 pub loop-t-init : goal.loop-t-init

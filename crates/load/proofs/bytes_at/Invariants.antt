@@ -1,4 +1,5 @@
-use Rattle.laws.specs.{Tab.{tab}, Kit.{replicate, get_or, drop, ◌++◌, ◌≡◌, ◌≤◌, ◌-◌, ◌+◌}}
+use Rattle.std.specs.Prelude.{◌++◌, ◌≡◌, ◌≤◌, ◌-◌, ◌+◌}
+use Rattle.laws.specs.{Tab.{tab}, Kit.{replicate, get_or, drop}}
 use Rattle.clock.specs.Vectors.{places}
 use Rattle.load.proofs.bytes_at.Given as goal
 

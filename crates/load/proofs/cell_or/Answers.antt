@@ -2,7 +2,8 @@ use Rattle.block.specs.Limits.{cell_bytes}
 use Rattle.image.specs.Decode.{cell_place}
 use Rattle.table.specs.Value.{desk_cells}
 use Rattle.load.specs.Mirror.ImageRead.{Within, cell_where, cell_for}
-use Rattle.laws.specs.Kit.{lt-ltb, le-ltb, arith, ◌∙◌, ◌<◌, ◌*◌, ◌/◌, ◌%◌}
+use Rattle.std.specs.Prelude.{◌<◌, ◌*◌, ◌/◌, ◌%◌}
+use Rattle.laws.specs.Kit.{lt-ltb, le-ltb, arith, ◌∙◌}
 use Rattle.load.proofs.cell_or.Goals as goal
 use Rattle.load.proofs.cell_or.Goals.{After-cells_in-room}
 

@@ -1,5 +1,6 @@
 use Rattle.std.proofs.Common.{rules}
-use Rattle.laws.specs.{Tab.{fill_start, fill_more, fill_end}, Kit.{◌≡◌, ◌∙◌, arith, length}}
+use Rattle.std.specs.Prelude.{◌≡◌}
+use Rattle.laws.specs.{Tab.{fill_start, fill_more, fill_end}, Kit.{◌∙◌, arith, length}}
 use Rattle.load.specs.Mirror.ImageRead.{zeros-tab}
 use Rattle.load.proofs.clear.Goals as goal
 

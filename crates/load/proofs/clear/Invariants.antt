@@ -1,4 +1,5 @@
-use Rattle.laws.specs.{Tab.{tab}, Kit.{◌≡◌, ◌≤◌, ◌-◌, ◌++◌, length, drop}}
+use Rattle.std.specs.Prelude.{◌≡◌, ◌≤◌, ◌-◌, ◌++◌}
+use Rattle.laws.specs.{Tab.{tab}, Kit.{length, drop}}
 use Rattle.load.proofs.clear.Given as goal
 
 abbrev pub invariant-loop-i : goal.invariant-loop-i

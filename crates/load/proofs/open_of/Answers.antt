@@ -1,7 +1,8 @@
 use Rattle.block.specs.Limits.{open_bytes}
 use Rattle.image.specs.Decode.{open_place}
 use Rattle.load.specs.Mirror.ImageRead.{Within, open-where}
-use Rattle.laws.specs.Kit.{arith, ◌*◌, ◌/◌, ◌%◌}
+use Rattle.std.specs.Prelude.{◌*◌, ◌/◌, ◌%◌}
+use Rattle.laws.specs.Kit.{arith}
 use Rattle.load.proofs.open_of.Goals as goal
 use Rattle.load.proofs.open_of.Goals.{After-opens_in-room}
 

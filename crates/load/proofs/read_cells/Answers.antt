@@ -1,7 +1,8 @@
 use Rattle.std.proofs.Common.{rules}
 use Rattle.load.specs.Mirror.ImageRead.{cells-more, cells_left, cells-all, zero_row}
 use Rattle.table.specs.{Value.{desk_cells, all_cells, cell_width, cell_at}, Beginning.{fresh_table}}
-use Rattle.laws.specs.Kit.{arith, ◌∙◌, ap, List, ℕ, ◌≤◌, ◌*◌}
+use Rattle.std.specs.Prelude.{◌≤◌, ◌*◌}
+use Rattle.laws.specs.Kit.{arith, ◌∙◌, ap, List, ℕ}
 use Rattle.load.proofs.read_cells.Goals as goal
 use Rattle.load.proofs.read_cells.Goals.{Start}
 

@@ -1,6 +1,7 @@
 use Rattle.load.specs.Mirror.ImageRead.{cell_for, empty_cell}
 use Rattle.table.specs.{Value.{all_cells, cell_at}}
-use Rattle.laws.specs.Kit.{◌≡◌, ℕ, ◌≤◌, ◌<◌, ◌-◌}
+use Rattle.std.specs.Prelude.{◌≡◌, ◌≤◌, ◌<◌, ◌-◌}
+use Rattle.laws.specs.Kit.{ℕ}
 use Rattle.load.proofs.read_cells.Given as goal
 
 abbrev pub invariant-loop-s : goal.invariant-loop-s

@@ -1,5 +1,6 @@
 use Rattle.load.specs.Mirror.ImageRead.{desk_for}
-use Rattle.laws.specs.{Tab.{tab}, Kit.{length, drop, ◌++◌, ◌≡◌, ◌≤◌, ◌-◌}}
+use Rattle.std.specs.Prelude.{◌++◌, ◌≡◌, ◌≤◌, ◌-◌}
+use Rattle.laws.specs.{Tab.{tab}, Kit.{length, drop}}
 use Rattle.clock.specs.Vectors.{places}
 use Rattle.load.proofs.read_desks.Given as goal
 

@@ -1,7 +1,8 @@
 use Rattle.std.proofs.Common.{rules}
 use Rattle.load.specs.Link.EntryEach.{spread_start, spread_room, spread_more}
 use Rattle.table.specs.{Value.{entries, open_width}, Beginning.{fresh_table}, EntryNames.{free_at, found_at, found_nothing}}
-use Rattle.laws.specs.Kit.{arith, ◌*◌}
+use Rattle.std.specs.Prelude.{◌*◌}
+use Rattle.laws.specs.Kit.{arith}
 use Rattle.load.proofs.read_opens.Goals as goal
 
 pub loop-j-init : goal.loop-j-init

@@ -1,5 +1,5 @@
 use Rattle.load.specs.Link.EntryEach.{Writers, Spread}
-use Rattle.laws.specs.Kit.{◌≤◌, ◌-◌}
+use Rattle.std.specs.Prelude.{◌≤◌, ◌-◌}
 use Rattle.load.proofs.read_opens.Given as goal
 
 abbrev pub invariant-loop-j : goal.invariant-loop-j

@@ -1,4 +1,5 @@
-use Rattle.laws.specs.{Kit.{length, ◌≡◌, sym, ◌∙◌, arith}, Says.{apart, says-eqb, says_as}}
+use Rattle.std.specs.Prelude.{◌≡◌}
+use Rattle.laws.specs.{Kit.{length, sym, ◌∙◌, arith}, Says.{apart, says-eqb, says_as}}
 use Rattle.clock.specs.Vectors.{places}
 use Rattle.machine.specs.{Steps.{begins}, Rules.{In}}
 use Rattle.rules.specs.Mirror.Test.{sizes_test}

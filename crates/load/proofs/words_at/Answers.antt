@@ -1,6 +1,7 @@
 use Rattle.std.proofs.Common.{rules}
 use Rattle.load.specs.Mirror.ImageRead.{word_at, fill_zeros}
-use Rattle.laws.specs.{Tab.{fill_start, fill_more}, Kit.{arith, ◌≡◌, ◌∙◌, ◌+◌, ◌*◌}}
+use Rattle.std.specs.Prelude.{◌≡◌, ◌+◌, ◌*◌}
+use Rattle.laws.specs.{Tab.{fill_start, fill_more}, Kit.{arith, ◌∙◌}}
 use Rattle.load.proofs.words_at.Goals as goal
 
 pub loop-t-init : goal.loop-t-init

@@ -1,5 +1,6 @@
 use Rattle.load.specs.Mirror.ImageRead.{word_at}
-use Rattle.laws.specs.{Tab.{tab}, Kit.{replicate, drop, ◌++◌, ◌≡◌, ◌≤◌, ◌-◌, ◌+◌, ◌*◌}}
+use Rattle.std.specs.Prelude.{◌++◌, ◌≡◌, ◌≤◌, ◌-◌, ◌+◌, ◌*◌}
+use Rattle.laws.specs.{Tab.{tab}, Kit.{replicate, drop}}
 use Rattle.clock.specs.Vectors.{places}
 use Rattle.load.proofs.words_at.Given as goal
 

@@ -1,5 +1,6 @@
 -- The open writes of an image, each put into an entry of its own: whichever entry that is makes no difference.
-use Rattle.laws.specs.Kit.{ℕ, ◌+◌, ◌*◌, ◌<◌, ◌≡◌, refl, sym, ap, ◌∙◌, Bool, true, false, not, List, arith, eq-eqb, ne_eqb, eqb, set}
+use Rattle.std.specs.Prelude.{◌+◌, ◌*◌, ◌<◌, ◌≡◌}
+use Rattle.laws.specs.Kit.{ℕ, refl, sym, ap, ◌∙◌, Bool, true, false, not, List, arith, eq-eqb, ne_eqb, eqb, set}
 use Rattle.laws.specs.{Kit.{replicate}, Loop.{pick}, Says.{apart}, Update.{same_or}, Count.{count, count-all, count_none, count-more}}
 use Rattle.table.specs.{declared.Open.{Open}, Value.{entries, open_width, open0, open_at, open-writer, is_free, entries_of, entries_of_put}}
 use Rattle.table.specs.{Value.{get_or-entries_of, length-entries_of, open_at-stored, open_at-kept, OpenPut}, EntryNames.{free_at}}

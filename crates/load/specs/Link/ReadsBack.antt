@@ -1,5 +1,6 @@
 -- What the code reads of an image that a table has is that table.
-use Rattle.laws.specs.Kit.{ℕ, zero, suc, ◌+◌, ◌-◌, ◌*◌, ◌/◌, ◌%◌, ◌<◌, ◌≤◌, ◌≡◌, refl, sym, ap, ◌∙◌, fun_ext, true, not, List, Option, none}
+use Rattle.std.specs.Prelude.{◌+◌, ◌-◌, ◌*◌, ◌/◌, ◌%◌, ◌<◌, ◌≤◌, ◌≡◌}
+use Rattle.laws.specs.Kit.{ℕ, zero, suc, refl, sym, ap, ◌∙◌, fun_ext, true, not, List, Option, none}
 use Rattle.laws.specs.Kit.{some, arith, dec_lt, ltb-true, lt-ltb, le-ltb, ne_eqb, ltb, get_or, replicate, length-replicate, take_all}
 use Rattle.laws.specs.{Kit.{div-add-mod, mod-lt, le_refl}, Loop.{cases}, Says.{apart, clash}, FromOne.{from1, from1-is}, Tab.{tab}}
 use Rattle.laws.specs.{Tab.{get_or-tab, get_or-tab_out}, Each.{each_in}, Cat.{part}}

@@ -1,5 +1,6 @@
 -- The fields of an image as the code reads them: the code's desk, cell and open write from a place on.
-use Rattle.laws.specs.Kit.{ℕ, zero, suc, ◌+◌, ◌*◌, ◌/◌, ◌%◌, ◌<◌, ◌≤◌, ◌-◌, ◌≡◌, refl, sym, ap, ◌∙◌, false, List, [], ◌∷◌, ◌++◌, arith}
+use Rattle.std.specs.Prelude.{◌+◌, ◌*◌, ◌/◌, ◌%◌, ◌<◌, ◌≤◌, ◌-◌, ◌≡◌, ◌∷◌, ◌++◌}
+use Rattle.laws.specs.Kit.{ℕ, zero, suc, refl, sym, ap, ◌∙◌, false, List, [], arith}
 use Rattle.laws.specs.Kit.{dec_lt, ltb-true, le-ltb, ltb, mul-le-mul, mul-le-mul_left, mod-lt, length, get_or, take, drop, replicate}
 use Rattle.laws.specs.Kit.{get_or-take, get_or-drop, take-take, drop-drop, get_or-append, get_or-append-add, ext_get_or, length-replicate}
 use Rattle.laws.specs.{Loop.{pick, cases}, Says.{Says, clash}, Update.{same_or}, FromOne.{from1-is}, Tab.{tab, get_or-tab, length-tab}}

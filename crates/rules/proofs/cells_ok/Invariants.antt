@@ -1,4 +1,5 @@
-use Rattle.laws.specs.{Kit.{◌-◌, ◌+◌, ◌*◌}, All.{Rest}}
+use Rattle.std.specs.Prelude.{◌-◌, ◌+◌, ◌*◌}
+use Rattle.laws.specs.All.{Rest}
 use Rattle.table.specs.Value.{desk_cells, cell_at}
 use Rattle.rules.specs.Mirror.Test.{cell_test, all_cells_test}
 use Rattle.rules.proofs.cells_ok.Given as goal

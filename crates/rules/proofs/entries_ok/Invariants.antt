@@ -1,4 +1,5 @@
-use Rattle.laws.specs.{Kit.{◌-◌}, All.{Rest}}
+use Rattle.std.specs.Prelude.{◌-◌}
+use Rattle.laws.specs.All.{Rest}
 use Rattle.table.specs.Value.{entries}
 use Rattle.rules.specs.Mirror.Test.{entry_test, all_entries_test}
 use Rattle.rules.proofs.entries_ok.Given as goal

@@ -1,4 +1,4 @@
-use Rattle.laws.specs.Kit.{◌≡◌}
+use Rattle.std.specs.Prelude.{◌≡◌}
 use Rattle.rules.specs.{Mirror.Test.{has, gap_of}}
 use Rattle.rules.proofs.gap.Given as goal
 

@@ -1,4 +1,5 @@
-use Rattle.laws.specs.{Kit.{◌-◌}, Tab.{FilledTo}}
+use Rattle.std.specs.Prelude.{◌-◌}
+use Rattle.laws.specs.Tab.{FilledTo}
 use Rattle.clock.specs.Vectors.{places}
 use Rattle.rules.specs.Mirror.Test.{gap_at}
 use Rattle.rules.proofs.gap_counts.Given as goal

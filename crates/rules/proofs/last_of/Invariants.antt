@@ -1,4 +1,5 @@
-use Rattle.laws.specs.{Kit.{◌-◌, not}, All.{Rest}}
+use Rattle.std.specs.Prelude.{◌-◌}
+use Rattle.laws.specs.{Kit.{not}, All.{Rest}}
 use Rattle.table.specs.{Value.{entries}, EntryNames.{named_at}}
 use Rattle.rules.specs.Mirror.Test.{last_of}
 use Rattle.rules.proofs.last_of.Given as goal

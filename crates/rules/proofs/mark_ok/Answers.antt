@@ -1,4 +1,5 @@
-use Rattle.laws.specs.Kit.{◌≡◌, false, sym, ◌∙◌}
+use Rattle.std.specs.Prelude.{◌≡◌}
+use Rattle.laws.specs.Kit.{false, sym, ◌∙◌}
 use Rattle.table.specs.Value.{open_at, is_free}
 use Rattle.rules.specs.Mirror.Parts.{used_mark}
 use Rattle.rules.proofs.mark_ok.Goals as goal

@@ -1,4 +1,5 @@
-use Rattle.laws.specs.{Kit.{◌-◌}, All.{Rest}}
+use Rattle.std.specs.Prelude.{◌-◌}
+use Rattle.laws.specs.All.{Rest}
 use Rattle.table.specs.Value.{entries, open_at}
 use Rattle.rules.specs.Mirror.Parts.{used_mark, used_marks}
 use Rattle.rules.proofs.marks_ok.Given as goal

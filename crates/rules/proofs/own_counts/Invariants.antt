@@ -1,4 +1,5 @@
-use Rattle.laws.specs.{Kit.{◌-◌}, Tab.{FilledTo}}
+use Rattle.std.specs.Prelude.{◌-◌}
+use Rattle.laws.specs.Tab.{FilledTo}
 use Rattle.clock.specs.Vectors.{places}
 use Rattle.rules.specs.Mirror.Test.{own_at}
 use Rattle.rules.proofs.own_counts.Given as goal

@@ -1,4 +1,5 @@
-use Rattle.laws.specs.Kit.{true, ◌≡◌, sym, ◌∙◌}
+use Rattle.std.specs.Prelude.{◌≡◌}
+use Rattle.laws.specs.Kit.{true, sym, ◌∙◌}
 use Rattle.machine.specs.Steps.{begins}
 use Rattle.rules.specs.{Mirror.Test.{own_test}}
 use Rattle.rules.proofs.passes.Goals as goal

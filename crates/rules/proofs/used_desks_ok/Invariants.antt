@@ -1,4 +1,5 @@
-use Rattle.laws.specs.{Kit.{◌-◌, get_or}, All.{Rest}}
+use Rattle.std.specs.Prelude.{◌-◌}
+use Rattle.laws.specs.{Kit.{get_or}, All.{Rest}}
 use Rattle.table.specs.Value.{desk0}
 use Rattle.clock.specs.Vectors.{places}
 use Rattle.rules.specs.Mirror.Parts.{used_desk, used_desks}

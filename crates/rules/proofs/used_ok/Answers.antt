@@ -1,4 +1,5 @@
-use Rattle.laws.specs.Kit.{◌≡◌, sym, ◌∙◌, true}
+use Rattle.std.specs.Prelude.{◌≡◌}
+use Rattle.laws.specs.Kit.{sym, ◌∙◌, true}
 use Rattle.rules.specs.{Mirror.Test.{ranges_test, used_test}}
 use Rattle.rules.proofs.used_ok.Goals as goal
 use Rattle.rules.proofs.used_ok.Goals.{Else-not-ranges_ok}

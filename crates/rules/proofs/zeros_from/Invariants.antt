@@ -1,4 +1,5 @@
-use Rattle.laws.specs.Kit.{ℕ, ◌≡◌, ◌≤◌, ◌<◌, ◌-◌, length, get_or, eqb}
+use Rattle.std.specs.Prelude.{◌≡◌, ◌≤◌, ◌<◌, ◌-◌}
+use Rattle.laws.specs.Kit.{ℕ, length, get_or, eqb}
 use Rattle.laws.specs.{Says.{Says}}
 use Rattle.rules.proofs.zeros_from.Given as goal
 

@@ -1,5 +1,6 @@
 -- What the arrays tell of the model: nothing stands outside them.
-use Rattle.laws.specs.Kit.{ℕ, zero, suc, ◌+◌, ◌*◌, ◌<◌, ◌≤◌, ◌≡◌, refl, ◌∙◌, List, [], ◌∷◌, true, false, some, arith, ltb-true, ltb-false}
+use Rattle.std.specs.Prelude.{◌+◌, ◌*◌, ◌<◌, ◌≤◌, ◌≡◌, ◌∷◌}
+use Rattle.laws.specs.Kit.{ℕ, zero, suc, refl, ◌∙◌, List, [], true, false, some, arith, ltb-true, ltb-false}
 use Rattle.laws.specs.{Kit.{lt-ltb, ne_eqb, eqb-false, length, get_or, get_or-eq_default, ltb, eqb}, Loop.{cases}, Update.{same_or}}
 use Rattle.laws.specs.Tab.{get_or-tab, get_or-tab_out}
 use Rattle.machine.specs.{Table.{Vec, blank, set}, Rules.{In, Flat}}

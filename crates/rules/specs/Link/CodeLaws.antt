@@ -1,6 +1,7 @@
 -- Laws that the code cites.
-use Rattle.laws.specs.Kit.{bit_or, bit_and, or_add_and, and_le_l, and_le_r, ℕ, zero, suc, ◌+◌, ◌<◌, ◌≤◌, ◌≡◌, refl, sym, ap, ◌∙◌, List}
-use Rattle.laws.specs.{Kit.{Option, none, some, Bool, true, false, not, arith, get_or, ◌&&◌, eqb, eq-eqb, eqb-true}, Loop.{pick}, Says.{Says}}
+use Rattle.std.specs.Prelude.{◌+◌, ◌<◌, ◌≤◌, ◌≡◌, ◌&&◌}
+use Rattle.laws.specs.Kit.{bit_or, bit_and, or_add_and, and_le_l, and_le_r, ℕ, zero, suc, refl, sym, ap, ◌∙◌, List}
+use Rattle.laws.specs.{Kit.{Option, none, some, Bool, true, false, not, arith, get_or, eqb, eq-eqb, eqb-true}, Loop.{pick}, Says.{Says}}
 use Rattle.laws.specs.{Says.{apart}, Update.{same_or}}
 use Rattle.machine.specs.{Steps.{is_none, begins}, Table.{most_writes}}
 use Rattle.clock.specs.Vectors.{places}

@@ -1,5 +1,6 @@
 -- At most as many writes are open as there are entries: each entry has one name.
-use Rattle.laws.specs.{Kit.{ℕ, suc, ◌≤◌, ◌≡◌, sym, ◌∙◌, List, [], ◌∷◌, Bool, true, false, not, arith, length}, Sum.{sum, one, tally}}
+use Rattle.std.specs.Prelude.{◌≤◌, ◌≡◌, ◌∷◌}
+use Rattle.laws.specs.{Kit.{ℕ, suc, sym, ◌∙◌, List, [], Bool, true, false, not, arith, length}, Sum.{sum, one, tally}}
 use Rattle.laws.specs.{Sum.{sum-le, sum_same, sum-zero, sum-one-le}, Find.{first_of}}
 use Rattle.machine.specs.{Table.{most_open}, Steps.{is_none, open_count}}
 use Rattle.table.specs.{declared.Table.{Table}, declared.Open.{Open}, Value.{entries_of, length-entries_of}}

@@ -1,5 +1,6 @@
 -- The largest number that is not open: what it is, and how a loop downward finds it.
-use Rattle.laws.specs.{Kit.{ℕ, zero, suc, ◌-◌, ◌<◌, ◌≤◌, ◌≡◌, refl, Bool, true, false, arith}, Loop.{cases}, Update.{same_or}}
+use Rattle.std.specs.Prelude.{◌-◌, ◌<◌, ◌≤◌, ◌≡◌}
+use Rattle.laws.specs.{Kit.{ℕ, zero, suc, refl, Bool, true, false, arith}, Loop.{cases}, Update.{same_or}}
 use Rattle.rules.specs.Mirror.Test.{gap_of}
 
 module _ (f : ℕ → Bool) where

@@ -1,5 +1,6 @@
 -- The parts that the code computes are the test of all desks.
-use Rattle.laws.specs.Kit.{ℕ, zero, suc, ◌+◌, ◌*◌, ◌/◌, ◌%◌, ◌<◌, ◌≤◌, ◌≡◌, sym, ap, ◌∙◌, List, arith, leb-true, leb-false, eqb-true}
+use Rattle.std.specs.Prelude.{◌+◌, ◌*◌, ◌/◌, ◌%◌, ◌<◌, ◌≤◌, ◌≡◌}
+use Rattle.laws.specs.Kit.{ℕ, zero, suc, sym, ap, ◌∙◌, List, arith, leb-true, leb-false, eqb-true}
 use Rattle.laws.specs.{Kit.{eqb-false, ltb-true, ltb-false, lt-ltb, le-ltb, length, get_or, leb, ltb, eqb}, Loop.{cases}, Tab.{get_or-tab}}
 use Rattle.laws.specs.{Rows.{part_at}, Says.{says_as, says-one}}
 use Rattle.machine.specs.Table.{away, done}

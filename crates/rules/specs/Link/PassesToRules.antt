@@ -1,5 +1,6 @@
 -- A table value that passes the test keeps the rules.
-use Rattle.laws.specs.Kit.{ℕ, zero, suc, ◌+◌, ◌*◌, ◌<◌, ◌≤◌, ◌/◌, ◌%◌, ◌≡◌, refl, sym, ap, ◌∙◌, List, Option, none, some, Bool, true, false}
+use Rattle.std.specs.Prelude.{◌+◌, ◌*◌, ◌<◌, ◌≤◌, ◌/◌, ◌%◌, ◌≡◌}
+use Rattle.laws.specs.Kit.{ℕ, zero, suc, refl, sym, ap, ◌∙◌, List, Option, none, some, Bool, true, false}
 use Rattle.laws.specs.{Kit.{not, arith, ltb-true, ltb-false, leb-true, leb-false, eqb-true, eqb-false, get_or, eqb, leb, ltb}, Loop.{cases}}
 use Rattle.laws.specs.{Tab.{get_or-tab}, Says.{all-not, apart}}
 use Rattle.machine.specs.Table.{most_desks, most_cells, most_writes, Vec, Cell, blank, set, done, State, written}

@@ -1,5 +1,6 @@
 -- A table value that keeps the rules passes the test.
-use Rattle.laws.specs.Kit.{ℕ, zero, suc, ◌+◌, ◌*◌, ◌<◌, ◌≤◌, ◌≡◌, ap, ◌∙◌, List, Option, some, true, false, not, arith, ltb-true, ltb-false}
+use Rattle.std.specs.Prelude.{◌+◌, ◌*◌, ◌<◌, ◌≤◌, ◌≡◌}
+use Rattle.laws.specs.Kit.{ℕ, zero, suc, ap, ◌∙◌, List, Option, some, true, false, not, arith, ltb-true, ltb-false}
 use Rattle.laws.specs.{Kit.{ne_eqb, get_or, eqb, ltb}, Loop.{cases}, All.{all-fails-at}, Tab.{get_or-tab, get_or-tab_out}, Update.{same_or}}
 use Rattle.laws.specs.Says.{apart}
 use Rattle.machine.specs.{Table.{held, done, State}, Steps.{is_none, everywhere, ready}, Rules.{Flat, ToBeOpen, OpenWrite}}

@@ -1,6 +1,7 @@
 -- The test of the desks in the parts that the code computes: desk by desk its counts, and its cells and marks where it is in use; past n
 -- the numbers of the cells as one run, and entry by entry the marks. (That it is the same test: Link/PartsAreAll.antt.)
-use Rattle.laws.specs.{Kit.{ℕ, ◌-◌, ◌*◌, ◌<◌, ◌≤◌, ◌≡◌, List, arith, eq-eqb, eqb-true, length, get_or, eqb, ltb}, Loop.{pick}, All.{all}}
+use Rattle.std.specs.Prelude.{◌-◌, ◌*◌, ◌<◌, ◌≤◌, ◌≡◌}
+use Rattle.laws.specs.{Kit.{ℕ, List, arith, eq-eqb, eqb-true, length, get_or, eqb, ltb}, Loop.{pick}, All.{all}}
 use Rattle.laws.specs.{All.{all-at, all_true}, Tab.{tab}, Says.{Says}, Tests.{Test, lt, both, given, unless, upto}}
 use Rattle.machine.specs.Table.{away, done}
 use Rattle.clock.specs.Vectors.{places}

@@ -1,6 +1,7 @@
 -- The rules of a table value as one test, built as the code is: the entries, then desk by desk its counts, its cells and its marks.
 -- Desks, places and cells count from 0 here, writers and write numbers from 1.
-use Rattle.laws.specs.Kit.{ℕ, zero, suc, ◌+◌, ◌-◌, ◌*◌, ◌<◌, ◌≤◌, ◌≡◌, List, Bool, false, not, arith, ltb-false, not-true, get_or, replicate}
+use Rattle.std.specs.Prelude.{◌+◌, ◌-◌, ◌*◌, ◌<◌, ◌≤◌, ◌≡◌}
+use Rattle.laws.specs.Kit.{ℕ, zero, suc, List, Bool, false, not, arith, ltb-false, not-true, get_or, replicate}
 use Rattle.laws.specs.{Kit.{ltb}, Loop.{pick}, All.{all, all-at, all_true}, Tab.{tab}, Says.{Says, says-ltb, says-not, says_all, says_as}}
 use Rattle.laws.specs.Tests.{says-false, Test, le, lt, eq, yes, is_false, both, choice, unless, upto}
 use Rattle.machine.specs.{Table.{most_desks, most_cells, most_status, away, held, done}, Steps.{is_none, everywhere}, Within.{inside}}

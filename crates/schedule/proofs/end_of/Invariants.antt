@@ -1,4 +1,5 @@
-use Rattle.laws.specs.Kit.{◌≤◌, ◌-◌, length}
+use Rattle.std.specs.Prelude.{◌≤◌, ◌-◌}
+use Rattle.laws.specs.Kit.{length}
 use Rattle.schedule.specs.Link.LineLaws.{NoLineEnd}
 use Rattle.schedule.proofs.end_of.Given as goal
 

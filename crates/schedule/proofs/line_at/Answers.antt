@@ -1,4 +1,5 @@
-use Rattle.laws.specs.Kit.{ℕ, ◌+◌, ap, arith}
+use Rattle.std.specs.Prelude.{◌+◌}
+use Rattle.laws.specs.Kit.{ℕ, ap, arith}
 use Rattle.schedule.specs.Link.LineLaws.{line-take, line_past, end_le, start_past, start-within}
 use Rattle.schedule.proofs.line_at.Goals as goal
 

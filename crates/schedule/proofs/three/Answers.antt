@@ -1,4 +1,5 @@
-use Rattle.laws.specs.Kit.{ℕ, ◌≡◌, refl, sym, ap, ◌∙◌, List, Bool, some, arith, length}
+use Rattle.std.specs.Prelude.{◌≡◌}
+use Rattle.laws.specs.Kit.{ℕ, refl, sym, ap, ◌∙◌, List, Bool, some, arith, length}
 use Rattle.text.specs.Fields.{FieldIs}
 use Rattle.schedule.specs.{Grammar.{three}, LineValue.{line_value}, Mirror.Forms.{say_at, triples, no_field, one_field, too_many, no_more}}
 use Rattle.schedule.proofs.three.Goals as goal

@@ -1,4 +1,5 @@
-use Rattle.laws.specs.Kit.{◌≤◌, ◌-◌, ◌+◌, ◌*◌, ◌≡◌, length}
+use Rattle.std.specs.Prelude.{◌≤◌, ◌-◌, ◌+◌, ◌*◌, ◌≡◌}
+use Rattle.laws.specs.Kit.{length}
 use Rattle.text.specs.Fields.{fields_at}
 use Rattle.schedule.specs.Link.TripCells.{storing}
 use Rattle.schedule.proofs.trip_cells.Given as goal

@@ -1,5 +1,6 @@
 -- Laws of the lines of a schedule.
-use Rattle.laws.specs.Kit.{ℕ, suc, ◌+◌, ◌-◌, ◌<◌, ◌≤◌, min, ◌≡◌, refl, sym, ap, ◌∙◌, List, [], ◌∷◌, ◌++◌, append_assoc, arith, add-one}
+use Rattle.std.specs.Prelude.{◌+◌, ◌-◌, ◌<◌, ◌≤◌, ◌≡◌, ◌∷◌, ◌++◌}
+use Rattle.laws.specs.Kit.{ℕ, suc, min, refl, sym, ap, ◌∙◌, List, [], append_assoc, arith, add-one}
 use Rattle.laws.specs.Kit.{eq-eqb, ne_eqb, lt-ltb, le-ltb, ltb-false, eqb, ltb, length, get_or, take, drop, length-append, length-drop}
 use Rattle.laws.specs.{Kit.{drop_of_length-le, take-append-drop, drop-cons, take_at, drop_at}, Loop.{cases}}
 use Rattle.schedule.specs.Lines.{LF, until_lF, from_lF, line_at, ended_at, end_at, next_at, start_at}

@@ -1,5 +1,6 @@
 -- The cells of a trip, stored one after the other.
-use Rattle.laws.specs.Kit.{ℕ, suc, ◌+◌, ◌<◌, ◌≤◌, ◌≡◌, refl, List, Option, none, some, bind, arith, add-zero, add-one, length, set}
+use Rattle.std.specs.Prelude.{◌+◌, ◌<◌, ◌≤◌, ◌≡◌}
+use Rattle.laws.specs.Kit.{ℕ, suc, refl, List, Option, none, some, bind, arith, add-zero, add-one, length, set}
 use Rattle.laws.specs.{Kit.{drop_of_length-le, sets}, Says.{clash}}
 use Rattle.text.specs.{declared.Field.{Field}, declared.Field.TheVariants.{Num, Bad}, Words.{read_onto}, Fields.{rest, fields_at, FieldIs}}
 use Rattle.schedule.specs.{declared.Line.TheVariants.{Trip}, Mirror.Forms.{travels, say_at, ToldLine}}

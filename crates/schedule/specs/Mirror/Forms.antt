@@ -1,5 +1,6 @@
 -- The forms of a line over the fields that follow its letter, and the code's answer to each.
-use Rattle.laws.specs.Kit.{ℕ, suc, ◌<◌, ◌≤◌, ◌≡◌, refl, ◌∙◌, List, [], ◌∷◌, ◌⊎◌, inl, inr, Bool, true, false, Option, none, some, bind}
+use Rattle.std.specs.Prelude.{◌<◌, ◌≤◌, ◌≡◌, ◌∷◌, ◌⊎◌}
+use Rattle.laws.specs.Kit.{ℕ, suc, refl, ◌∙◌, List, [], inl, inr, Bool, true, false, Option, none, some, bind}
 use Rattle.laws.specs.Kit.{arith, ne_eqb, le-leb, lt-leb, ltb-true, ltb-false, eqb-true, eqb-false, eqb, ltb, length, get_or, drop}
 use Rattle.laws.specs.{Kit.{drop_of_length-le, drop-cons, drop-length, sets}, Loop.{cases}}
 use Rattle.machine.specs.Steps.{Read, Write, Deliver, Trip}

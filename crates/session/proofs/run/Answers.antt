@@ -1,5 +1,6 @@
 use Rattle.std.proofs.Common.{rules}
-use Rattle.laws.specs.{Kit.{ℕ, ◌<◌, ◌≤◌, ◌≡◌, refl, sym, ap, ◌∙◌, arith, length, get_or}, Stores.{stored-long}}
+use Rattle.std.specs.Prelude.{◌<◌, ◌≤◌, ◌≡◌}
+use Rattle.laws.specs.{Kit.{ℕ, refl, sym, ap, ◌∙◌, arith, length, get_or}, Stores.{stored-long}}
 use Rattle.schedule.specs.{Lines.{line_at, next_at}, Link.LineLaws.{line-within, next_more}}
 use Rattle.table.specs.{Value.{desk0}, Model.{table_of}}
 use Rattle.session.specs.{Mirror.LineValue.{line_actor, seat_of}, Link.LineTurn.{Seated}, Session.{Session}, Holds.{Holds, owns_put}}

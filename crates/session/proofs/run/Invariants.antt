@@ -1,4 +1,5 @@
-use Rattle.laws.specs.{Kit.{◌-◌, length}}
+use Rattle.std.specs.Prelude.{◌-◌}
+use Rattle.laws.specs.Kit.{length}
 use Rattle.table.specs.{Model.{table_of}}
 use Rattle.session.specs.Run.{InLoop}
 use Rattle.session.proofs.run.Given as goal

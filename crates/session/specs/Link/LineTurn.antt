@@ -1,5 +1,6 @@
 -- A line against the code's values: what it asks of them, and that it is the session's turn.
-use Rattle.laws.specs.Kit.{◌≡◌, refl, sym, ap, subst, ◌∙◌, List, [], Option, none, some, Bool, true, false, ℕ, ◌-◌, ◌*◌, arith, length}
+use Rattle.std.specs.Prelude.{◌≡◌, ◌-◌, ◌*◌}
+use Rattle.laws.specs.Kit.{refl, sym, ap, subst, ◌∙◌, List, [], Option, none, some, Bool, true, false, ℕ, arith, length}
 use Rattle.laws.specs.{Kit.{get_or, set, set-get_or}, Loop.{pick, cases}, Says.{apart}}
 use Rattle.clock.specs.Vectors.{places}
 use Rattle.machine.specs.{Table.{State, fresh}, Rules.{In}, Steps.{Step, within, step, begin, begins}}

@@ -1,5 +1,6 @@
 -- A line as the code has it: its value and the array of a trip's cells beside it; the desk that acts, and where that stands.
-use Rattle.laws.specs.{Kit.{◌≡◌, ap, ◌∙◌, List, Option, ℕ, ◌-◌, ◌≤◌, length, take}, Loop.{pick}}
+use Rattle.std.specs.Prelude.{◌≡◌, ◌-◌, ◌≤◌}
+use Rattle.laws.specs.{Kit.{ap, ◌∙◌, List, Option, ℕ, length, take}, Loop.{pick}}
 use Rattle.clock.specs.Vectors.{places}
 use Rattle.machine.specs.Steps.{within}
 use Rattle.schedule.specs.{Grammar.{Line as Said}, LineValue.{line_value, trip_cells, most_listed, line_back, line-back, cell_count, count_is}}

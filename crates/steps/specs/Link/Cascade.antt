@@ -1,6 +1,7 @@
 -- The cascade on a desk's counts and the two lent arrays: one write applied, and what is due, are the machine's.
-use Rattle.laws.specs.Kit.{ℕ, zero, suc, ◌+◌, ◌-◌, ◌*◌, ◌<◌, ◌≤◌, ◌≡◌, refl, sym, ap, subst, ◌∙◌, List, [], ◌∷◌, ◌++◌, append_assoc}
-use Rattle.laws.specs.Kit.{append-nil, Bool, true, false, ◌&&◌, Option, none, some, arith, add-one, lt-ltb, le-ltb, ne_eqb, length, get_or}
+use Rattle.std.specs.Prelude.{◌+◌, ◌-◌, ◌*◌, ◌<◌, ◌≤◌, ◌≡◌, ◌∷◌, ◌++◌, ◌&&◌}
+use Rattle.laws.specs.Kit.{ℕ, zero, suc, refl, sym, ap, subst, ◌∙◌, List, [], append_assoc}
+use Rattle.laws.specs.Kit.{append-nil, Bool, true, false, Option, none, some, arith, add-one, lt-ltb, le-ltb, ne_eqb, length, get_or}
 use Rattle.laws.specs.{Kit.{set, length-set, ltb, eqb, sets}, Loop.{pick, cases, scan, scan-same}, Stores.{sets_append}, Update.{upd, upd2}}
 use Rattle.laws.specs.Update.{upd_same, upd_other, upd2-is, same_or}
 use Rattle.clock.specs.{Vectors.{places, place, place_at, raised, place-raised}, Readiness.{ready_at, ready-narrow}}

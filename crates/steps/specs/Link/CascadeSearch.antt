@@ -1,5 +1,6 @@
 -- What the cascade's search yields.
-use Rattle.laws.specs.{Kit.{ℕ, ◌+◌, ◌-◌, ◌≤◌, ◌≡◌, ap, Bool, arith, List, none, some}, Loop.{scan}}
+use Rattle.std.specs.Prelude.{◌+◌, ◌-◌, ◌≤◌, ◌≡◌}
+use Rattle.laws.specs.{Kit.{ℕ, ap, Bool, arith, List, none, some}, Loop.{scan}}
 use Rattle.steps.specs.{declared.deliver.Due.{Due}, declared.deliver.Due.TheVariants.{At, Nothing}, Link.Cascade.{due_in, DueAt}}
 
 -- the first writer with a write that is due, and the write's entry; or that there is none

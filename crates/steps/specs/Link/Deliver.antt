@@ -1,5 +1,6 @@
 -- Deliver: the refusals in their order, and the step as the machine's.
-use Rattle.laws.specs.Kit.{ℕ, ◌-◌, ◌<◌, ◌≤◌, ◌≡◌, refl, sym, ap, ◌∙◌, List, [], ◌∷◌, true, Option, none, some, arith, set, sets, ◌≢◌, inl}
+use Rattle.std.specs.Prelude.{◌-◌, ◌<◌, ◌≤◌, ◌≡◌, ◌∷◌, ◌≢◌}
+use Rattle.laws.specs.Kit.{ℕ, refl, sym, ap, ◌∙◌, List, [], true, Option, none, some, arith, set, sets, inl}
 use Rattle.laws.specs.{Kit.{inr}, Update.{upd-is}, Says.{clash}}
 use Rattle.clock.specs.Vectors.{places, place}
 use Rattle.machine.specs.Table as machine

@@ -1,5 +1,6 @@
 -- A write is received: held or applied, on the values as in the machine.
-use Rattle.laws.specs.{Kit.{ℕ, suc, ◌-◌, ◌<◌, ◌≡◌, refl, sym, ap, subst, ◌∙◌, List, true, Option, some, arith, sets}, Update.{upd_same}}
+use Rattle.std.specs.Prelude.{◌-◌, ◌<◌, ◌≡◌}
+use Rattle.laws.specs.{Kit.{ℕ, suc, refl, sym, ap, subst, ◌∙◌, List, true, Option, some, arith, sets}, Update.{upd_same}}
 use Rattle.clock.specs.{Vectors.{places, place}, Readiness.{ready_at, failing-narrow}}
 use Rattle.machine.specs.Table as machine
 use Rattle.machine.specs.{Table.{State, Name, most_open, away, held}, Answer.{holds, applies}, Steps.{Out, Settled, failing, hold}}

@@ -1,5 +1,6 @@
 -- What a desk reads joins its clock as the machine says, for one cell and for the cells of a trip.
-use Rattle.laws.specs.{Kit.{ℕ, ◌-◌, ◌≡◌, sym, ap, ◌∙◌, fun_ext, List, [], arith, eqb-true, eqb, length, set}, Loop.{cases}}
+use Rattle.std.specs.Prelude.{◌-◌, ◌≡◌}
+use Rattle.laws.specs.{Kit.{ℕ, sym, ap, ◌∙◌, fun_ext, List, [], arith, eqb-true, eqb, length, set}, Loop.{cases}}
 use Rattle.machine.specs.Table as states
 use Rattle.machine.specs.Answer as machine
 use Rattle.machine.specs.Rules.{In}

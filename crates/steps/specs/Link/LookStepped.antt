@@ -1,5 +1,6 @@
 -- A step by what the machine's tests say: refused by the first that fails, or the effect.
-use Rattle.laws.specs.Kit.{ℕ, ◌-◌, ◌<◌, ◌≡◌, refl, sym, ap, ◌∙◌, List, [], Bool, true, false, not, arith, not-true, not-false, length, set}
+use Rattle.std.specs.Prelude.{◌-◌, ◌<◌, ◌≡◌}
+use Rattle.laws.specs.Kit.{ℕ, refl, sym, ap, ◌∙◌, List, [], Bool, true, false, not, arith, not-true, not-false, length, set}
 use Rattle.laws.specs.{Loop.{pick}, Says.{Says, apart}}
 use Rattle.machine.specs.Answer as machine
 use Rattle.machine.specs.{Refusals.{rows_of, FirstFails, AllPass, Accepted}, Rules.{In}, Steps.{Out, Step, step}}

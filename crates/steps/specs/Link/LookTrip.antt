@@ -1,5 +1,6 @@
 -- The trip as a value is the machine's trip.
-use Rattle.laws.specs.Kit.{ℕ, ◌≤◌, ◌≡◌, refl, sym, ap, ◌∙◌, List, [], ◌∷◌, map, Memᴰ, Memᴰ-head, Memᴰ-tail, Bool, true}
+use Rattle.std.specs.Prelude.{◌≤◌, ◌≡◌, ◌∷◌}
+use Rattle.laws.specs.Kit.{ℕ, refl, sym, ap, ◌∙◌, List, [], map, Memᴰ, Memᴰ-head, Memᴰ-tail, Bool, true}
 use Rattle.laws.specs.{Kit.{false, arith, eqb-true, ne_eqb, eqb, length}, Loop.{pick, cases}, Lists.{any, every, any-map, every_map}}
 use Rattle.laws.specs.Update.{upd, upd_same, upd-is, upd_other}
 use Rattle.machine.specs.Table.{State, Vec, most_trip, Cell as CellM}

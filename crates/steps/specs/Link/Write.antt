@@ -1,5 +1,6 @@
 -- The write as values is the machine's write.
-use Rattle.laws.specs.Kit.{ℕ, zero, suc, ◌+◌, ◌-◌, ◌<◌, ◌≤◌, ◌≡◌, refl, sym, ap, ◌∙◌, fun_ext, List, [], none, some, arith, add-one, lt-ltb}
+use Rattle.std.specs.Prelude.{◌+◌, ◌-◌, ◌<◌, ◌≤◌, ◌≡◌}
+use Rattle.laws.specs.Kit.{ℕ, zero, suc, refl, sym, ap, ◌∙◌, fun_ext, List, [], none, some, arith, add-one, lt-ltb}
 use Rattle.laws.specs.{Kit.{ne_eqb, eqb, length, set, replicate, length-set, length-replicate}, All.{all_true}, Update.{upd, upd_same}}
 use Rattle.laws.specs.{Update.{upd2, upd2-is, same_or}, Loop.{cases}}
 use Rattle.machine.specs.Table as states

@@ -1,5 +1,6 @@
 -- A trip as a value: the cells seen one by one.
-use Rattle.laws.specs.Kit.{ℕ, ◌+◌, ◌<◌, ◌≤◌, ◌≡◌, ap, length, get_or, drop, drop_of_length-le, List, [], ◌∷◌, true, false, eqb}
+use Rattle.std.specs.Prelude.{◌+◌, ◌<◌, ◌≤◌, ◌≡◌, ◌∷◌}
+use Rattle.laws.specs.Kit.{ℕ, ap, length, get_or, drop, drop_of_length-le, List, [], true, false, eqb}
 use Rattle.laws.specs.{Lists.{drop-next}, Loop.{pick}}
 use Rattle.clock.specs.{declared.Clock.{Clock}, Vectors.{join_clock}}
 use Rattle.table.specs.{declared.Cell.{Cell}, declared.Desk.{Desk}, Value.{cell_at}, Model.{slot}}

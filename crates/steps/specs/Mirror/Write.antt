@@ -1,5 +1,6 @@
 -- What a write makes, as values, and what it asks.
-use Rattle.laws.specs.Kit.{ℕ, ◌+◌, ◌-◌, ◌<◌, ◌≡◌, List, [], true, false, set, replicate}
+use Rattle.std.specs.Prelude.{◌+◌, ◌-◌, ◌<◌, ◌≡◌}
+use Rattle.laws.specs.Kit.{ℕ, List, [], true, false, set, replicate}
 use Rattle.machine.specs.Steps.{Step}
 use Rattle.clock.specs.Vectors.{places, place, raised, raise_clock}
 use Rattle.table.specs.{declared.Cell.{Cell}, declared.Desk.{Desk}, declared.Open.{Open}, Value.{entries, put_cell, put_open}}

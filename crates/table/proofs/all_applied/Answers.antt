@@ -1,6 +1,7 @@
 use Rattle.std.proofs.Common.{rules}
 use Rattle.machine.specs.{Table.{done}, Steps.{everywhere}}
-use Rattle.laws.specs.{Kit.{◌-◌, ◌+◌, ◌≡◌, sym, ◌∙◌, arith, eq-eqb, ne_eqb}, All.{rest-fails, rest-next, rest_end}}
+use Rattle.std.specs.Prelude.{◌-◌, ◌+◌, ◌≡◌}
+use Rattle.laws.specs.{Kit.{sym, ◌∙◌, arith, eq-eqb, ne_eqb}, All.{rest-fails, rest-next, rest_end}}
 use Rattle.clock.specs.Vectors.{place, place_at}
 use Rattle.table.specs.{Value.{open_at}}
 use Rattle.table.proofs.all_applied.Goals as goal

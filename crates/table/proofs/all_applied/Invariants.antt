@@ -1,5 +1,6 @@
 use Rattle.machine.specs.{Table.{done}, Steps.{everywhere}}
-use Rattle.laws.specs.{Kit.{◌≤◌, ◌-◌, ◌+◌, eqb}, All.{Rest}}
+use Rattle.std.specs.Prelude.{◌≤◌, ◌-◌, ◌+◌}
+use Rattle.laws.specs.{Kit.{eqb}, All.{Rest}}
 use Rattle.clock.specs.Vectors.{place}
 use Rattle.table.specs.{Value.{open_at}, Model.{open_m}}
 use Rattle.table.proofs.all_applied.Given as goal

@@ -1,6 +1,7 @@
 use Rattle.std.proofs.Common.{rules}
 use Rattle.clock.specs.Vectors.{places}
-use Rattle.laws.specs.{Kit.{◌≡◌, arith, length, ◌<◌, [], ◌∷◌}, Owned.{unmapped, at_own}}
+use Rattle.std.specs.Prelude.{◌≡◌, ◌<◌, ◌∷◌}
+use Rattle.laws.specs.{Kit.{arith, length, []}, Owned.{unmapped, at_own}}
 use Rattle.table.specs.{Value.{desk0}, TypeShape.{DeskShape}, declared.Desk.{Desk}}
 use Rattle.table.specs.contracts.Desk.{the_type}
 use Rattle.table.proofs.Desk.TheLaws.{the_laws, the_copy}

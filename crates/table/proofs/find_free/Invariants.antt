@@ -1,5 +1,5 @@
 use Rattle.table.specs.{Value.{entries}, EntryNames.{free_at, Seen}}
-use Rattle.laws.specs.Kit.{◌-◌}
+use Rattle.std.specs.Prelude.{◌-◌}
 use Rattle.table.proofs.find_free.Given as goal
 
 abbrev pub invariant-loop-j : goal.invariant-loop-j

@@ -1,5 +1,6 @@
 use Rattle.clock.specs.Vectors.{places}
-use Rattle.laws.specs.{Kit.{◌-◌, ◌+◌, get_or}, Tab.{FilledTo}}
+use Rattle.std.specs.Prelude.{◌-◌, ◌+◌}
+use Rattle.laws.specs.{Kit.{get_or}, Tab.{FilledTo}}
 use Rattle.table.proofs.places_at.Given as goal
 
 abbrev pub invariant-loop-t : goal.invariant-loop-t

@@ -1,4 +1,5 @@
-use Rattle.laws.specs.Kit.{ap, ◌∙◌, ℕ, ◌+◌, ◌*◌, List, length-set, sets}
+use Rattle.std.specs.Prelude.{◌+◌, ◌*◌}
+use Rattle.laws.specs.Kit.{ap, ◌∙◌, ℕ, List, length-set, sets}
 use Rattle.table.specs.Value.{open_width, marks_from, put_open-steps}
 use Rattle.table.proofs.put_open.Goals as goal
 

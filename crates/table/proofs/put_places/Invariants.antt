@@ -1,5 +1,6 @@
 use Rattle.clock.specs.Vectors.{places}
-use Rattle.laws.specs.Kit.{◌≤◌, ◌-◌, ◌+◌, ◌≡◌, length, drop, sets}
+use Rattle.std.specs.Prelude.{◌≤◌, ◌-◌, ◌+◌, ◌≡◌}
+use Rattle.laws.specs.Kit.{length, drop, sets}
 use Rattle.table.proofs.put_places.Given as goal
 
 abbrev pub invariant-loop-t : goal.invariant-loop-t

@@ -1,5 +1,6 @@
 -- Open writes: no name stands in two entries, and then a store into an entry is an update of the model at one name.
-use Rattle.laws.specs.Kit.{ℕ, suc, ◌-◌, ◌*◌, ◌<◌, ◌≡◌, refl, sym, ap, ◌∙◌, List, Option, none, some, true, false, arith, length, set}
+use Rattle.std.specs.Prelude.{◌-◌, ◌*◌, ◌<◌, ◌≡◌}
+use Rattle.laws.specs.Kit.{ℕ, suc, refl, sym, ap, ◌∙◌, List, Option, none, some, true, false, arith, length, set}
 use Rattle.laws.specs.{Loop.{pick, cases}, Says.{apart}, Update.{upd2, upd2_again, upd2-is, same_or}, Find.{Alone, first-none, first-same}}
 use Rattle.laws.specs.Find.{first-other, first-at, first-is, first-not}
 use Rattle.clock.specs.Vectors.{places, place, place_set}

@@ -1,5 +1,6 @@
 use Rattle.std.proofs.Common.{rules}
-use Rattle.laws.specs.Kit.{ℕ, ◌≤◌, ◌+◌, ◌*◌, ◌≡◌, ◌∙◌, List, inl, inr, some, arith, length, drop}
+use Rattle.std.specs.Prelude.{◌≤◌, ◌+◌, ◌*◌, ◌≡◌}
+use Rattle.laws.specs.Kit.{ℕ, ◌∙◌, List, inl, inr, some, arith, length, drop}
 use Rattle.text.specs.{Number.{most_number}, Words.{read_onto}, Fields.{digits_on, fields_at, DigitsAre, at_more, at_stop, at_end}}
 use Rattle.text.specs.Fields.{digits_large}
 use Rattle.text.proofs.digits.Goals as goal

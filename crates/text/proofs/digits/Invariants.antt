@@ -1,4 +1,5 @@
-use Rattle.laws.specs.Kit.{◌≤◌, ◌-◌, ◌≡◌, length, drop}
+use Rattle.std.specs.Prelude.{◌≤◌, ◌-◌, ◌≡◌}
+use Rattle.laws.specs.Kit.{length, drop}
 use Rattle.text.specs.{Number.{most_number}, Fields.{digits_on}}
 use Rattle.text.proofs.digits.Given as goal
 

@@ -1,5 +1,6 @@
 use Rattle.std.proofs.Common.{rules}
-use Rattle.laws.specs.Kit.{◌+◌, ◌≡◌, inl, inr, arith, drop}
+use Rattle.std.specs.Prelude.{◌+◌, ◌≡◌}
+use Rattle.laws.specs.Kit.{inl, inr, arith, drop}
 use Rattle.text.specs.Fields.{fields_at, digits_on, field_unspaced, field_empty, field_zero, field_none, field_first, tells_digits}
 use Rattle.text.proofs.next_field.Goals as goal
 use Rattle.text.proofs.next_field.Goals.{After-wide}

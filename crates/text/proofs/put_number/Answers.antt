@@ -1,5 +1,6 @@
 use Rattle.std.proofs.Common.{rules}
-use Rattle.laws.specs.Kit.{ℕ, ◌+◌, ◌/◌, ◌%◌, ◌≤◌, ◌<◌, ◌≡◌, refl, sym, ap, ◌∙◌, List, [], ◌∷◌, arith, length, set, length-set, sets}
+use Rattle.std.specs.Prelude.{◌+◌, ◌/◌, ◌%◌, ◌≤◌, ◌<◌, ◌≡◌, ◌∷◌}
+use Rattle.laws.specs.Kit.{ℕ, refl, sym, ap, ◌∙◌, List, [], arith, length, set, length-set, sets}
 use Rattle.laws.specs.Stores.{sets_last}
 use Rattle.text.specs.{Number.{decimal}, Link.Decimal.{decimal-one, decimal-more, decimal_longer, decimal-some}}
 use Rattle.text.proofs.put_number.Goals as goal

@@ -1,5 +1,6 @@
 -- What is left, in place of the digits to come, makes the whole number.
-use Rattle.laws.specs.Kit.{◌+◌, ◌<◌, ◌≡◌, length, sets}
+use Rattle.std.specs.Prelude.{◌+◌, ◌<◌, ◌≡◌}
+use Rattle.laws.specs.Kit.{length, sets}
 use Rattle.text.specs.{Number.{decimal}}
 use Rattle.text.proofs.put_number.Given as goal
 

@@ -1,5 +1,6 @@
 -- What is left of the words makes the whole.
-use Rattle.laws.specs.Kit.{◌+◌, ◌-◌, ◌≤◌, length, drop}
+use Rattle.std.specs.Prelude.{◌+◌, ◌-◌, ◌≤◌}
+use Rattle.laws.specs.Kit.{length, drop}
 use Rattle.laws.specs.Stores.{StoresLeft}
 use Rattle.text.proofs.put_words.Given as goal
 

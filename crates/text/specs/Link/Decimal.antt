@@ -1,5 +1,6 @@
 -- Numbers in decimal: by their last digit, how long they are, and that they read back.
-use Rattle.laws.specs.Kit.{ℕ, zero, suc, ◌+◌, ◌-◌, ◌*◌, ◌/◌, ◌%◌, ◌^◌, ◌<◌, ◌≤◌, ◌≡◌, refl, sym, List, [], ◌∷◌, ◌++◌, arith, pow-suc}
+use Rattle.std.specs.Prelude.{◌+◌, ◌-◌, ◌*◌, ◌/◌, ◌%◌, ◌^◌, ◌<◌, ◌≤◌, ◌≡◌, ◌∷◌, ◌++◌}
+use Rattle.laws.specs.Kit.{ℕ, zero, suc, refl, sym, List, [], arith, pow-suc}
 use Rattle.laws.specs.Kit.{one-le-pow, zero-lt-suc, length, length-append}
 use Rattle.text.specs.Number.{digits, decimal, read_on}
 

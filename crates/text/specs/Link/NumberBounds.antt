@@ -1,5 +1,6 @@
 -- How many numbers bytes can hold, and how large they are.
-use Rattle.laws.specs.Kit.{ℕ, zero, suc, ◌+◌, ◌*◌, ◌≤◌, ◌≡◌, refl, List, [], ◌∷◌, Bool, true, false, and-false, Option, none, some, arith}
+use Rattle.std.specs.Prelude.{◌+◌, ◌*◌, ◌≤◌, ◌≡◌, ◌∷◌}
+use Rattle.laws.specs.Kit.{ℕ, zero, suc, refl, List, [], Bool, true, false, and-false, Option, none, some, arith}
 use Rattle.laws.specs.{Kit.{leb-true, eqb, leb, length, get_or}, Lists.{every}, Loop.{cases}}
 use Rattle.text.specs.{Number.{most_number, is_digit, read_on, unpadded, is_number, when, number}, Words.{space, onto, words, read_onto}}
 use Rattle.text.specs.{Words.{numbers}, Fields.{rest}}

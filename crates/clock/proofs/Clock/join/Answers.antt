@@ -1,6 +1,7 @@
 use Rattle.std.proofs.Common.{rules}
 use Rattle.clock.specs.Vectors.{places, larger_at, joined, clock_of}
-use Rattle.laws.specs.{Kit.{◌≡◌, ap, ◌∙◌, length, arith}, Tab.{fill_start, fill_more, fill_end}}
+use Rattle.std.specs.Prelude.{◌≡◌}
+use Rattle.laws.specs.{Kit.{ap, ◌∙◌, length, arith}, Tab.{fill_start, fill_more, fill_end}}
 use Rattle.clock.proofs.Clock.join.Goals as goal
 
 pub loop-t-init : goal.loop-t-init

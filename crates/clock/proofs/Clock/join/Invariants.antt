@@ -1,5 +1,6 @@
 use Rattle.clock.specs.Vectors.{places, larger_at}
-use Rattle.laws.specs.{Kit.{◌≤◌, ◌-◌, ◌≡◌, ◌++◌, length, drop}, Tab.{tab}}
+use Rattle.std.specs.Prelude.{◌≤◌, ◌-◌, ◌≡◌, ◌++◌}
+use Rattle.laws.specs.{Kit.{length, drop}, Tab.{tab}}
 use Rattle.clock.proofs.Clock.join.Given as goal
 
 abbrev pub invariant-loop-t : goal.invariant-loop-t

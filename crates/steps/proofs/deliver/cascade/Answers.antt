@@ -1,5 +1,6 @@
 use Rattle.std.proofs.Common.{rules}
-use Rattle.laws.specs.{Kit.{◌+◌, ◌-◌, sym, ◌∙◌, none, some, arith, get_or, set}, Loop.{scan_end, scan-here}}
+use Rattle.std.specs.Prelude.{◌+◌, ◌-◌}
+use Rattle.laws.specs.{Kit.{sym, ◌∙◌, none, some, arith, get_or, set}, Loop.{scan_end, scan-here}}
 use Rattle.laws.specs.Loop.{scan-next}
 use Rattle.machine.specs.Table.{State, most_open}
 use Rattle.table.specs.{Value.{open_at}, Model.{open_m}}

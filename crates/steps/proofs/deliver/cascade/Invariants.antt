@@ -1,4 +1,5 @@
-use Rattle.laws.specs.{Kit.{◌+◌, ◌-◌, ◌≤◌, ◌≡◌, none, some}, Loop.{scan}}
+use Rattle.std.specs.Prelude.{◌+◌, ◌-◌, ◌≤◌, ◌≡◌}
+use Rattle.laws.specs.{Kit.{none, some}, Loop.{scan}}
 use Rattle.machine.specs.Table.{State, most_open}
 use Rattle.table.specs.{Value.{open_at}, Model.{open_m}}
 use Rattle.steps.specs.Link.Cascade.{midst, from, due_in, Running, NextReady, CascadeGoing, Safe}

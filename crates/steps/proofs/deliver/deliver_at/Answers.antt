@@ -1,4 +1,5 @@
-use Rattle.laws.specs.Kit.{ℕ, ◌<◌, ◌≡◌, sym, subst, ◌∙◌, true}
+use Rattle.std.specs.Prelude.{◌<◌, ◌≡◌}
+use Rattle.laws.specs.Kit.{ℕ, sym, subst, ◌∙◌, true}
 use Rattle.clock.specs.Vectors.{place, place_at}
 use Rattle.machine.specs.Refusals.{AllPass}
 use Rattle.reply.specs.declared.Refusal.TheVariants.{Received}

@@ -1,4 +1,5 @@
-use Rattle.laws.specs.Kit.{ℕ, suc, ◌<◌, ◌≡◌, sym, ap, subst, ◌∙◌, true, ◌&&◌, arith, add-one, eq-eqb, ne_eqb, eqb}
+use Rattle.std.specs.Prelude.{◌<◌, ◌≡◌, ◌&&◌}
+use Rattle.laws.specs.Kit.{ℕ, suc, sym, ap, subst, ◌∙◌, true, arith, add-one, eq-eqb, ne_eqb, eqb}
 use Rattle.machine.specs.Table.{held}
 use Rattle.clock.specs.{Vectors.{place, place_at}, Readiness.{ready_at}}
 use Rattle.table.specs.{Value.{entries, open_at}, EntryNames.{named_at, FoundIn, found_at}, Link.OpensModel.{found_none}}

@@ -1,4 +1,5 @@
-use Rattle.laws.specs.Kit.{ℕ, ◌<◌, ◌≡◌, sym, subst, ◌∙◌, List}
+use Rattle.std.specs.Prelude.{◌<◌, ◌≡◌}
+use Rattle.laws.specs.Kit.{ℕ, sym, subst, ◌∙◌, List}
 use Rattle.clock.specs.{Vectors.{place}, Readiness.{ready_at}}
 use Rattle.table.specs.Value.{open_at}
 use Rattle.steps.specs.Link.DeliverReceive.{next_of_arrival, late_here, received-ready, received-held}

@@ -1,6 +1,7 @@
 use Rattle.std.proofs.Common.{rules}
 use mir.{Val.{Fits}, Syntax.{w16}}
-use Rattle.laws.specs.{Kit.{◌-◌, ◌≡◌, sym, ap, ◌∙◌, some, arith, get_or}}
+use Rattle.std.specs.Prelude.{◌-◌, ◌≡◌}
+use Rattle.laws.specs.Kit.{sym, ap, ◌∙◌, some, arith, get_or}
 use Rattle.machine.specs.Table.{name}
 use Rattle.machine.specs.Steps.{failing}
 use Rattle.machine.proofs.Ready.{failing-at, fails-lacks}

@@ -1,4 +1,5 @@
-use Rattle.laws.specs.{Kit.{◌≤◌, ◌-◌, ◌≡◌, length, drop}}
+use Rattle.std.specs.Prelude.{◌≤◌, ◌-◌, ◌≡◌}
+use Rattle.laws.specs.Kit.{length, drop}
 use Rattle.laws.specs.Lists.{every}
 use Rattle.machine.specs.Steps.{within}
 use Rattle.steps.proofs.look.all_inside.Given as goal

@@ -1,4 +1,5 @@
-use Rattle.laws.specs.{Kit.{◌≤◌, ◌-◌, ◌≡◌, length, drop}}
+use Rattle.std.specs.Prelude.{◌≤◌, ◌-◌, ◌≡◌}
+use Rattle.laws.specs.Kit.{length, drop}
 use Rattle.steps.specs.Mirror.Trip.{see_all}
 use Rattle.steps.proofs.look.see_all.Given as goal
 

@@ -1,4 +1,5 @@
-use Rattle.laws.specs.Kit.{refl, inl, inr, ◌<◌, ◌≤◌, arith, ap, not}
+use Rattle.std.specs.Prelude.{◌<◌, ◌≤◌}
+use Rattle.laws.specs.Kit.{refl, inl, inr, arith, ap, not}
 use Rattle.reply.specs.{declared.Refusal.{Refusal}, declared.Refusal.TheVariants.{NoDesk, NoCell, NoStatus, Spent}}
 use Rattle.machine.specs.Table.{most_writes, most_status}
 use Rattle.machine.specs.Rules.{In}
