@@ -1,4 +1,4 @@
-//! Links `libcapi.a`, which `rt staticlib capi` writes.
+//! Links `libcapi.a`, which `tests/build capi` writes.
 
 use std::path::{Path, PathBuf};
 use std::process::ExitCode;
@@ -34,7 +34,7 @@ fn folder() -> PathBuf {
 fn fits(archive: &Path) -> Result<(), String> {
     let shown = archive.display();
     let bytes = fs::read(archive).map_err(|error| {
-        format!("{shown}: {error}\nrun `rt staticlib capi` in the repository: it proves the library and writes the archive")
+        format!("{shown}: {error}\nrun `bash tests/build capi` in the repository: it proves the library and writes the archive")
     })?;
     let wanted = env::var("CARGO_CFG_TARGET_ARCH").unwrap_or_default();
     match processor(&bytes) {
