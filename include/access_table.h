@@ -3,7 +3,7 @@
  * access_run runs a schedule from a saved table to the next; access_inspect says
  * what is wrong with a saved table, and where.
  *
- * `rt staticlib capi` proves the library and writes target/staticlib/libcapi.a
+ * `bash tests/build capi` proves the library and writes target/staticlib/libcapi.a
  * (x86-64 code). What is proved of the calls are the definitions accessRun and
  * accessInspect in crates/capi/specs/Access.antt: the number that a call returns
  * and every byte of every lent buffer, as a function of all that it is given. The
