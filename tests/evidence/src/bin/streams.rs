@@ -90,11 +90,14 @@ fn printed(ended: &Ended, answers: &[u8]) -> Outcome {
     Ok(())
 }
 
-/// It named the stream in trouble on standard error.
+/// It named the stream in trouble on standard error, and ended with status 1.
 fn complained(ended: &Ended, stream: &str) -> Outcome {
     let said = String::from_utf8_lossy(&ended.output.stderr);
     if !said.contains(stream) {
         return Err(format!("{stream} is not named on standard error: {said}"));
+    }
+    if ended.output.status.code() != Some(1) {
+        return Err(format!("it ended with {}", ended.output.status));
     }
     Ok(())
 }
