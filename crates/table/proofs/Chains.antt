@@ -1,0 +1,66 @@
+-- What `all` over a range, `array::from_fn` and `copy_from_slice` give, in the words of laws.
+use Rattle.std.specs.Prelude.{◌+◌, ◌-◌, ◌<◌, ◌≤◌, ◌≡◌, Option, Some, None}
+use Rattle.std.specs.Array.{IsFromFnResult, IsFromFnResultFrom}
+use Rattle.std.specs.Fn.{Called}
+use Rattle.std.specs.Iterator.{ChecksAll, Yields}
+use Rattle.std.specs.List.{FoldsTo}
+use Rattle.std.specs.Option.{MatchOption}
+use Rattle.std.specs.declared.ops.Range.{Range}
+use Rattle.std.proofs.lemmas.{List.Edits.{paste_all}, Slice.{put_mid-paste}}
+use borrow.Rule.Slice.PartMut.{put_mid}
+use Rattle.std.proofs.iter.Yields.{nat_range_steps}
+use denote.Param.Members.{Mut}
+use Rattle.laws.specs.Kit.{ℕ, zero, suc, refl, sym, ◌∙◌, List, [], ◌∷◌, Bool, true, false, arith, get_or, length, ext_get_or, sub-zero, append_assoc, sets, sets-eq, take, drop}
+use Rattle.laws.specs.{All.{all, all_true, all-fails-at, all-next}, Tab.{tab, get_or-tab, length-tab}, Update.{same_or}}
+
+-- `all` over a range, whose closure answers p
+pub all_of_range : {F : Type 0} {g : Mut F (ℕ × Unit {0}) Bool} {s u : Range ℕ} {f : F} {r : Bool} (p : ℕ → Bool) → ChecksAll nat_range_steps g s f r u
+    → ((x : ℕ) (b : Bool) (q : F) → s.start ≤ x → x < s.end → Called g f (x, tt) b q → (q ≡ f) × (b ≡ p x)) → r ≡ all p (s.end - s.start) s.start
+all_of_range {F} {g} {s} {u} {f} {r} p d h = go d.0 s d.3.0 d.1 d.2 d.3.1 d.3.2 d.4 d.5 h
+  where
+    go : (xs : List ℕ) (s t : Range ℕ) (o : Option ℕ) (j : F) → Yields nat_range_steps s xs t → nat_range_steps t o u → FoldsTo (λ q x v. Called g q (x, tt) true v) f xs j
+        → MatchOption o (r ≡ true) (λ x. (r ≡ false) × ((v : F) × Called g j (x, tt) false v))
+        → ((x : ℕ) (b : Bool) (q : F) → s.start ≤ x → x < s.end → Called g f (x, tt) b q → (q ≡ f) × (b ≡ p x)) → r ≡ all p (s.end - s.start) s.start
+    go [] s t None j y z w m h =
+        let a : t.end - t.start ≡ 0 = z.1.0 in
+        let b : s.end - s.start ≡ 0 = rw (← y) at a in
+        m ∙ sym (all_true p (s.end - s.start) s.start (λ k l i. absurd (omega arith)))
+    go [] s t (Some x) j y z w m h =
+        let c = rw (← w, z.1.1, ← y) at m.1.1 in
+        let a : 0 < s.end - s.start = rw (← y) at z.1.0 in
+        m.0 ∙ sym (all-fails-at p (s.end - s.start) s.start s.start (omega arith) (omega arith) (sym (h s.start false m.1.0 (omega arith) (omega arith) c).1))
+    go (x ∷ xs) s t o j y z w m h =
+        let st = y.1.1 in
+        let a : s.start < s.end = omega (arith, st.0) in
+        let c = h s.start true w.0 (omega arith) a (rw st.1 at w.1) in
+        go xs y.0 t o j y.2 z (rw c.0 at w.2) m
+        (λ k b q lo hi i. h k b q (omega (arith, st.2)) (omega (arith, y.1.0)) i)
+        ∙ rw (y.1.0, st.2) (sym (all-next p s.end s.start a (sym c.1)))
+
+-- the same from 0 on
+pub all_below : {F : Type 0} {g : Mut F (ℕ × Unit {0}) Bool} {n : ℕ} {u : Range ℕ} {f : F} {r : Bool} (p : ℕ → Bool) → ChecksAll nat_range_steps g (record { start = 0; end = n }) f r u
+    → ((x : ℕ) (b : Bool) (q : F) → x < n → Called g f (x, tt) b q → (q ≡ f) × (b ≡ p x)) → r ≡ all p n 0
+all_below {n = n} p d h = rw sub-zero at (all_of_range p d (λ x b q lo hi c. h x b q hi c))
+
+-- an array made by a closure that answers h
+pub tab_of_from_fn : {F B : Type 0} {g : Mut F (ℕ × Unit {0}) B} {f : F} {ys : List B} {n : ℕ} (z : B) (h : ℕ → B) → IsFromFnResult g f ys n
+    → ((i : ℕ) (y : B) (q : F) → i < n → Called g f (i, tt) y q → (q ≡ f) × (y ≡ h i)) → ys ≡ tab n h
+tab_of_from_fn {F} {B} {g} {f} {ys} {n} z h r k =
+    ext_get_or z ys (tab n h) (r.long ∙ sym (length-tab h n))
+    (λ i l. let b : i < n = omega (arith, r.long) in walk n 0 f refl r.each (omega arith) i (omega arith) (omega arith) ∙ sym (get_or-tab h n i z b))
+  where
+    walk : (m i : ℕ) (q : F) → q ≡ f → IsFromFnResultFrom g q ys i m → i + m ≤ n → (j : ℕ) → i ≤ j → j < i + m → get_or ys j z ≡ h j
+    walk zero i q e w b j lo hi = absurd (omega arith)
+    walk (suc m) i q e w b j lo hi =
+        let c = k i w.1 w.0 (omega arith) (rw e at w.3) in
+        same_or j i
+        (λ s. rw s (w.2.1 z ∙ c.1))
+        (λ ne. walk m (i + 1) w.0 c.0 w.4 (omega arith) j (omega arith) (omega arith))
+
+-- a run copied into part of a list
+pub sets_of_copy : {A : Type 0} (a k : ℕ) (l v w : List A) → w ≡ v → length v ≡ k → a + k ≤ length l → put_mid a k l w ≡ sets l a v
+sets_of_copy a k l v w e n h =
+    put_mid-paste a k l w v (length v) e n refl
+    ∙ paste_all l a v (length v) refl
+    ∙ sym (append_assoc (take a l) v (drop (a + length v) l))
+    ∙ sym (sets-eq v l a (omega arith))
