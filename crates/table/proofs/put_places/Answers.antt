@@ -1,7 +1,7 @@
 use Rattle.std.proofs.Common.{rules}
 use Rattle.laws.specs.Kit.{arith, length}
 use Rattle.std.specs.Prelude.{◌≡◌}
-use Rattle.table.proofs.Chains.{sets_of_copy}
+use Rattle.laws.specs.Chains.{sets_of_copy}
 use Rattle.table.proofs.put_places.Goals as goal
 
 pub returns-clause-l_after : goal.returns-clause-l_after
