@@ -1,4 +1,4 @@
--- What chains of the library give, in the words of these laws: `all` over a range, `array::from_fn`, a fold over pairs, and `copy_from_slice`.
+-- What chains of the library give, in the words of these laws: `all` over a range, `array::from_fn` and a fold over pairs.
 use Rattle.std.specs.Prelude.{◌+◌, ◌-◌, ◌<◌, ◌≤◌, ◌≡◌, ◌&&◌, Option, Some, None}
 use Rattle.std.specs.Array.{IsFromFnResult, IsFromFnResultFrom}
 use Rattle.std.specs.Fn.{Called}
@@ -6,11 +6,9 @@ use Rattle.std.specs.Iterator.{ChecksAll, Yields}
 use Rattle.std.specs.List.{FoldsTo, fold, zip}
 use Rattle.std.specs.Option.{MatchOption}
 use Rattle.std.specs.declared.ops.Range.{Range}
-use Rattle.std.proofs.lemmas.{List.Edits.{paste_all}, Slice.{put_mid-paste}}
-use borrow.Rule.Slice.PartMut.{put_mid}
 use Rattle.std.proofs.iter.Yields.{nat_range_steps}
 use denote.Param.Members.{Mut}
-use Rattle.laws.specs.Kit.{ℕ, zero, suc, refl, sym, ap, ◌∙◌, List, [], ◌∷◌, Bool, true, false, arith, get_or, length, ext_get_or, sub-zero, append_assoc, sets, sets-eq, take, drop}
+use Rattle.laws.specs.Kit.{ℕ, zero, suc, refl, sym, ap, ◌∙◌, List, [], ◌∷◌, Bool, true, false, arith, get_or, length, ext_get_or, sub-zero}
 use Rattle.laws.specs.{All.{all, all_shift, all_true, all-fails-at, all-next}, Loop.{scan, turns, cases}, Tab.{tab, get_or-tab, length-tab}, Update.{same_or}}
 
 -- `all` over a range, whose closure answers p
@@ -81,11 +79,3 @@ module _ {A B : Type 0} (p : A → B → Bool) (d : A) (e : B) where
 
   pub fold_all : (xs : List A) (ys : List B) → length ys ≡ length xs → fold (λ (ok : Bool) (q : A × B). ok && p q.0 q.1) true (zip xs ys) ≡ all (pass xs ys) (length xs) 0
   fold_all xs ys h = fold_from true xs ys h
-
--- a run copied into part of a list
-pub sets_of_copy : {A : Type 0} (a k : ℕ) (l v w : List A) → w ≡ v → length v ≡ k → a + k ≤ length l → put_mid a k l w ≡ sets l a v
-sets_of_copy a k l v w e n h =
-    put_mid-paste a k l w v (length v) e n refl
-    ∙ paste_all l a v (length v) refl
-    ∙ sym (append_assoc (take a l) v (drop (a + length v) l))
-    ∙ sym (sets-eq v l a (omega arith))
