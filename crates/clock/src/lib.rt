@@ -19,12 +19,12 @@ pub struct Clock {
     pub at: [u16; PLACES],
 }
 
-// A write is ready; or of the smallest desk whose place fails, that desk and the number of its first write not applied here. That is a
-// count plus 1: where the counts are no table's it may pass MOST_WRITES.
-#[derive(Clone, Copy)]
-pub enum Wait {
-    Ready,
-    Fails(usize, usize),
+// The write that a write waits for: of the smallest desk whose place fails, its first one that is not applied here. The number is a count
+// plus 1: where the counts are no table's it may pass MOST_WRITES.
+#[derive(Clone, Copy, Debug, PartialEq, Eq)]
+pub struct Missing {
+    pub desk: usize,
+    pub number: usize,
 }
 
 impl Clock {
@@ -72,16 +72,19 @@ fn first_unapplied(a: [u16; PLACES], t: usize) -> usize
     usize::from(a[t - 1]) + 1
 }
 
-// Ready, or what is missing.
-pub fn readiness(a: [u16; PLACES], v: [u16; PLACES], u: usize) -> Wait
+// What is missing; none: the write is ready.
+pub fn readiness(a: [u16; PLACES], v: [u16; PLACES], u: usize) -> Option<Missing>
     ensures { wait_of result ≡ failing places (place a) u (place v) }
 {
-    for t in 1..=PLACES {
-        if fails(a, v, u, t) {
-            return Wait::Fails(t, first_unapplied(a, t));
+    for desk in 1..=PLACES {
+        if fails(a, v, u, desk) {
+            return Some(Missing {
+                desk,
+                number: first_unapplied(a, desk),
+            });
         }
     }
-    Wait::Ready
+    None
 }
 
 // Are the counts at least the vector at every place? (No early exit: this is asked of every held write.)
