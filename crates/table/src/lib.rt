@@ -79,12 +79,6 @@ pub struct Table {
     pub opens: Opens,
 }
 
-#[derive(Drop)]
-pub enum Found {
-    At(usize),
-    Nothing,
-}
-
 // The PLACES numbers from a place on, of either array.
 fn places_at(l: &[u16], at: usize) -> [u16; PLACES]
     requires { at + places ≤ length l.now }
@@ -265,7 +259,7 @@ pub fn holds(opens: &Opens, e: usize, u: usize, k: u16) -> bool
 }
 
 // The first entry that passes, from entry first on and round.
-fn search_from<F: Fn(usize) -> bool>(first: usize, passes: F) -> Found
+fn search_from<F: Fn(usize) -> bool>(first: usize, passes: F) -> Option<usize>
     requires first_in { first < entries }
     requires callable { (e : ℕ) → e < entries → F.pre passes e }
     ensures { FoundBy (λ e. F.post passes e true) (λ e. F.post passes e false) result }
@@ -273,14 +267,14 @@ fn search_from<F: Fn(usize) -> bool>(first: usize, passes: F) -> Found
     for j in 0..OPENS {
         let e = (first + j) % OPENS;
         if passes(e) {
-            return Found::At(e);
+            return Some(e);
         }
     }
-    Found::Nothing
+    None
 }
 
 // The entry of write k of desk u (from 1).
-pub fn find(opens: &Opens, u: usize, k: u16) -> Found
+pub fn find(opens: &Opens, u: usize, k: u16) -> Option<usize>
     requires { In places u }
     ensures { FoundIn (named_at opens.now u k) result }
 {
@@ -288,17 +282,10 @@ pub fn find(opens: &Opens, u: usize, k: u16) -> Found
 }
 
 // A free entry, for write k of desk u.
-pub fn find_free(opens: &Opens, u: usize, k: u16) -> Found
+pub fn find_free(opens: &Opens, u: usize, k: u16) -> Option<usize>
     ensures { FoundIn (free_at opens.now) result }
 {
     search_from(start(u, k), |e| writer_at(opens, e) == 0)
-}
-
-// What begin answers: a table, or refusal 11 (begun is false) and nothing but zeros.
-#[derive(Drop)]
-pub struct Begun {
-    pub begun: bool,
-    pub table: Table,
 }
 
 // Every desk's counts and clock at zero.
@@ -317,7 +304,8 @@ pub fn fresh_core(n: usize, m: usize) -> Core
     }
 }
 
-fn fresh(n: usize, m: usize) -> Table
+// The table of those, with nothing set and nothing open.
+pub fn fresh(n: usize, m: usize) -> Table
     ensures { result ≡ fresh_table n m }
 {
     Table {
@@ -340,19 +328,13 @@ pub fn begins(n: usize, m: usize) -> bool
     inside(PLACES, n) && inside(CELLS, m)
 }
 
-// Everything starts at zero and unset.
-pub fn begin(n: usize, m: usize) -> Begun
+// Everything starts at zero and unset. None: refusal 11.
+pub fn begin(n: usize, m: usize) -> Option<Table>
     ensures { Begins n m result }
 {
     if begins(n, m) {
-        Begun {
-            begun: true,
-            table: fresh(n, m),
-        }
+        Some(fresh(n, m))
     } else {
-        Begun {
-            begun: false,
-            table: fresh(0, 0),
-        }
+        None
     }
 }
