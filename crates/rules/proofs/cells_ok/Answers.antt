@@ -2,7 +2,7 @@ use Rattle.std.proofs.Common.{rules}
 use Rattle.std.specs.Prelude.{◌+◌, ◌*◌}
 use Rattle.table.specs.Value.{desk_cells, cell_at}
 use Rattle.rules.specs.Mirror.Test.{cell_test, all_cells_test}
-use Rattle.table.proofs.Chains.{all_below}
+use Rattle.laws.specs.Chains.{all_below}
 use Rattle.rules.proofs.cells_ok.Goals as goal
 
 pub returns : goal.returns

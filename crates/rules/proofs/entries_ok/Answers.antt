@@ -1,6 +1,6 @@
 use Rattle.std.proofs.Common.{rules}
 use Rattle.rules.specs.Mirror.Test.{entry_test, all_entries_test}
-use Rattle.table.proofs.Chains.{all_below}
+use Rattle.laws.specs.Chains.{all_below}
 use Rattle.rules.proofs.entries_ok.Goals as goal
 
 pub returns : goal.returns

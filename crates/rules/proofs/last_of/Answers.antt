@@ -2,7 +2,7 @@ use Rattle.std.proofs.Common.{rules}
 use Rattle.laws.specs.Kit.{not}
 use Rattle.table.specs.EntryNames.{named_at}
 use Rattle.rules.specs.Mirror.Test.{last_of}
-use Rattle.table.proofs.Chains.{all_of_range}
+use Rattle.laws.specs.Chains.{all_of_range}
 use Rattle.rules.proofs.last_of.Goals as goal
 
 pub returns : goal.returns

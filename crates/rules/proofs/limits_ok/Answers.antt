@@ -1,7 +1,7 @@
 use Rattle.std.proofs.Common.{rules}
 use Rattle.table.specs.Value.{open_at}
 use Rattle.rules.specs.Mirror.Parts.{limit_test, all_limits_test}
-use Rattle.table.proofs.Chains.{all_below}
+use Rattle.laws.specs.Chains.{all_below}
 use Rattle.rules.proofs.limits_ok.Goals as goal
 
 pub returns : goal.returns

@@ -1,7 +1,7 @@
 use Rattle.std.proofs.Common.{rules}
 use Rattle.table.specs.Value.{open_at}
 use Rattle.rules.specs.Mirror.Parts.{used_mark, used_marks}
-use Rattle.table.proofs.Chains.{all_below}
+use Rattle.laws.specs.Chains.{all_below}
 use Rattle.rules.proofs.marks_ok.Goals as goal
 
 pub returns : goal.returns

@@ -1,6 +1,6 @@
 use Rattle.std.proofs.Common.{rules}
 use Rattle.rules.specs.Mirror.Test.{own_at, owns}
-use Rattle.table.proofs.Chains.{tab_of_from_fn}
+use Rattle.laws.specs.Chains.{tab_of_from_fn}
 use Rattle.rules.proofs.own_counts.Goals as goal
 
 pub returns : goal.returns

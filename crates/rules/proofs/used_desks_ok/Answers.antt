@@ -2,7 +2,7 @@ use Rattle.std.proofs.Common.{rules}
 use Rattle.laws.specs.Kit.{get_or}
 use Rattle.table.specs.Value.{desk0}
 use Rattle.rules.specs.Mirror.Parts.{used_desk, used_desks}
-use Rattle.table.proofs.Chains.{all_below}
+use Rattle.laws.specs.Chains.{all_below}
 use Rattle.rules.proofs.used_desks_ok.Goals as goal
 
 pub returns : goal.returns

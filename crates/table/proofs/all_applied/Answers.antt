@@ -3,7 +3,7 @@ use Rattle.laws.specs.{Kit.{sym, ◌∙◌, eqb, get_or}, All.{all_shift}}
 use Rattle.machine.specs.{Table.{done}, Steps.{everywhere}}
 use Rattle.clock.specs.Vectors.{place}
 use Rattle.table.specs.Value.{open_at}
-use Rattle.table.proofs.Chains.{all_below}
+use Rattle.laws.specs.Chains.{all_below}
 use Rattle.table.proofs.all_applied.Goals as goal
 
 pub returns : goal.returns

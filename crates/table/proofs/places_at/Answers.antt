@@ -1,7 +1,7 @@
 use Rattle.std.proofs.Common.{rules}
 use Rattle.std.specs.Prelude.{◌+◌}
 use Rattle.laws.specs.{Kit.{get_or}, Rows.{numbers_from}}
-use Rattle.table.proofs.Chains.{tab_of_from_fn}
+use Rattle.laws.specs.Chains.{tab_of_from_fn}
 use Rattle.table.proofs.places_at.Goals as goal
 
 pub returns : goal.returns

@@ -1,17 +1,15 @@
--- What `all` over a range, `array::from_fn` and `copy_from_slice` give, in the words of laws.
-use Rattle.std.specs.Prelude.{◌+◌, ◌-◌, ◌<◌, ◌≤◌, ◌≡◌, Option, Some, None}
+-- What chains of the library give, in the words of these laws: `all` over a range, `array::from_fn` and a fold over pairs.
+use Rattle.std.specs.Prelude.{◌+◌, ◌-◌, ◌<◌, ◌≤◌, ◌≡◌, ◌&&◌, Option, Some, None}
 use Rattle.std.specs.Array.{IsFromFnResult, IsFromFnResultFrom}
 use Rattle.std.specs.Fn.{Called}
 use Rattle.std.specs.Iterator.{ChecksAll, Yields}
-use Rattle.std.specs.List.{FoldsTo}
+use Rattle.std.specs.List.{FoldsTo, fold, zip}
 use Rattle.std.specs.Option.{MatchOption}
 use Rattle.std.specs.declared.ops.Range.{Range}
-use Rattle.std.proofs.lemmas.{List.Edits.{paste_all}, Slice.{put_mid-paste}}
-use borrow.Rule.Slice.PartMut.{put_mid}
 use Rattle.std.proofs.iter.Yields.{nat_range_steps}
 use denote.Param.Members.{Mut}
-use Rattle.laws.specs.Kit.{ℕ, zero, suc, refl, sym, ◌∙◌, List, [], ◌∷◌, Bool, true, false, arith, get_or, length, ext_get_or, sub-zero, append_assoc, sets, sets-eq, take, drop}
-use Rattle.laws.specs.{All.{all, all_true, all-fails-at, all-next}, Tab.{tab, get_or-tab, length-tab}, Update.{same_or}}
+use Rattle.laws.specs.Kit.{ℕ, zero, suc, refl, sym, ap, ◌∙◌, List, [], ◌∷◌, Bool, true, false, arith, get_or, length, ext_get_or, sub-zero}
+use Rattle.laws.specs.{All.{all, all_shift, all_true, all-fails-at, all-next}, Loop.{scan, turns, cases}, Tab.{tab, get_or-tab, length-tab}, Update.{same_or}}
 
 -- `all` over a range, whose closure answers p
 pub all_of_range : {F : Type 0} {g : Mut F (ℕ × Unit {0}) Bool} {s u : Range ℕ} {f : F} {r : Bool} (p : ℕ → Bool) → ChecksAll nat_range_steps g s f r u
@@ -57,10 +55,27 @@ tab_of_from_fn {F} {B} {g} {f} {ys} {n} z h r k =
         (λ s. rw s (w.2.1 z ∙ c.1))
         (λ ne. walk m (i + 1) w.0 c.0 w.4 (omega arith) j (omega arith) (omega arith))
 
--- a run copied into part of a list
-pub sets_of_copy : {A : Type 0} (a k : ℕ) (l v w : List A) → w ≡ v → length v ≡ k → a + k ≤ length l → put_mid a k l w ≡ sets l a v
-sets_of_copy a k l v w e n h =
-    put_mid-paste a k l w v (length v) e n refl
-    ∙ paste_all l a v (length v) refl
-    ∙ sym (append_assoc (take a l) v (drop (a + length v) l))
-    ∙ sym (sets-eq v l a (omega arith))
+-- the first index apart
+all_front : (p : ℕ → Bool) (n : ℕ) → all p (suc n) 0 ≡ (p 0 && all (λ k. p (suc k)) n 0)
+unfolding all scan turns
+all_front p n = cases (p 0) (λ e. rw e (all_shift p n 0)) (λ e. rw e)
+
+-- a fold over the pairs of two lists that keeps whether all passed
+module _ {A B : Type 0} (p : A → B → Bool) (d : A) (e : B) where
+  abbrev pub pass : List A → List B → ℕ → Bool
+  pass xs ys t = p (get_or xs t d) (get_or ys t e)
+
+  fold_from : (b : Bool) (xs : List A) (ys : List B) → length ys ≡ length xs → fold (λ (ok : Bool) (q : A × B). ok && p q.0 q.1) b (zip xs ys) ≡ (b && all (pass xs ys) (length xs) 0)
+  unfolding all scan turns
+  fold_from true [] ys h = refl
+  fold_from false [] ys h = refl
+  fold_from b (x ∷ xs) [] h = absurd (omega arith)
+  fold_from b (x ∷ xs) (y ∷ ys) h =
+      fold_from (b && p x y) xs ys (omega arith) ∙ (and_and b (p x y) _ ∙ ap (λ c. b && c) (sym (all_front (pass (x ∷ xs) (y ∷ ys)) (length xs))))
+    where
+      and_and : (a c r : Bool) → ((a && c) && r) ≡ (a && (c && r))
+      and_and true c r = refl
+      and_and false c r = refl
+
+  pub fold_all : (xs : List A) (ys : List B) → length ys ≡ length xs → fold (λ (ok : Bool) (q : A × B). ok && p q.0 q.1) true (zip xs ys) ≡ all (pass xs ys) (length xs) 0
+  fold_all xs ys h = fold_from true xs ys h
