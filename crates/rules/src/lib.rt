@@ -15,7 +15,7 @@ ghost use Rattle.rules.specs.Mirror.Parts.{mark_of, used_mark, used_marks, most_
 use clock::PLACES;
 use std::array;
 use table::{
-    CELL, CELLS, Cell, Cells, Core, DONE, Desk, Found, HELD, MOST_STATUS, OPENS, Open, Opens, Table,
+    CELL, CELLS, Cell, Cells, Core, DONE, Desk, HELD, MOST_STATUS, OPENS, Open, Opens, Table,
 };
 
 // (Two tests joined by `&` both run, without a branch.)
@@ -38,10 +38,7 @@ fn has(opens: &Opens, u: usize, k: u16) -> bool
     requires { In places u }
     ensures { result ≡ has opens.now u k }
 {
-    match table::find(opens, u, k) {
-        Found::At(_) => true,
-        Found::Nothing => false,
-    }
+    table::find(opens, u, k).is_some()
 }
 
 // Of desk u, whose last write is most, the latest write that is not open. (At most 64 are found on the way down.)

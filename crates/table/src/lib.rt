@@ -41,13 +41,13 @@ pub type Cells = [u16; PLACES * CELLS * CELL];
 
 pub type Opens = [u16; OPENS * OPEN];
 
-#[derive(Clone, Copy)]
+#[derive(Clone, Copy, Debug, PartialEq, Eq)]
 pub struct Desk {
     pub applied: [u16; PLACES],
     pub clock: Clock,
 }
 
-#[derive(Clone, Copy)]
+#[derive(Clone, Copy, Debug, PartialEq, Eq)]
 pub struct Core {
     pub n: usize,
     pub m: usize,
@@ -55,7 +55,7 @@ pub struct Core {
 }
 
 // Writer 0: unset.
-#[derive(Drop)]
+#[derive(Clone, Copy, Debug, PartialEq, Eq)]
 pub struct Cell {
     pub writer: u16,
     pub status: u16,
@@ -63,7 +63,7 @@ pub struct Cell {
 }
 
 // Writer 0: the entry is free. A mark: 0 not received, 1 held, 2 applied.
-#[derive(Clone, Copy)]
+#[derive(Clone, Copy, Debug, PartialEq, Eq)]
 pub struct Open {
     pub writer: u16,
     pub status: u16,
@@ -72,7 +72,7 @@ pub struct Open {
     pub marks: [u16; PLACES],
 }
 
-#[derive(Clone, Copy)]
+#[derive(Clone, Copy, Debug, PartialEq, Eq)]
 pub struct Table {
     pub core: Core,
     pub cells: Cells,
