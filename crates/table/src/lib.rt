@@ -7,7 +7,7 @@ ghost use Rattle.laws.specs.Rows.{numbers_from};
 ghost use Rattle.clock.specs.Vectors.{places, place};
 ghost use Rattle.machine.specs.Rules.{In};
 ghost use Rattle.machine.specs.Steps.{everywhere, within, begins};
-ghost use Rattle.table.specs.Value.{desk_cells, all_cells, cell_width, entries, open_width, cell_at, CellPut, open_at, OpenPut, MarkPut, Freed};
+ghost use Rattle.table.specs.Value.{desk_cells, all_cells, entries, cell_at, CellPut, open_at, OpenPut, MarkPut, Freed};
 ghost use Rattle.table.specs.TypeShape.{DesksShape, Shaped};
 ghost use Rattle.table.specs.EntryNames.{named_at, free_at, FoundBy, FoundIn};
 ghost use Rattle.table.specs.Model.{open_m, slot};
@@ -95,15 +95,7 @@ fn put_places(l: &mut [u16], at: usize, v: [u16; PLACES])
     l[at..at + PLACES].copy_from_slice(&v);
 }
 
-// Nothing is done by these: the contracts hand the caller what the types say. (What a lent array tells of its length, a caller knows without.)
-
-pub fn cells_size(cells: &Cells)
-    ensures { length cells.now ≡ all_cells * cell_width }
-{}
-
-pub fn opens_size(opens: &Opens)
-    ensures { length opens.now ≡ entries * open_width }
-{}
+// Kept, though they do nothing: what a type says of arrays within a struct the search does not find; here it is proved, once.
 
 pub fn desks_shape(desks: [Desk; PLACES])
     ensures { DesksShape desks }
@@ -224,12 +216,6 @@ pub fn all_applied(opens: &Opens, e: usize, n: usize) -> bool
     ensures { result ≡ everywhere n (open_m (open_at opens.now e)) }
 {
     (0..n).all(|i| mark_at(opens, e, i) == DONE)
-}
-
-pub fn wide(x: u16) -> usize
-    ensures { (result ≡ x) × (result < 65536) }
-{
-    usize::from(x)
 }
 
 // The number at place u, from 1, and 0 where there is none.
