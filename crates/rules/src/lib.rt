@@ -9,22 +9,14 @@ ghost use Rattle.table.specs.Value.{entries, open_at};
 ghost use Rattle.table.specs.EntryNames.{entry_number};
 ghost use Rattle.table.specs.Sound.{SoundTable};
 ghost use Rattle.table.specs.Model.{table_with};
-ghost use Rattle.rules.specs.Mirror.Test.{has, owns, gap_of, gaps, last_of, nought, ranges_test, due_test, used_test, entry_test, all_entries_test, live_test, counts_test, set_cell, blank_cell, cell_test, all_cells_test, waits_test, live_mark, all_desks_test, own_test};
-ghost use Rattle.rules.specs.Mirror.Parts.{mark_of, used_mark, used_marks, most_at, most_marks, limit_test, all_limits_test, zeros_test, used_desk, used_desks};
+ghost use Rattle.rules.specs.Mirror.Test.{has, owns, gap_of, gaps, last_of, ranges_test, due_test, used_test, entry_test, all_entries_test, live_test, counts_test, set_cell, blank_cell, cell_test, all_cells_test, waits_test, live_mark, all_desks_test, own_test};
+ghost use Rattle.rules.specs.Mirror.Parts.{mark_of, used_mark, used_marks, most_marks, limit_test, all_limits_test, zeros_test, used_desk, used_desks};
 
 use clock::PLACES;
 use std::array;
 use table::{
     CELL, CELLS, Cell, Cells, Core, DONE, Desk, HELD, MOST_STATUS, OPENS, Open, Opens, Table,
 };
-
-// (Two tests joined by `&` both run, without a branch.)
-
-fn zero(v: [u16; PLACES]) -> bool
-    ensures { result ≡ (nought v).passes }
-{
-    v == [0; PLACES]
-}
 
 // Each desk's count of its own writes.
 pub fn own_counts(desks: [Desk; PLACES]) -> [u16; PLACES]
@@ -63,6 +55,7 @@ fn last_of(opens: &Opens, u: usize, k: u16, e: usize) -> bool
     (e + 1..OPENS).all(|j| !table::holds(opens, j, u, k))
 }
 
+// (Tests joined by `&` all run, without a branch.)
 fn ranges_ok(n: usize, m: usize, o: Open) -> bool
     ensures { result ≡ (ranges_test n m o).passes }
 {
@@ -84,7 +77,7 @@ fn set_ok(m: usize, a: [u16; PLACES], x: usize, c: Cell) -> bool
 fn blank_ok(c: Cell) -> bool
     ensures { result ≡ (blank_cell c).passes }
 {
-    c.status == 0 && zero(c.vector)
+    c.status == 0 && c.vector == [0; PLACES]
 }
 
 fn cell_ok(m: usize, a: [u16; PLACES], x: usize, c: Cell) -> bool
@@ -131,17 +124,11 @@ fn mark_ok(a: [u16; PLACES], i: usize, opens: &Opens, e: usize) -> bool
     table::open_at(opens, e).writer == 0 || used_mark_ok(a, i, opens, e)
 }
 
-// The largest mark at desk t, from 0: none past n.
-fn most_mark(n: usize, t: usize) -> u16
-    ensures { result ≡ most_at n t }
-{
-    if t < n { DONE } else { 0 }
-}
-
+// The largest mark at each desk, from 0: none past n.
 fn most_marks(n: usize) -> [u16; PLACES]
     ensures { result ≡ most_marks n }
 {
-    array::from_fn(|t| most_mark(n, t))
+    array::from_fn(|t| if t < n { DONE } else { 0 })
 }
 
 fn limit_ok(most: [u16; PLACES], o: Open) -> bool
@@ -214,7 +201,7 @@ impl Lent<'_> {
         if i < self.core.n {
             clock::covers(a, self.gap)
         } else {
-            zero(a)
+            a == [0; PLACES]
         }
     }
 
