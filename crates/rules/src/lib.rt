@@ -153,12 +153,13 @@ struct Lent<'a> {
     gap: [u16; PLACES],
     cells: &'a Cells,
     opens: &'a Opens,
+    ghost n_le_places: { core.now.n ≤ places },
 }
 
 impl Lent<'_> {
     // Of entry e, whose write is o: its number is k.
     fn due_ok(&self, e: usize, o: Open, k: u16) -> bool
-        requires n_le_places { (self.now.core.now.n ≤ places) × (e < entries) }
+        requires e_in { e < entries }
         requires o_value { (o ≡ open_at self.now.opens.now e) × (k ≡ entry_number o) }
         ensures { result ≡ (due_test self.now.core.now.n self.now.own o).passes }
     {
@@ -167,7 +168,7 @@ impl Lent<'_> {
     }
 
     fn used_ok(&self, e: usize, o: Open) -> bool
-        requires n_le_places { (self.now.core.now.n ≤ places) × (e < entries) }
+        requires e_in { e < entries }
         requires o_value { (o ≡ open_at self.now.opens.now e) × (1 ≤ o.writer) }
         ensures { result ≡ (used_test self.now.core.now.n self.now.core.now.m self.now.own self.now.opens.now e o).passes }
     {
@@ -180,7 +181,7 @@ impl Lent<'_> {
     }
 
     fn entry_ok(&self, e: usize) -> bool
-        requires { (self.now.core.now.n ≤ places) × (e < entries) }
+        requires { e < entries }
         ensures { result ≡ (entry_test self.now.core.now.n self.now.core.now.m self.now.own self.now.opens.now e).passes }
     {
         let o = table::open_at(self.opens, e);
@@ -188,7 +189,6 @@ impl Lent<'_> {
     }
 
     fn entries_ok(&self) -> bool
-        requires { self.now.core.now.n ≤ places }
         ensures { result ≡ (all_entries_test self.now.core.now.n self.now.core.now.m self.now.own self.now.opens.now).passes }
     {
         (0..OPENS).all(|e| self.entry_ok(e))
@@ -257,7 +257,6 @@ impl Lent<'_> {
 
     // All desks. Past n the cells are one run of zeros, and no mark stands.
     fn desks_ok(&self) -> bool
-        requires { self.now.core.now.n ≤ places }
         ensures { result ≡ (all_desks_test self.now.core.now.n self.now.core.now.m self.now.own self.now.gap self.now.cells.now self.now.opens.now self.now.core.now.desks).passes }
     {
         let cells = self.cells;
