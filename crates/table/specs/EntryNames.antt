@@ -1,9 +1,9 @@
 -- The name of an entry's write, and what a search for an entry finds.
-use Rattle.std.specs.Prelude.{◌+◌, ◌-◌, ◌<◌, ◌≤◌, ◌%◌, ◌≡◌}
+use Rattle.std.specs.Prelude.{◌+◌, ◌-◌, ◌<◌, ◌≤◌, ◌%◌, ◌≡◌, Option, Some, None}
 use Rattle.laws.specs.Kit.{ℕ, refl, List, Bool, true, false, arith, below_more, eqb-true, eq-eqb, ne_eqb}
 use Rattle.laws.specs.{Kit.{get_or, eqb}, Loop.{pick, cases}, Says.{apart}}
 use Rattle.clock.specs.Vectors.{place, place_at}
-use Rattle.table.specs.{declared.Open.{Open}, declared.Found.{Found}, declared.Found.TheVariants.{At, Nothing}}
+use Rattle.table.specs.{declared.Open.{Open}}
 use Rattle.table.specs.Value.{entries, open_at, is_free}
 
 -- the entry's number: its writer's place of its vector
@@ -51,22 +51,22 @@ same_writer o u k h e =
     rw (ne_eqb o.writer 0 f, e, eq-eqb u u refl, place_at o.vector u h)
 
 -- what each answer of a search over the entries means (it has no number in the document): this one has Yes, or each has No
-abbrev pub FoundBy : (ℕ → Type 0) → (ℕ → Type 0) → Found → Type 0
-FoundBy Yes No (At e) = (e < entries) × Yes e
-FoundBy Yes No Nothing = (e : ℕ) → e < entries → No e
+abbrev pub FoundBy : (ℕ → Type 0) → (ℕ → Type 0) → Option ℕ → Type 0
+FoundBy Yes No (Some e) = (e < entries) × Yes e
+FoundBy Yes No None = (e : ℕ) → e < entries → No e
 
-pub found_as : {Yes No : ℕ → Type 0} (Yes' No' : ℕ → Type 0) (r : Found) → FoundBy Yes No r → ((e : ℕ) → e < entries → Yes e → Yes' e) → ((e : ℕ) → e < entries → No e → No' e) → FoundBy Yes' No' r
-found_as Yes' No' (At e) f y n = (f.0, y e f.0 f.1)
-found_as Yes' No' Nothing f y n = λ e l. n e l (f e l)
+pub found_as : {Yes No : ℕ → Type 0} (Yes' No' : ℕ → Type 0) (r : Option ℕ) → FoundBy Yes No r → ((e : ℕ) → e < entries → Yes e → Yes' e) → ((e : ℕ) → e < entries → No e → No' e) → FoundBy Yes' No' r
+found_as Yes' No' (Some e) f y n = (f.0, y e f.0 f.1)
+found_as Yes' No' None f y n = λ e l. n e l (f e l)
 
 -- this one passes, or none does
-abbrev pub FoundIn : (ℕ → Bool) → Found → Type 0
+abbrev pub FoundIn : (ℕ → Bool) → Option ℕ → Type 0
 FoundIn p r = FoundBy (λ e. p e ≡ true) (λ e. p e ≡ false) r
 
-pub found_at : (p : ℕ → Bool) (r : Found) (e : ℕ) → FoundIn p r → r ≡ At e → (e < entries) × (p e ≡ true)
+pub found_at : (p : ℕ → Bool) (r : Option ℕ) (e : ℕ) → FoundIn p r → r ≡ Some e → (e < entries) × (p e ≡ true)
 found_at p r e f q = rw q at f
 
-pub found_nothing : (p : ℕ → Bool) (r : Found) → FoundIn p r → r ≡ Nothing → (e : ℕ) → e < entries → p e ≡ false
+pub found_nothing : (p : ℕ → Bool) (r : Option ℕ) → FoundIn p r → r ≡ None → (e : ℕ) → e < entries → p e ≡ false
 found_nothing p r f q = rw q at f
 
 abbrev pub named_at : List ℕ → ℕ → ℕ → ℕ → Bool

@@ -7,7 +7,7 @@ ghost use Rattle.laws.specs.Rows.{numbers_from};
 ghost use Rattle.clock.specs.Vectors.{places, place};
 ghost use Rattle.machine.specs.Rules.{In};
 ghost use Rattle.machine.specs.Steps.{everywhere, within, begins};
-ghost use Rattle.table.specs.Value.{desk_cells, all_cells, cell_width, entries, open_width, cell_at, CellPut, open_at, OpenPut, MarkPut, Freed};
+ghost use Rattle.table.specs.Value.{desk_cells, all_cells, entries, cell_at, CellPut, open_at, OpenPut, MarkPut, Freed};
 ghost use Rattle.table.specs.TypeShape.{DesksShape, Shaped};
 ghost use Rattle.table.specs.EntryNames.{named_at, free_at, FoundBy, FoundIn};
 ghost use Rattle.table.specs.Model.{open_m, slot};
@@ -41,13 +41,13 @@ pub type Cells = [u16; PLACES * CELLS * CELL];
 
 pub type Opens = [u16; OPENS * OPEN];
 
-#[derive(Clone, Copy)]
+#[derive(Clone, Copy, Debug, PartialEq, Eq)]
 pub struct Desk {
     pub applied: [u16; PLACES],
     pub clock: Clock,
 }
 
-#[derive(Clone, Copy)]
+#[derive(Clone, Copy, Debug, PartialEq, Eq)]
 pub struct Core {
     pub n: usize,
     pub m: usize,
@@ -55,7 +55,7 @@ pub struct Core {
 }
 
 // Writer 0: unset.
-#[derive(Drop)]
+#[derive(Clone, Copy, Debug, PartialEq, Eq)]
 pub struct Cell {
     pub writer: u16,
     pub status: u16,
@@ -63,7 +63,7 @@ pub struct Cell {
 }
 
 // Writer 0: the entry is free. A mark: 0 not received, 1 held, 2 applied.
-#[derive(Clone, Copy)]
+#[derive(Clone, Copy, Debug, PartialEq, Eq)]
 pub struct Open {
     pub writer: u16,
     pub status: u16,
@@ -72,17 +72,11 @@ pub struct Open {
     pub marks: [u16; PLACES],
 }
 
-#[derive(Clone, Copy)]
+#[derive(Clone, Copy, Debug, PartialEq, Eq)]
 pub struct Table {
     pub core: Core,
     pub cells: Cells,
     pub opens: Opens,
-}
-
-#[derive(Drop)]
-pub enum Found {
-    At(usize),
-    Nothing,
 }
 
 // The PLACES numbers from a place on, of either array.
@@ -101,15 +95,7 @@ fn put_places(l: &mut [u16], at: usize, v: [u16; PLACES])
     l[at..at + PLACES].copy_from_slice(&v);
 }
 
-// Nothing is done by these: the contracts hand the caller what the types say. (What a lent array tells of its length, a caller knows without.)
-
-pub fn cells_size(cells: &Cells)
-    ensures { length cells.now ≡ all_cells * cell_width }
-{}
-
-pub fn opens_size(opens: &Opens)
-    ensures { length opens.now ≡ entries * open_width }
-{}
+// Kept, though they do nothing: what a type says of arrays within a struct the search does not find; here it is proved, once.
 
 pub fn desks_shape(desks: [Desk; PLACES])
     ensures { DesksShape desks }
@@ -232,12 +218,6 @@ pub fn all_applied(opens: &Opens, e: usize, n: usize) -> bool
     (0..n).all(|i| mark_at(opens, e, i) == DONE)
 }
 
-pub fn wide(x: u16) -> usize
-    ensures { (result ≡ x) × (result < 65536) }
-{
-    usize::from(x)
-}
-
 // The number at place u, from 1, and 0 where there is none.
 pub fn at_place(v: [u16; PLACES], u: usize) -> u16
     ensures { result ≡ place v u }
@@ -265,7 +245,7 @@ pub fn holds(opens: &Opens, e: usize, u: usize, k: u16) -> bool
 }
 
 // The first entry that passes, from entry first on and round.
-fn search_from<F: Fn(usize) -> bool>(first: usize, passes: F) -> Found
+fn search_from<F: Fn(usize) -> bool>(first: usize, passes: F) -> Option<usize>
     requires first_in { first < entries }
     requires callable { (e : ℕ) → e < entries → F.pre passes e }
     ensures { FoundBy (λ e. F.post passes e true) (λ e. F.post passes e false) result }
@@ -273,14 +253,14 @@ fn search_from<F: Fn(usize) -> bool>(first: usize, passes: F) -> Found
     for j in 0..OPENS {
         let e = (first + j) % OPENS;
         if passes(e) {
-            return Found::At(e);
+            return Some(e);
         }
     }
-    Found::Nothing
+    None
 }
 
 // The entry of write k of desk u (from 1).
-pub fn find(opens: &Opens, u: usize, k: u16) -> Found
+pub fn find(opens: &Opens, u: usize, k: u16) -> Option<usize>
     requires { In places u }
     ensures { FoundIn (named_at opens.now u k) result }
 {
@@ -288,17 +268,10 @@ pub fn find(opens: &Opens, u: usize, k: u16) -> Found
 }
 
 // A free entry, for write k of desk u.
-pub fn find_free(opens: &Opens, u: usize, k: u16) -> Found
+pub fn find_free(opens: &Opens, u: usize, k: u16) -> Option<usize>
     ensures { FoundIn (free_at opens.now) result }
 {
     search_from(start(u, k), |e| writer_at(opens, e) == 0)
-}
-
-// What begin answers: a table, or refusal 11 (begun is false) and nothing but zeros.
-#[derive(Drop)]
-pub struct Begun {
-    pub begun: bool,
-    pub table: Table,
 }
 
 // Every desk's counts and clock at zero.
@@ -317,7 +290,8 @@ pub fn fresh_core(n: usize, m: usize) -> Core
     }
 }
 
-fn fresh(n: usize, m: usize) -> Table
+// The table of those, with nothing set and nothing open.
+pub fn fresh(n: usize, m: usize) -> Table
     ensures { result ≡ fresh_table n m }
 {
     Table {
@@ -340,19 +314,13 @@ pub fn begins(n: usize, m: usize) -> bool
     inside(PLACES, n) && inside(CELLS, m)
 }
 
-// Everything starts at zero and unset.
-pub fn begin(n: usize, m: usize) -> Begun
+// Everything starts at zero and unset. None: refusal 11.
+pub fn begin(n: usize, m: usize) -> Option<Table>
     ensures { Begins n m result }
 {
     if begins(n, m) {
-        Begun {
-            begun: true,
-            table: fresh(n, m),
-        }
+        Some(fresh(n, m))
     } else {
-        Begun {
-            begun: false,
-            table: fresh(0, 0),
-        }
+        None
     }
 }

@@ -8,4 +8,4 @@ returns-then-begins c = let g = c.args in
 
 pub returns-else-begins : goal.returns-else-begins
 returns-else-begins c = let g = c.args in
-    rw c.fresh-else-begins.ensures (begins-no g.n g.m (sym c.begins.ensures ∙ c.if-begins.false))
+    begins-no g.n g.m (sym c.begins.ensures ∙ c.if-begins.false)
