@@ -80,6 +80,7 @@ fn blank_ok(c: Cell) -> bool
     c.status == 0 && c.vector == [0; PLACES]
 }
 
+#[tactic(auto, unfolding(crate::specs::Mirror::Test::cell_test))]
 fn cell_ok(m: usize, a: [u16; PLACES], x: usize, c: Cell) -> bool
     ensures { result ≡ (cell_test m a x c).passes }
 {
@@ -117,6 +118,7 @@ fn used_mark_ok(a: [u16; PLACES], i: usize, opens: &Opens, e: usize) -> bool
 }
 
 // (Of a free entry nothing but the writer is read.)
+#[tactic(auto, unfolding(crate::specs::Mirror::Parts::used_mark))]
 fn mark_ok(a: [u16; PLACES], i: usize, opens: &Opens, e: usize) -> bool
     requires { (i < places) × (e < entries) }
     ensures { result ≡ (used_mark a i (open_at opens.now e)).passes }
@@ -131,6 +133,7 @@ fn most_marks(n: usize) -> [u16; PLACES]
     array::from_fn(|t| if t < n { DONE } else { 0 })
 }
 
+#[tactic(auto, unfolding(crate::specs::Mirror::Parts::limit_test))]
 fn limit_ok(most: [u16; PLACES], o: Open) -> bool
     ensures { result ≡ (limit_test most o).passes }
 {
@@ -159,7 +162,7 @@ struct Lent<'a> {
 impl Lent<'_> {
     // Of entry e, whose write is o: its number is k.
     fn due_ok(&self, e: usize, o: Open, k: u16) -> bool
-        requires e_in { e < entries }
+        requires entry_in { e < entries }
         requires o_value { (o ≡ open_at self.now.opens.now e) × (k ≡ entry_number o) }
         ensures { result ≡ (due_test self.now.core.now.n self.now.own o).passes }
     {
@@ -167,19 +170,19 @@ impl Lent<'_> {
             && (1 <= k) & !table::all_applied(self.opens, e, self.core.n)
     }
 
+    #[tactic(auto, unfolding(crate::specs::Mirror::Test::used_test))]
     fn used_ok(&self, e: usize, o: Open) -> bool
-        requires e_in { e < entries }
+        requires entry_in { e < entries }
         requires o_value { (o ≡ open_at self.now.opens.now e) × (1 ≤ o.writer) }
         ensures { result ≡ (used_test self.now.core.now.n self.now.core.now.m self.now.own self.now.opens.now e o).passes }
     {
-        if !ranges_ok(self.core.n, self.core.m, o) {
-            return false;
-        }
         let u = usize::from(o.writer);
         let k = table::at_place(o.vector, u);
-        self.due_ok(e, o, k) & last_of(self.opens, u, k, e)
+        ranges_ok(self.core.n, self.core.m, o)
+            && self.due_ok(e, o, k) & last_of(self.opens, u, k, e)
     }
 
+    #[tactic(auto, unfolding(crate::specs::Mirror::Test::entry_test))]
     fn entry_ok(&self, e: usize) -> bool
         requires { e < entries }
         ensures { result ≡ (entry_test self.now.core.now.n self.now.core.now.m self.now.own self.now.opens.now e).passes }
@@ -265,6 +268,7 @@ impl Lent<'_> {
     }
 }
 
+#[tactic(auto, unfolding(crate::specs::Mirror::Test::own_test))]
 fn passes(core: &Core, own: [u16; PLACES], cells: &Cells, opens: &Opens) -> bool
     ensures { result ≡ (own_test core.now.n core.now.m own core.now.desks cells.now opens.now).passes }
 {
