@@ -2,9 +2,8 @@ use Rattle.std.proofs.Common.{rules, ◌≡◌, Bool, true, ◌&&◌}
 use Rattle.std.proofs.lemmas.Iterator.{YieldsList-from_slice, YieldsList-from_zip}
 use Rattle.std.proofs.lemmas.Iterator.Consumers.{fold_from_yields_List}
 use Rattle.laws.specs.Kit.{ℕ, ◌∙◌, List, not, length, get_or, leb, ltb, ltb-true, ltb-false, lt-leb, le-leb}
-use Rattle.laws.specs.{All.{all, all_same}, Loop.{cases}}
+use Rattle.laws.specs.{All.{all, all_same}, Loop.{cases}, Chains.{fold_all, pass}}
 use Rattle.clock.specs.{Vectors.{places}, Readiness.{covers}}
-use Rattle.clock.proofs.Chains.{fold_all, pass}
 use Rattle.clock.proofs.covers.Goals as goal
 
 -- the closure's test is the definition's

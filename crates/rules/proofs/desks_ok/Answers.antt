@@ -1,10 +1,14 @@
-use Rattle.laws.specs.Kit.{◌∙◌}
+use Rattle.std.specs.Prelude.{◌*◌, ◌-◌}
+use Rattle.laws.specs.Kit.{ℕ, refl, ◌∙◌, arith}
+use Rattle.table.specs.Value.{desk_cells, cell_width}
 use Rattle.rules.specs.{Link.CodeLaws.{and_is}, Link.PartsAreAll.{parts_are_all}}
+use Rattle.rules.proofs.Chains.{zeros_of_rest}
 use Rattle.rules.proofs.desks_ok.Goals as goal
 
 pub returns : goal.returns
 returns c = let g = c.args in
-    and_is c.both-2.ensures
-    (and_is c.both.ensures c.used_desks_ok-used.ensures c.zeros_from-unset.ensures)
+    let p : ℕ = g.n * desk_cells * cell_width in
+    and_is refl
+    (and_is refl c.used_desks_ok-used.ensures (c.all_zero-unset.ensures ∙ zeros_of_rest g.cells.now p (18432 - p) (omega arith)))
     (rw c.most_marks-most.ensures at c.limits_ok.ensures)
-    ∙ parts_are_all g.n g.m g.own g.gap g.cells.now g.opens.now g.desks c.cells_size.ensures
+    ∙ parts_are_all g.n g.m g.own g.gap g.cells.now g.opens.now g.desks (omega arith)

@@ -48,7 +48,7 @@ given-no {r} {c} d p t = rw t (p ∙ alone c)
     alone false = refl
 
 -- one more number in a run of zeros
-or-zero : (a b : ℕ) → Says (eqb (bit_or a b) 0) ((a ≡ 0) × (b ≡ 0))
+pub or-zero : (a b : ℕ) → Says (eqb (bit_or a b) 0) ((a ≡ 0) × (b ≡ 0))
 or-zero a b =
     record {
       to = λ e. both_zero (bit_or a b) (bit_and a b) (or_add_and a b) (and_le_l a b) (and_le_r a b) (eqb-true _ _ e);
