@@ -37,16 +37,15 @@ fn lines<W: Write>(to: &mut W, text: &[u8]) -> io::Result<()>
     ensures { OnOk result (Appends (W.contents to.old) (W.contents to.new) (transcript text.now)) }
 {
     let mut core = session::start();
-    let mut cells = [0u16; PLACES * CELLS * CELL];
-    let mut opens = [0u16; OPENS * OPEN];
-    let mut out = [0u8; PART];
+    let mut cells = [0; PLACES * CELLS * CELL];
+    let mut opens = [0; OPENS * OPEN];
+    let mut out = [0; PART];
     let mut at = 0;
     let mut sent = 0;
     while at < text.len() {
         let p = session::run(core, &mut cells, &mut opens, text, at, &mut out);
-        let len = p.len;
-        let next = sent + len;
-        print(to, text, sent, next, &out[..len])?;
+        let next = sent + p.len;
+        print(to, text, sent, next, &out[..p.len])?;
         core = p.core;
         at = p.at;
         sent = next;
@@ -92,7 +91,7 @@ fn fill(input: &mut impl Read, buffer: &mut [u8]) -> io::Result<usize>
     while n < buffer.len() {
         let more = input.read(&mut buffer[n..])?;
         if more == 0 {
-            return Ok(n);
+            break;
         }
         n += more;
     }
@@ -115,17 +114,16 @@ fn unread(rt: &impl Eprint, error: io::Error) -> io::Result<()> {
 // it is too long already.
 fn main(rt: HostRuntime) -> io::Result<()> {
     let mut input = rt.stdin();
-    let mut text = [0u8; LONGEST_TEXT + 1];
-    match fill(&mut input, &mut text) {
-        Err(error) => unread(&rt, error),
-        Ok(n) => {
-            let replied = reply(&rt, &text[..n]);
-            if LONGEST_TEXT < n {
-                if let Err(error) = drain(&mut input) {
-                    return unread(&rt, error);
-                }
-            }
-            replied
-        }
+    let mut text = [0; LONGEST_TEXT + 1];
+    let n = match fill(&mut input, &mut text) {
+        Ok(n) => n,
+        Err(error) => return unread(&rt, error),
+    };
+    let replied = reply(&rt, &text[..n]);
+    if LONGEST_TEXT < n
+        && let Err(error) = drain(&mut input)
+    {
+        return unread(&rt, error);
     }
+    replied
 }

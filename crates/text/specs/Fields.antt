@@ -1,9 +1,10 @@
 -- The numbers of a line's fields from a place on, and what reading one field does to them.
-use Rattle.std.specs.Prelude.{◌+◌, ◌*◌, ◌-◌, ◌<◌, ◌≤◌, ◌≡◌, ◌∷◌, ◌⊎◌, ◌&&◌}
+use Rattle.std.specs.Prelude.{◌+◌, ◌*◌, ◌-◌, ◌<◌, ◌≤◌, ◌≡◌, ◌∷◌, ◌⊎◌, ◌&&◌, Some, None}
+use Rattle.std.specs.Prelude as std
 use Rattle.laws.specs.Kit.{ℕ, refl, ◌∙◌, List, [], inl, inr, true, false, and-false, Option}
 use Rattle.laws.specs.Kit.{none, some, arith, zero-add, add-one, ne_eqb, le-leb, lt-leb, eqb, leb, length, get_or, drop, drop_of_length-le}
 use Rattle.laws.specs.{Kit.{drop-cons}, Lists.{every, every_first, every-fails}, Loop.{pick, cases}}
-use Rattle.text.specs.{declared.Field.{Field}, declared.Field.TheVariants.{Num, Bad}, Number.{most_number, is_digit, read_on}}
+use Rattle.text.specs.{declared.Field.{Field}, Number.{most_number, is_digit, read_on}}
 use Rattle.text.specs.{Number.{unpadded, when, number}, Words.{space, onto, words, read_onto, numbers}}
 
 -- what follows a word: nothing, or a space and numbers
@@ -110,9 +111,9 @@ pub record FieldIs (s : List ℕ) (at v next : ℕ) : Type 0 where
   pub is : fields_at s at ≡ read_onto (some v) (fields_at s next)
 
 -- what reading a field tells of the line
-abbrev pub Tells : List ℕ → ℕ → Field → Type 0
-Tells s at (Num v next) = FieldIs s at v next
-Tells s at Bad = at < length s → fields_at s at ≡ none
+abbrev pub Tells : List ℕ → ℕ → std.Option Field → Type 0
+Tells s at (Some f) = FieldIs s at f.value f.end
+Tells s at None = at < length s → fields_at s at ≡ none
 
 -- what reading digits from a place on tells, after those that made v
 pub record DigitsAre (s : List ℕ) (at v w next : ℕ) : Type 0 where
@@ -121,9 +122,9 @@ pub record DigitsAre (s : List ℕ) (at v w next : ℕ) : Type 0 where
   pub within : next ≤ length s
   pub is : digits_on v (drop at s) ≡ read_onto (some w) (fields_at s next)
 
-abbrev pub DigitsTell : List ℕ → ℕ → ℕ → Field → Type 0
-DigitsTell s at v (Num w next) = DigitsAre s at v w next
-DigitsTell s at v Bad = digits_on v (drop at s) ≡ none
+abbrev pub DigitsTell : List ℕ → ℕ → ℕ → std.Option Field → Type 0
+DigitsTell s at v (Some f) = DigitsAre s at v f.value f.end
+DigitsTell s at v None = digits_on v (drop at s) ≡ none
 
 module _ (s : List ℕ) (i v : ℕ) where
   pub at_more : i < length s → 48 ≤ get_or s i 0 → get_or s i 0 ≤ 57 → digits_on v (drop i s) ≡ digits_on (10 * v + (get_or s i 0 - 48)) (drop (i + 1) s)
@@ -163,6 +164,6 @@ module _ (s : List ℕ) (at : ℕ) (h : at < length s) where
     field_first low high = next_byte e n ∙ digit_first _ _ low high
 
 -- what the digits tell, told of the field
-pub tells_digits : (s : List ℕ) (at v : ℕ) → fields_at s at ≡ digits_on v (drop (at + 1 + 1) s) → (r : Field) → DigitsTell s (at + 1 + 1) v r → Tells s at r
-tells_digits s at v e (Num w next) d = record { small = d.small; ahead = omega (arith, d.ahead); within = d.within; is = e ∙ d.is }
-tells_digits s at v e Bad d = λ h. e ∙ d
+pub tells_digits : (s : List ℕ) (at v : ℕ) → fields_at s at ≡ digits_on v (drop (at + 1 + 1) s) → (r : std.Option Field) → DigitsTell s (at + 1 + 1) v r → Tells s at r
+tells_digits s at v e (Some f) d = record { small = d.small; ahead = omega (arith, d.ahead); within = d.within; is = e ∙ d.is }
+tells_digits s at v e None d = λ h. e ∙ d

@@ -54,15 +54,15 @@ pub fn put_field(out: &mut [u8], at: usize, head: &[u8], k: u16) -> usize
     put_number(out, p, k)
 }
 
-// A number and where it ends, or no number.
-#[derive(Drop)]
-pub enum Field {
-    Num(usize, usize),
-    Bad,
+// A number that was read, and where it ends.
+#[derive(Clone, Copy, Debug, PartialEq, Eq)]
+pub struct Field {
+    pub value: usize,
+    pub end: usize,
 }
 
 // The digits from a place on, after those that made first.
-fn digits(s: &[u8], from: usize, first: usize) -> Field
+fn digits(s: &[u8], from: usize, first: usize) -> Option<Field>
     requires { (from ≤ length s.now) × (first ≤ most_number) }
     ensures { DigitsTell s.now from first result }
 {
@@ -70,33 +70,32 @@ fn digits(s: &[u8], from: usize, first: usize) -> Field
     for end in from..s.len() {
         let b = s[end];
         if !b.is_ascii_digit() {
-            return Field::Num(value, end);
+            return Some(Field { value, end });
         }
         value = 10 * value + usize::from(b - b'0');
         if LARGEST_NUMBER < value {
-            return Field::Bad;
+            return None;
         }
     }
-    Field::Num(value, s.len())
+    Some(Field {
+        value,
+        end: s.len(),
+    })
 }
 
 // A space and a number, from a place on.
-pub fn next_field(s: &[u8], at: usize) -> Field
+pub fn next_field(s: &[u8], at: usize) -> Option<Field>
     ensures { Tells s.now at result }
 {
-    if s.len() <= at {
-        return Field::Bad;
+    if *s.get(at)? != b' ' {
+        return None;
     }
-    if s[at] != b' ' {
-        return Field::Bad;
-    }
-    let start = at + 1;
-    if s.len() <= start {
-        return Field::Bad;
-    }
-    match s[start] {
-        b'0' => Field::Num(0, start + 1),
-        b @ b'1'..=b'9' => digits(s, start + 1, usize::from(b - b'0')),
-        _ => Field::Bad,
+    match *s.get(at + 1)? {
+        b'0' => Some(Field {
+            value: 0,
+            end: at + 2,
+        }),
+        b @ b'1'..=b'9' => digits(s, at + 2, usize::from(b - b'0')),
+        _ => None,
     }
 }

@@ -21,7 +21,7 @@ copy-requires c =
     let L = c.loop-place in
     let g = L.invariant.1 p.some_session.session p.some_session.holds in
     let r = c.run-p.ensures g.session g.holds in
-    (lining_part g r, lining_room g r (p.text_len_bound.1 p.some_session.session p.some_session.holds c.if-put.true))
+    (lining_part g r, lining_room g r (p.room.1 p.some_session.session p.some_session.holds c.if-put.true))
 
 pub loop-place-smaller : goal.loop-place-smaller
 loop-place-smaller c =
@@ -40,4 +40,4 @@ loop-place-preserved c =
     )
 
 pub returns : goal.returns
-returns c z h = lining_end (c.loop-place.invariant.1 z h) c.requires.text_len_bound.0 c.loop-place-test.false
+returns c z h = lining_end (c.loop-place.invariant.1 z h) c.requires.room.0 c.loop-place-test.false

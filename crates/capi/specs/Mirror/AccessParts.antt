@@ -1,15 +1,26 @@
 -- The parts of `access_run`, for every session that the values at hand hold.
-use Rattle.std.specs.Prelude.{◌≡◌, ◌++◌, ◌+◌, ◌*◌, ◌≤◌}
-use Rattle.laws.specs.{Kit.{Bool, true, List, ℕ, length, sets}, Loop.{pick}}
-use Rattle.machine.specs.Answer.{wrong_length, damaged, broken}
+use Rattle.std.specs.Prelude.{◌≡◌, ◌∷◌, ◌++◌, ◌+◌, ◌*◌, ◌≤◌, Result, Ok, Err}
+use Rattle.laws.specs.{Kit.{Bool, true, List, [], ℕ, length, sets}, Loop.{pick}}
+use Rattle.machine.specs.Answer as machine
+use Rattle.machine.specs.Answer.{number_of, wrong_length, damaged, broken}
+use Rattle.capi.specs.declared.Refusal.{Refusal}
+use Rattle.capi.specs.declared.Refusal.TheVariants as refusal
 use Rattle.table.specs.{declared.Core.{Core}, declared.Table.{Table}, Model.{table_with}}
 use Rattle.load.specs.{declared.Outcome.{Outcome}, declared.Outcome.TheVariants.{Accepted, WrongLength, Damaged, Broken}}
 use Rattle.session.specs.{Session.{Session}, Transcript.{transcript_from, session_from, most_text}, Holds.{Holds}}
 use Rattle.capi.specs.Access.{Left, image_of, refuse, begin, start_of, run_from}
 
--- the bytes of answers that are kept
-abbrev pub most_kept : ℕ
-most_kept = 81920
+-- why a call is refused
+abbrev pub refusal_of : Refusal → machine.Refusal
+refusal_of refusal.WrongLength = machine.wrong_length
+refusal_of refusal.Damaged = machine.damaged
+refusal_of refusal.Broken = machine.broken
+refusal_of refusal.Short = machine.short
+
+-- the number that a call returns
+abbrev pub status : {T : Type 0} → Result T Refusal → ℕ
+status (Ok x) = 0
+status (Err r) = number_of (refusal_of r)
 
 -- the bytes that the answers of one run take at most
 abbrev pub most_part : ℕ
@@ -46,6 +57,20 @@ ImageRoom t out = (z : Session) → Holds t z → length (image_of z) ≤ length
 
 abbrev pub ImageSaved : Table → (out out' : List ℕ) → ℕ → Type 0
 ImageSaved t out out' r = (z : Session) → Holds t z → (out' ≡ sets out 0 (image_of z)) × (r ≡ length (image_of z))
+
+-- the image, and the two lengths
+abbrev pub BothSaved : Table → (all : ℕ) (image lengths image' lengths' : List ℕ) → Type 0
+BothSaved t all image lengths image' lengths' =
+    (z : Session) → Holds t z → (image' ≡ sets image 0 (image_of z)) × (lengths' ≡ sets lengths 0 (all ∷ length (image_of z) ∷ []))
+
+-- whether so many bytes of answers and the image have room
+abbrev pub ImageFits : Core → (image : List ℕ) → Type 0
+ImageFits core image = (z : Session) (cs os : List ℕ) → Holds (table_with core cs os) z → length (image_of z) ≤ length image
+
+abbrev pub Roomy : {T : Type 0} → Core → (all : ℕ) (answers image : List ℕ) → Result T Refusal → Type 0
+Roomy core all answers image (Ok x) = (all ≤ length answers) × ImageFits core image
+Roomy core all answers image (Err r) =
+    (r ≡ refusal.Short) × ((z : Session) (cs os : List ℕ) → Holds (table_with core cs os) z → all ≤ length answers → length (image_of z) ≤ length image → ⊥)
 
 -- the answers before a place are at hand, and w is the session there
 pub record Behind (z w : Session) (text : List ℕ) (at : ℕ) (first : List ℕ) : Type 0 where

@@ -3,7 +3,7 @@ use Rattle.table.specs.{Beginning.{fresh_table}, Model.{table_with}}
 use Rattle.load.specs.declared.Outcome.TheVariants.{Accepted, WrongLength, Damaged, Broken}
 use Rattle.machine.specs.Answer.{wrong_length, damaged, broken}
 use Rattle.capi.specs.Link.ImageStart.{start_by, call-refused, call-begun}
-use Rattle.capi.proofs.access_run.Goals as goal
+use Rattle.capi.proofs.run_saved.Goals as goal
 
 pub start-l-requires : goal.start-l-requires
 unfolding fresh_table
