@@ -1,7 +1,7 @@
 // The output lines of answers, as bytes (document 01, "Schedule text").
 #![tactic(auto)]
 
-ghost use Rattle.std.specs.Prelude.{◌≡◌, ◌+◌, ◌<◌, ◌≤◌, min, ◌++◌, length};
+ghost use Rattle.std.specs.Prelude.{◌≡◌, ◌+◌, ◌<◌, ◌≤◌, ◌++◌, length};
 ghost use Rattle.laws.specs.Stores.{Stored};
 ghost use Rattle.machine.specs.Table.{name, most_open};
 ghost use Rattle.machine.specs.Answer.{number_of, shows, shown, applies};
@@ -44,13 +44,6 @@ fn number(r: Refusal) -> u16
     }
 }
 
-// How many of the names in an array are meant: no more than it holds.
-fn name_count(count: usize) -> usize
-    ensures { (result ≡ min count most_open) × (result ≤ most_open) }
-{
-    if count < APPLIED { count } else { APPLIED }
-}
-
 fn name_length(u: u16, k: u16) -> usize
     ensures { (result ≡ length (name_bytes (name u k))) × (result ≤ most_name) }
 {
@@ -60,12 +53,9 @@ fn name_length(u: u16, k: u16) -> usize
 fn names_length(names: &[u16; NAMES], count: usize) -> usize
     ensures { (result ≡ length (names_bytes (names_of count names.now))) × (result ≤ most_names) }
 {
-    let n = name_count(count);
     let mut sum = 0;
-    let mut j = 0;
-    while j < n {
-        sum = sum + 1 + name_length(names[2 * j], names[2 * j + 1]);
-        j += 1;
+    for j in 0..count.min(APPLIED) {
+        sum += 1 + name_length(names[2 * j], names[2 * j + 1]);
     }
     sum
 }
@@ -103,13 +93,10 @@ fn put_names(out: &mut [u8], at: usize, names: &[u16; NAMES], count: usize) -> u
     requires { at + length (names_bytes (names_of count names.now)) ≤ length out.old }
     ensures { Stored out.old at (names_bytes (names_of count names.now)) out.new result }
 {
-    let n = name_count(count);
     let mut p = at;
-    let mut j = 0;
-    while j < n {
+    for j in 0..count.min(APPLIED) {
         out[p] = b' ';
         p = put_name(out, p + 1, names[2 * j], names[2 * j + 1]);
-        j += 1;
     }
     p
 }
@@ -163,15 +150,12 @@ fn put_answer(out: &mut [u8], at: usize, a: Answer, names: &[u16; NAMES]) -> usi
 
 // Writes the line of an answer, with its LF, from place at on. Where the buffer is too short for it, nothing is written.
 pub fn put(out: &mut [u8], at: usize, a: Answer, names: &[u16; NAMES]) -> Written
-    ensures result_value { written_of result ≡ put_answer out.old at (answer_line (answer_of a names.now)) }
-    ensures out_after { out.new ≡ buffer out.old at (answer_line (answer_of a names.now)) }
-    ensures names_len_bound { length (answer_line (answer_of a names.now)) ≤ most_answer }
+    ensures answer { written_of result ≡ put_answer out.old at (answer_line (answer_of a names.now)) }
+    ensures written { out.new ≡ buffer out.old at (answer_line (answer_of a names.now)) }
+    ensures line_fits { length (answer_line (answer_of a names.now)) ≤ most_answer }
 {
     let n = answer_length(a, names);
-    if out.len() < at {
-        return Written::Short;
-    }
-    if out.len() - at <= n {
+    if out.len() < at || out.len() - at <= n {
         return Written::Short;
     }
     let p = put_answer(out, at, a, names);

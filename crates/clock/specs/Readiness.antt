@@ -1,17 +1,18 @@
 -- Readiness over lists of counts and vectors is the machine's.
-use Rattle.std.specs.Prelude.{◌+◌, ◌-◌, ◌≤◌, ◌<◌, ◌≡◌}
+use Rattle.std.specs.Prelude.{◌+◌, ◌-◌, ◌≤◌, ◌<◌, ◌≡◌, Some, None}
+use Rattle.std.specs.Prelude as std
 use Rattle.laws.specs.Kit.{ℕ, suc, refl, sym, ap, ◌∙◌, Bool, false, not, List, Option, none, some, arith}
 use Rattle.laws.specs.Kit.{add-one, ltb-true, lt-ltb, le-ltb, eq-eqb, ne_eqb, length, get_or, set, get_or-set_same, get_or-set_other, ltb, eqb}
 use Rattle.laws.specs.{Loop.{pick, cases, scan-short}, All.{all, all-next, all-fails, all_end, all-fails-at, all_same}}
 use Rattle.laws.specs.{All.{all_shift}, Update.{same_or}}
 use Rattle.machine.specs.{Table.{Vec, Name, name}, Steps.{fails, first_unapplied, failing, ready, is_none}, Rules.{In, Flat}}
 use Rattle.machine.proofs.Ready.{ready-all}
-use Rattle.clock.specs.{Vectors.{place, places, place_at}, declared.Wait.{Wait}, declared.Wait.TheVariants.{Ready, Fails}}
+use Rattle.clock.specs.{Vectors.{place, places, place_at}, declared.Missing.{Missing}}
 
 -- the document's values for each case: none, or the name of the write that is missing
-abbrev pub wait_of : Wait → Option Name
-wait_of Ready = none
-wait_of (Fails t j) = some (name t j)
+abbrev pub wait_of : std.Option Missing → Option Name
+wait_of None = none
+wait_of (Some m) = some (name m.desk m.number)
 
 abbrev pub fails_at : List ℕ → List ℕ → ℕ → ℕ → Bool
 fails_at a v u t = fails (place a) u (place v) t
@@ -121,13 +122,13 @@ module _ (a v : List ℕ) (u t : ℕ) (h : 1 ≤ t) where
   fails_at-other n = sym (fails-other (place a) u (place v) t n ∙ rw (place_at a t h, place_at v t h))
 
 -- the contract leaves one answer
-abbrev pub wait_for : Option Name → Wait
-wait_for none = Ready
-wait_for (some w) = Fails w.writer w.number
+abbrev pub wait_for : Option Name → std.Option Missing
+wait_for none = None
+wait_for (some w) = Some record { desk = w.writer; number = w.number }
 
-wait_back : (w : Wait) → wait_for (wait_of w) ≡ w
-wait_back Ready = refl
-wait_back (Fails t j) = refl
+wait_back : (w : std.Option Missing) → wait_for (wait_of w) ≡ w
+wait_back None = refl
+wait_back (Some m) = refl
 
-pub wait_is : (w : Wait) {o : Option Name} → wait_of w ≡ o → w ≡ wait_for o
+pub wait_is : (w : std.Option Missing) {o : Option Name} → wait_of w ≡ o → w ≡ wait_for o
 wait_is w e = sym (wait_back w) ∙ ap wait_for e

@@ -1,34 +1,30 @@
 // The causal clock of a desk, and when a write is ready.
 #![tactic(auto)]
 
-ghost use Rattle.std.specs.Prelude.{◌≡◌, max};
+ghost use Rattle.std.specs.Prelude.{◌≡◌};
 ghost use Rattle.machine.specs.Rules.{In};
 ghost use Rattle.machine.specs.Steps.{first_unapplied, failing};
 ghost use Rattle.clock.specs.Vectors.{places, place, join_clock, raise_clock};
 ghost use Rattle.clock.specs.Readiness.{fails_at, wait_of, ready_at, covers_all};
+
+use std::array;
 
 // The places of a vector: one for each desk.
 pub const PLACES: usize = 16;
 // The largest number of a write.
 pub const MOST_WRITES: u16 = 65535;
 
-#[derive(Clone, Copy)]
+#[derive(Clone, Copy, Debug, PartialEq, Eq)]
 pub struct Clock {
     pub at: [u16; PLACES],
 }
 
-// A write is ready; or of the smallest desk whose place fails, that desk and the number of its first write not applied here. That is a
-// count plus 1: where the counts are no table's it may pass MOST_WRITES.
-#[derive(Clone, Copy)]
-pub enum Wait {
-    Ready,
-    Fails(usize, usize),
-}
-
-fn larger(a: u16, b: u16) -> u16
-    ensures { result ≡ max a b }
-{
-    if a < b { b } else { a }
+// The write that a write waits for: of the smallest desk whose place fails, its first one that is not applied here. The number is a count
+// plus 1: where the counts are no table's it may pass MOST_WRITES.
+#[derive(Clone, Copy, Debug, PartialEq, Eq)]
+pub struct Missing {
+    pub desk: usize,
+    pub number: usize,
 }
 
 impl Clock {
@@ -36,34 +32,21 @@ impl Clock {
     pub fn join(self, v: [u16; PLACES]) -> Clock
         ensures { result ≡ join_clock self v }
     {
-        let old = self.at;
-        let mut at = old;
-        let mut t = 0;
-        while t < PLACES {
-            at[t] = larger(old[t], v[t]);
-            t += 1;
+        Clock {
+            at: array::from_fn(|t| self.at[t].max(v[t])),
         }
-        Clock { at: at }
     }
 
     // Desk u's place one higher, where it is a place and below the largest number; else the clock as it came.
     pub fn raise(self, u: usize) -> Clock
         ensures { result ≡ raise_clock self u }
     {
-        if u == 0 {
+        let mut at = self.at;
+        if !(1..=PLACES).contains(&u) || at[u - 1] == MOST_WRITES {
             return self;
         }
-        let at = u - 1;
-        if PLACES <= at {
-            return self;
-        }
-        let mut v = self.at;
-        let k = v[at];
-        if MOST_WRITES <= k {
-            return self;
-        }
-        v[at] = k + 1;
-        Clock { at: v }
+        at[u - 1] += 1;
+        Clock { at }
     }
 }
 
@@ -72,8 +55,8 @@ fn fails(a: [u16; PLACES], v: [u16; PLACES], u: usize, t: usize) -> bool
     requires { In places t }
     ensures { result ≡ fails_at a v u t }
 {
-    let have = a[t - 1] as u32;
-    let want = v[t - 1] as u32;
+    let have = u32::from(a[t - 1]);
+    let want = u32::from(v[t - 1]);
     if t == u {
         have + 1 != want
     } else {
@@ -86,54 +69,42 @@ fn first_unapplied(a: [u16; PLACES], t: usize) -> usize
     requires { In places t }
     ensures { result ≡ (first_unapplied (place a) t).number }
 {
-    a[t - 1] as usize + 1
+    usize::from(a[t - 1]) + 1
 }
 
-// Ready, or what is missing.
-pub fn readiness(a: [u16; PLACES], v: [u16; PLACES], u: usize) -> Wait
+// What is missing; none: the write is ready.
+pub fn readiness(a: [u16; PLACES], v: [u16; PLACES], u: usize) -> Option<Missing>
     ensures { wait_of result ≡ failing places (place a) u (place v) }
 {
-    let mut t = 1;
-    while t <= PLACES {
-        if fails(a, v, u, t) {
-            return Wait::Fails(t, first_unapplied(a, t));
+    for desk in 1..=PLACES {
+        if fails(a, v, u, desk) {
+            return Some(Missing {
+                desk,
+                number: first_unapplied(a, desk),
+            });
         }
-        t += 1;
     }
-    Wait::Ready
+    None
 }
 
 // Are the counts at least the vector at every place? (No early exit: this is asked of every held write.)
 pub fn covers(a: [u16; PLACES], v: [u16; PLACES]) -> bool
     ensures { result ≡ covers_all a v }
 {
-    let mut over = false;
-    let mut t = 0;
-    while t < PLACES {
-        if a[t] < v[t] {
-            over = true;
-        }
-        t += 1;
-    }
-    !over
+    a.iter()
+        .zip(v.iter())
+        .fold(true, |all, (have, want)| all & (want <= have))
 }
 
 // Is a write of desk u with vector v ready where the counts are a?
 pub fn ready(a: [u16; PLACES], v: [u16; PLACES], u: usize) -> bool
     ensures { result ≡ ready_at a v u }
 {
-    if u == 0 {
+    if !(1..=PLACES).contains(&u) {
         return covers(a, v);
     }
     let at = u - 1;
-    if PLACES <= at {
-        return covers(a, v);
-    }
-    let k = v[at];
-    if k == 0 {
-        return false;
-    }
-    if a[at] != k - 1 {
+    if u32::from(a[at]) + 1 != u32::from(v[at]) {
         return false;
     }
     let mut rest = v;

@@ -19,3 +19,4 @@ pub mod FromOne
 pub mod Owned
 pub mod StoresRead
 pub mod FirstNot
+pub mod Chains

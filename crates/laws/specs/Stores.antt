@@ -1,7 +1,8 @@
 -- Runs of stores, put together.
-use Rattle.std.specs.Prelude.{◌+◌, ◌≡◌, ◌∷◌, ◌++◌}
-use Rattle.laws.specs.Kit.{ℕ, suc, refl, sym, ap, ◌∙◌, List, [], append-nil, arith, add-zero, length, set}
-use Rattle.laws.specs.Kit.{length-append, sets, set_comm, length-sets}
+use Rattle.std.specs.Prelude.{◌+◌, ◌≤◌, ◌≡◌, ◌∷◌, ◌++◌}
+use Rattle.laws.specs.Kit.{ℕ, suc, refl, sym, ap, ◌∙◌, List, [], append_assoc, append-nil, arith, add-zero, length, set}
+use Rattle.laws.specs.Kit.{length-append, take, drop, drop-drop, sets, sets-eq, set_comm, length-sets}
+use borrow.Rule.Slice.PartMut.{put_mid}
 
 module _ {A : Type 0} where
   -- one run after another
@@ -17,6 +18,10 @@ module _ {A : Type 0} where
   sets_last (x ∷ xs) l i a =
       let e : suc i + length xs ≡ i + suc (length xs) = omega arith in
       sets_last xs (set l i x) (suc i) a ∙ rw (set_comm l i (suc i + length xs) x a (λ e. (omega arith)), e)
+
+  -- the part l[at..at + n] overwritten by n elements
+  pub put_mid-sets : (at n : ℕ) (l vs w : List A) → w ≡ vs → n ≡ length vs → at + length vs ≤ length l → put_mid at n l w ≡ sets l at vs
+  put_mid-sets at n l vs w e f h = rw (e, f, drop-drop) (sym (sets-eq vs l at h ∙ append_assoc (take at l) vs (drop (at + length vs) l)))
 
 -- bytes were put: they stand in after from place at on, and r is the place behind them
 pub record Stored {A : Type 0} (before : List A) (at : ℕ) (vs : List A) (after : List A) (r : ℕ) : Type 0 where

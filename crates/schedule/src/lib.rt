@@ -2,7 +2,7 @@
 #![tactic(auto)]
 
 ghost use Rattle.std.specs.Prelude.{◌≡◌, ◌<◌, ◌≤◌, length};
-ghost use Rattle.schedule.specs.Lines.{line_at, end_at, place_in};
+ghost use Rattle.schedule.specs.Lines.{line_at, place_in};
 ghost use Rattle.schedule.specs.Grammar.{most_bytes, line_of, two, three, one_or_more};
 ghost use Rattle.schedule.specs.LineValue.{line_value, SaidBy};
 ghost use Rattle.schedule.specs.Mirror.Forms.{say_at, pairs, triples, travels, ToldLine};
@@ -15,33 +15,14 @@ const LONGEST_LINE: usize = 128;
 // The cells of a trip that a line can hold, and more.
 pub const LIST: usize = 64;
 
-// Where the line at a place ends: at the next LF, or at the end of all.
-fn end_of(s: &[u8], at: usize) -> usize
-    ensures { result ≡ end_at s.now at }
-{
-    if s.len() <= at {
-        return s.len();
-    }
-    let mut e = at;
-    while e < s.len() {
-        if s[e] == b'\n' {
-            return e;
-        }
-        e += 1;
-    }
-    e
-}
-
 // The bytes from a place up to the next LF, or to the end.
 pub fn line_at(s: &[u8], at: usize) -> &[u8]
     ensures bytes { result.now ≡ line_at s.now at }
     ensures place { result.ref_ptr ≡ place_in s.entry at }
 {
-    let e = end_of(s, at);
-    if e < at {
-        return &s[e..];
-    }
-    &s[at..e]
+    let rest = &s[at.min(s.len())..];
+    let len = rest.iter().position(|b| *b == b'\n').unwrap_or(rest.len());
+    &rest[..len]
 }
 
 // What a line says. The cells of a trip stand in an array beside; here is how many.

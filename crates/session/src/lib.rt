@@ -1,7 +1,7 @@
 // A text against the session so far: no table yet, or a table.
 #![tactic(auto)]
 
-ghost use Rattle.std.specs.Prelude.{◌≡◌, ℕ, ◌+◌, ◌-◌, ◌<◌, ◌≤◌, min, length, take};
+ghost use Rattle.std.specs.Prelude.{◌≡◌, ◌+◌, ◌<◌, ◌≤◌, length};
 ghost use Rattle.std.proofs.Math.Option.{none};
 ghost use Rattle.laws.specs.Loop.{pick};
 ghost use Rattle.clock.specs.Vectors.{places};
@@ -16,12 +16,10 @@ ghost use Rattle.answer.specs.Bytes.{answer_line, most_answer};
 ghost use Rattle.reply.specs.Meaning.{answer_of};
 ghost use Rattle.laws.specs.Stores.{Stored};
 ghost use Rattle.session.specs.Run.{Runs};
-ghost use Rattle.machine.specs.Steps.{Trip};
-ghost use Rattle.steps.specs.Mirror.Look.{SomeLook, Looks};
 ghost use Rattle.table.specs.Model.{table_with};
 
 use answer::{LONGEST_ANSWER, Written};
-use clock::{Clock, PLACES};
+use clock::PLACES;
 use reply::{Answer, NAMES, Refusal};
 use schedule::{LIST, Line};
 use steps::Turn;
@@ -41,12 +39,8 @@ fn actor(s: Line) -> usize
     ensures { result ≡ line_actor s }
 {
     match s {
-        Line::New(_, _) => 0,
-        Line::Read(i, _) => i,
-        Line::Write(i, _, _) => i,
-        Line::Deliver(i, _, _) => i,
-        Line::Trip(i, _) => i,
-        Line::NoStep => 0,
+        Line::Read(i, _) | Line::Write(i, _, _) | Line::Deliver(i, _, _) | Line::Trip(i, _) => i,
+        Line::New(_, _) | Line::NoStep => 0,
     }
 }
 
@@ -54,37 +48,35 @@ fn actor(s: Line) -> usize
 fn seat(i: usize) -> usize
     ensures { (result ≡ seat_of i) × (result < places) }
 {
-    if table::inside(PLACES, i) {
-        return i - 1;
-    }
-    0
+    if table::inside(PLACES, i) { i - 1 } else { 0 }
 }
 
 // Still no table.
-fn none_yet(d: Desk, why: Refusal) -> Next
-    ensures { result ≡ next_of 0 0 d (Refused why) }
+fn none_yet(desk: Desk, why: Refusal) -> Next
+    ensures { result ≡ next_of 0 0 desk (Refused why) }
 {
     Next {
         n: 0,
         m: 0,
-        desk: d,
+        desk,
         answer: Answer::Refused(why),
     }
 }
 
 // N n m: every number of the table is 0 already.
-fn begun(d: Desk, n: usize, m: usize) -> Next
-    ensures { result ≡ first_begun d n m }
+fn begun(desk: Desk, n: usize, m: usize) -> Next
+    ensures { result ≡ first_begun desk n m }
 {
     if table::begins(n, m) {
-        return Next {
-            n: n,
-            m: m,
-            desk: d,
+        Next {
+            n,
+            m,
+            desk,
             answer: Answer::Begun,
-        };
+        }
+    } else {
+        none_yet(desk, Refusal::NoSize)
     }
-    none_yet(d, Refusal::NoSize)
 }
 
 // A line before there is a table.
@@ -93,27 +85,15 @@ fn first(d: Desk, s: Line) -> Next
 {
     match s {
         Line::New(n, m) => begun(d, n, m),
-        Line::Read(_, _) => none_yet(d, Refusal::NoStep),
-        Line::Write(_, _, _) => none_yet(d, Refusal::NoStep),
-        Line::Deliver(_, _, _) => none_yet(d, Refusal::NoStep),
-        Line::Trip(_, _) => none_yet(d, Refusal::NoStep),
-        Line::NoStep => none_yet(d, Refusal::NoStep),
+        _ => none_yet(d, Refusal::NoStep),
     }
 }
 
-// T i x x ..: the cells are the first of the list.
-fn trip(n: usize, m: usize, d: Desk, cells: &Cells, i: usize, list: &[u16], count: usize) -> Turn
-    requires { (count ≤ length list.now) × (SomeLook n m cells.now i d) }
-    ensures { Looks n m cells.now i d (Trip i (take count list.now)) result }
-{
-    steps::look::trip_at(n, m, d, cells, i, &list[..count])
-}
-
-fn no_step(d: Desk) -> Turn
-    ensures { result ≡ no_step_of d }
+fn no_step(desk: Desk) -> Turn
+    ensures { result ≡ no_step_of desk }
 {
     Turn {
-        desk: d,
+        desk,
         answer: Answer::Refused(Refusal::NoStep),
     }
 }
@@ -139,9 +119,8 @@ fn act(
         }
         Line::Read(i, x) => steps::look::read_at(n, m, d, cells, i, x),
         Line::Write(i, x, v) => steps::write::write_at(n, m, d, cells, opens, i, x, v),
-        Line::Trip(i, count) => trip(n, m, d, cells, i, list, count),
-        Line::New(_, _) => no_step(d),
-        Line::NoStep => no_step(d),
+        Line::Trip(i, count) => steps::look::trip_at(n, m, d, cells, i, &list[..count]),
+        Line::New(_, _) | Line::NoStep => no_step(d),
     }
 }
 
@@ -163,24 +142,8 @@ fn turn(
     if n == 0 {
         return first(d, s);
     }
-    let t = act(n, m, d, own, cells, opens, names, list, s);
-    let after = t.desk;
-    let answer = t.answer;
-    Next {
-        n: n,
-        m: m,
-        desk: after,
-        answer: answer,
-    }
-}
-
-fn seen(l: &[u16]) {}
-
-// Nothing is done here: the contract hands the caller what the type says.
-fn list_size(list: &[u16; LIST])
-    ensures { most_listed ≤ length list.now }
-{
-    seen(list);
+    let Turn { desk, answer } = act(n, m, d, own, cells, opens, names, list, s);
+    Next { n, m, desk, answer }
 }
 
 // What a line says: nothing where no LF ended it. The cells of a trip go to the list.
@@ -188,25 +151,17 @@ fn said(line: &[u8], ended: bool, list: &mut [u16; LIST]) -> Line
     ensures { Means (pick ended (line_of line.now) none) result list.new }
 {
     if ended {
-        list_size(list);
-        return schedule::line_of(line, list);
+        schedule::line_of(line, list)
+    } else {
+        Line::NoStep
     }
-    Line::NoStep
-}
-
-// Behind a line that ends at a place: past its LF, or the end of all.
-fn behind(end: usize, len: usize) -> usize
-    requires { end ≤ len }
-    ensures { result ≡ min (end + 1) len }
-{
-    if end < len { end + 1 } else { len }
 }
 
 // The line of an answer, where a line of any answer has room.
 fn print(out: &mut [u8], at: usize, a: Answer, names: &[u16; NAMES]) -> usize
     requires { at + most_answer ≤ length out.old }
     ensures stored { Stored out.old at (answer_line (answer_of a names.now)) out.new result }
-    ensures upper_bound { result ≤ length out.old }
+    ensures within { result ≤ length out.old }
 {
     match answer::put(out, at, a, names) {
         Written::Upto(p) => p,
@@ -226,18 +181,7 @@ pub struct Progress {
 pub fn start() -> Core
     ensures { result ≡ zero_core }
 {
-    let zero = [0u16; PLACES];
-    let clock = Clock { at: zero };
-    let desk = Desk {
-        applied: zero,
-        clock: clock,
-    };
-    let desks = [desk; PLACES];
-    Core {
-        n: 0,
-        m: 0,
-        desks: desks,
-    }
+    table::fresh_core(0, 0)
 }
 
 // Runs the lines from a place on, while there are any and an answer of any length has room.
@@ -252,44 +196,35 @@ pub fn run(
     requires { SomeSession (table_with core cells.old opens.old) }
     ensures { Runs (table_with core cells.old opens.old) text.now at out.old (table_with result.core cells.new opens.new) result.at result.len out.new }
 {
-    let mut n = core.n;
-    let mut m = core.m;
-    let mut desks = core.desks;
-    table::desks_shape(desks);
+    let Core {
+        mut n,
+        mut m,
+        mut desks,
+    } = core;
     let mut own = rules::own_counts(desks);
-    let mut names = [0u16; NAMES];
-    let mut list = [0u16; LIST];
+    let mut names = [0; NAMES];
+    let mut list = [0; LIST];
     let mut place = at;
     let mut len = 0;
-    while place < text.len() {
-        if out.len() - len < LONGEST_ANSWER {
-            break;
-        }
+    while place < text.len() && LONGEST_ANSWER <= out.len() - len {
+        // Kept: a Reader would look for the line's end three times, in `line`, `ended` and `after`.
         let line = reader::first_line(text, place);
         let end = place + line.len();
         let s = said(line, end < text.len(), &mut list);
         let p = seat(actor(s));
+        // Kept: nothing that a loop keeps tells how long the arrays within the desks are.
         table::desks_shape(desks);
-        table::cells_size(cells);
-        table::opens_size(opens);
         let t = turn(n, m, desks[p], own, cells, opens, &mut names, &list, s);
         n = t.n;
         m = t.m;
-        let d = t.desk;
-        let a = d.applied;
-        desks[p] = d;
-        own[p] = a[p];
-        let answer = t.answer;
-        len = print(out, len, answer, &names);
-        place = behind(end, text.len());
+        desks[p] = t.desk;
+        own[p] = t.desk.applied[p];
+        len = print(out, len, t.answer, &names);
+        place = (end + 1).min(text.len());
     }
     Progress {
-        core: Core {
-            n: n,
-            m: m,
-            desks: desks,
-        },
+        core: Core { n, m, desks },
         at: place,
-        len: len,
+        len,
     }
 }

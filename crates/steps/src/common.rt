@@ -1,23 +1,28 @@
 // What the steps share.
-ghost use Rattle.std.specs.Prelude.{◌≡◌, ◌<◌};
-ghost use Rattle.steps.specs.Mirror.Look.{refused_turn};
+ghost use Rattle.std.specs.Prelude.{◌≡◌, true, false, IfOk, IfErr};
+ghost use Rattle.steps.specs.Mirror.Look.{turn_of};
 
 use crate::Turn;
 use reply::{Answer, Refusal};
 use table::Desk;
 
-pub(crate) fn small(x: usize) -> u16
-    requires { x < 65536 }
-    ensures { result ≡ x }
+// What a step asks, and why it is refused otherwise.
+pub(crate) fn need(ok: bool, why: Refusal) -> Result<(), Refusal>
+    ensures passes { IfOk result (λ _. ok ≡ true) }
+    ensures fails { IfErr result (λ r. (ok ≡ false) × (r ≡ why)) }
 {
-    x as u16
+    if ok { Ok(()) } else { Err(why) }
 }
 
-pub(crate) fn refused(d: Desk, why: Refusal) -> Turn
-    ensures { result ≡ refused_turn d why }
+// The turn made; or the refusal, which leaves the desk as it came.
+pub(crate) fn answered(d: Desk, made: Result<Turn, Refusal>) -> Turn
+    ensures { result ≡ turn_of d made }
 {
-    Turn {
-        desk: d,
-        answer: Answer::Refused(why),
+    match made {
+        Ok(turn) => turn,
+        Err(why) => Turn {
+            desk: d,
+            answer: Answer::Refused(why),
+        },
     }
 }

@@ -5,32 +5,25 @@ ghost use Rattle.machine.specs.Rules.{In};
 ghost use Rattle.machine.specs.Steps.{Write};
 ghost use Rattle.clock.specs.Vectors.{places, place};
 ghost use Rattle.table.specs.Value.{desk_cells};
+ghost use Rattle.steps.specs.Mirror.Look.{turn_of};
 ghost use Rattle.steps.specs.Mirror.Write.{new_marks, Spotted, SpotIn, enter_at, Wrote, SomeTable, Writes};
 
 use crate::Turn;
-use crate::common::{refused, small};
+use crate::common::{answered, need};
 use clock::{MOST_WRITES, PLACES};
 use reply::{Answer, Refusal};
 use table::{Cell, Cells, DONE, Desk, Found, MOST_STATUS, Open, Opens};
 
-// Where a new write is kept for the other desks: in an entry, or nowhere as there is no other desk, or all are in use.
-#[derive(Drop)]
-enum Spot {
-    Entry(usize),
-    Alone,
-    Full,
-}
-
-// The spot for write k of desk i.
-fn spot_for(n: usize, opens: &Opens, i: usize, k: u16) -> Spot
+// The entry for write k of desk i; none where there is no other desk to hold it for.
+fn spot_for(n: usize, opens: &Opens, i: usize, k: u16) -> Result<Option<usize>, Refusal>
     ensures { Spotted n opens.now result }
 {
     if n == 1 {
-        return Spot::Alone;
+        return Ok(None);
     }
     match table::find_free(opens, i, k) {
-        Found::At(e) => Spot::Entry(e),
-        Found::Nothing => Spot::Full,
+        Found::At(e) => Ok(Some(e)),
+        Found::Nothing => Err(Refusal::Full),
     }
 }
 
@@ -39,19 +32,17 @@ fn new_marks(i: usize) -> [u16; PLACES]
     requires { In places i }
     ensures { result ≡ new_marks i }
 {
-    let mut marks = [0u16; PLACES];
+    let mut marks = [0; PLACES];
     marks[i - 1] = DONE;
     marks
 }
 
-fn enter(opens: &mut Opens, s: Spot, o: Open)
-    requires { SpotIn s }
-    ensures { opens.new ≡ enter_at opens.old s o }
+fn enter(opens: &mut Opens, spot: Option<usize>, o: Open)
+    requires { SpotIn spot }
+    ensures { opens.new ≡ enter_at opens.old spot o }
 {
-    match s {
-        Spot::Entry(e) => table::put_open(opens, e, o),
-        Spot::Alone => {}
-        Spot::Full => {}
+    if let Some(e) = spot {
+        table::put_open(opens, e, o);
     }
 }
 
@@ -62,42 +53,59 @@ fn written(
     opens: &mut Opens,
     i: usize,
     x: usize,
-    v: u16,
-    s: Spot,
+    status: u16,
+    spot: Option<usize>,
 ) -> Turn
-    requires fact { (In places i) × ((In desk_cells x) × (SpotIn s)) }
-    requires i_bound { get_or d.applied (i - 1) 0 < most_writes }
-    ensures { Wrote d cells.old opens.old i x v s result cells.new opens.new }
+    requires within { (In places i) × ((In desk_cells x) × (SpotIn spot)) }
+    requires not_spent { get_or d.applied (i - 1) 0 < most_writes }
+    ensures { Wrote d cells.old opens.old i x status spot result cells.new opens.new }
 {
-    let mut a = d.applied;
-    let k = a[i - 1] + 1;
-    a[i - 1] = k;
-    let c = d.clock;
-    let raised = c.raise(i);
-    let w = raised.at;
-    let u = small(i);
+    let writer = i as u16;
+    let mut applied = d.applied;
+    let k = applied[i - 1] + 1;
+    applied[i - 1] = k;
+    let clock = d.clock.raise(i);
+    let vector = clock.at;
     let cell = Cell {
-        writer: u,
-        status: v,
-        vector: w,
+        writer,
+        status,
+        vector,
     };
     table::put_cell(cells, table::slot_of(i, x), cell);
-    let o = Open {
-        writer: u,
-        status: v,
-        cell: small(x),
-        vector: w,
+    let open = Open {
+        writer,
+        status,
+        cell: x as u16,
+        vector,
         marks: new_marks(i),
     };
-    enter(opens, s, o);
-    let after = Desk {
-        applied: a,
-        clock: raised,
-    };
+    enter(opens, spot, open);
     Turn {
-        desk: after,
-        answer: Answer::Wrote(u, k),
+        desk: Desk { applied, clock },
+        answer: Answer::Wrote(writer, k),
     }
+}
+
+fn write(
+    n: usize,
+    m: usize,
+    d: Desk,
+    cells: &mut Cells,
+    opens: &mut Opens,
+    i: usize,
+    x: usize,
+    v: usize,
+) -> Result<Turn, Refusal>
+    requires { SomeTable n m cells.old opens.old i d }
+    ensures { Writes n m cells.old opens.old i d (Write i x v) (turn_of d result) cells.new opens.new }
+{
+    need(table::inside(n, i), Refusal::NoDesk)?;
+    need(table::inside(m, x), Refusal::NoCell)?;
+    need(v <= MOST_STATUS, Refusal::NoStatus)?;
+    let k = table::at_place(d.applied, i);
+    need(k < MOST_WRITES, Refusal::Spent)?;
+    let spot = spot_for(n, opens, i, k + 1)?;
+    Ok(written(d, cells, opens, i, x, v as u16, spot))
 }
 
 pub fn write_at(
@@ -113,23 +121,5 @@ pub fn write_at(
     requires { SomeTable n m cells.old opens.old i d }
     ensures { Writes n m cells.old opens.old i d (Write i x v) result cells.new opens.new }
 {
-    if !table::inside(n, i) {
-        return refused(d, Refusal::NoDesk);
-    }
-    if !table::inside(m, x) {
-        return refused(d, Refusal::NoCell);
-    }
-    if MOST_STATUS < v {
-        return refused(d, Refusal::NoStatus);
-    }
-    let a = d.applied;
-    let k = table::at_place(a, i);
-    if MOST_WRITES <= k {
-        return refused(d, Refusal::Spent);
-    }
-    let s = spot_for(n, opens, i, k + 1);
-    if let Spot::Full = s {
-        return refused(d, Refusal::Full);
-    }
-    written(d, cells, opens, i, x, small(v), s)
+    answered(d, write(n, m, d, cells, opens, i, x, v))
 }

@@ -1,5 +1,5 @@
 -- A fresh table is the machine's.
-use Rattle.std.specs.Prelude.{◌+◌, ◌*◌, ◌≡◌}
+use Rattle.std.specs.Prelude.{◌+◌, ◌*◌, ◌≡◌, Some, None}
 use Rattle.laws.specs.Kit.{ℕ, zero, suc, refl, ◌∙◌, fun_ext, [], none, Bool, true, false, eq-eqb, get_or, replicate, ltb}
 use Rattle.laws.specs.{Loop.{pick}, Update.{seen1}}
 use Rattle.clock.specs.Vectors.{places, place}
@@ -60,7 +60,7 @@ unique-fresh : (n m : ℕ) → Unique (fresh_table n m).opens
 unfolding fresh_table
 unique-fresh n m = unique-zeros (entries * open_width)
 
-pub begins-yes : (n m : ℕ) → steps.begins n m ≡ true → Begins n m (record { begun = true; table = fresh_table n m })
+pub begins-yes : (n m : ℕ) → steps.begins n m ≡ true → Begins n m (Some (fresh_table n m))
 unfolding begin_table steps.begin
 begins-yes n m e = record {
   is = rw e;
@@ -68,10 +68,10 @@ begins-yes n m e = record {
   unique = unique-fresh n m;
 }
 
-pub begins-no : (n m : ℕ) → steps.begins n m ≡ false → Begins n m (record { begun = false; table = fresh_table 0 0 })
+pub begins-no : (n m : ℕ) → steps.begins n m ≡ false → Begins n m None
 unfolding begin_table steps.begin
 begins-no n m e = record {
   is = rw e;
   means = rw (e, steps.begin);
-  unique = unique-fresh 0 0;
+  unique = tt;
 }

@@ -1,12 +1,12 @@
 -- The beginning: a fresh table is the machine's, and refusal 11 leaves none.
-use Rattle.std.specs.Prelude.{◌*◌, ◌≡◌}
-use Rattle.laws.specs.Kit.{ℕ, zero, suc, refl, ◌∙◌, fun_ext, none, some, true, false, eq-eqb, get_or, replicate}
+use Rattle.std.specs.Prelude.{◌*◌, ◌≡◌, Option, Some, None, IfSome}
+use Rattle.laws.specs.Kit.{ℕ, zero, suc, refl, ◌∙◌, fun_ext, none, some, true, eq-eqb, get_or, replicate}
 use Rattle.laws.specs.{Loop.{pick}, Says.{apart}}
 use Rattle.clock.specs.Vectors.{places, place, clock_of}
 use Rattle.machine.specs.Table as machine
 use Rattle.machine.specs.Answer.{began, refused, no_size}
 use Rattle.machine.specs.Steps as steps
-use Rattle.table.specs.{declared.Desk.{Desk}, declared.Table.{Table}, declared.Begun.{Begun}, Value.{all_cells}}
+use Rattle.table.specs.{declared.Desk.{Desk}, declared.Table.{Table}, Value.{all_cells}}
 use Rattle.table.specs.Value.{cell_width, entries, open_width, open_at, open-writer, is_free}
 use Rattle.table.specs.{EntryNames.{named_at, free_named}, Model.{model_of}}
 use Rattle.table.specs.{Link.OpensModel.{Unique}}
@@ -21,20 +21,18 @@ fresh_table n m = record {
   opens = replicate (entries * open_width) 0;
 }
 
-unfoldable pub begin_table : ℕ → ℕ → Begun
-begin_table n m =
-    pick (steps.begins n m)
-    (record { begun = true; table = fresh_table n m })
-    (record { begun = false; table = fresh_table 0 0 })
+unfoldable pub begin_table : ℕ → ℕ → Option Table
+begin_table n m = pick (steps.begins n m) (Some (fresh_table n m)) None
 
 -- the document's number and values for each case
-abbrev pub begun_of : Begun → steps.Begun
-begun_of b = pick b.begun (record { answer = began; table = some (model_of b.table) }) (record { answer = refused no_size; table = none })
+abbrev pub begun_of : Option Table → steps.Begun
+begun_of (Some t) = record { answer = began; table = some (model_of t) }
+begun_of None = record { answer = refused no_size; table = none }
 
-pub record Begins (n m : ℕ) (r : Begun) : Type 0 where
+pub record Begins (n m : ℕ) (r : Option Table) : Type 0 where
   pub is : r ≡ begin_table n m
   pub means : begun_of r ≡ steps.begin n m
-  pub unique : Unique r.table.opens
+  pub unique : IfSome r (λ t. Unique t.opens)
 
 -- a list of zeros reads 0 everywhere
 pub zeros-at : (n k : ℕ) → get_or {A = ℕ} (replicate n 0) k 0 ≡ 0

@@ -1,9 +1,9 @@
 -- The name of an entry's write, and what a search for an entry finds.
-use Rattle.std.specs.Prelude.{◌+◌, ◌-◌, ◌<◌, ◌≤◌, ◌%◌, ◌≡◌}
+use Rattle.std.specs.Prelude.{◌+◌, ◌-◌, ◌<◌, ◌≤◌, ◌%◌, ◌≡◌, Option, Some, None}
 use Rattle.laws.specs.Kit.{ℕ, refl, List, Bool, true, false, arith, below_more, eqb-true, eq-eqb, ne_eqb}
 use Rattle.laws.specs.{Kit.{get_or, eqb}, Loop.{pick, cases}, Says.{apart}}
 use Rattle.clock.specs.Vectors.{place, place_at}
-use Rattle.table.specs.{declared.Open.{Open}, declared.Found.{Found}, declared.Found.TheVariants.{At, Nothing}}
+use Rattle.table.specs.{declared.Open.{Open}}
 use Rattle.table.specs.Value.{entries, open_at, is_free}
 
 -- the entry's number: its writer's place of its vector
@@ -50,15 +50,23 @@ same_writer o u k h e =
     let f : o.writer ≡ 0 → ⊥ = (λ q. (omega arith)) in
     rw (ne_eqb o.writer 0 f, e, eq-eqb u u refl, place_at o.vector u h)
 
--- what each answer of a search over the entries means (it has no number in the document): this one passes, or none does
-abbrev pub FoundIn : (ℕ → Bool) → Found → Type 0
-FoundIn p (At e) = (e < entries) × (p e ≡ true)
-FoundIn p Nothing = (e : ℕ) → e < entries → p e ≡ false
+-- what each answer of a search over the entries means (it has no number in the document): this one has Yes, or each has No
+abbrev pub FoundBy : (ℕ → Type 0) → (ℕ → Type 0) → Option ℕ → Type 0
+FoundBy Yes No (Some e) = (e < entries) × Yes e
+FoundBy Yes No None = (e : ℕ) → e < entries → No e
 
-pub found_at : (p : ℕ → Bool) (r : Found) (e : ℕ) → FoundIn p r → r ≡ At e → (e < entries) × (p e ≡ true)
+pub found_as : {Yes No : ℕ → Type 0} (Yes' No' : ℕ → Type 0) (r : Option ℕ) → FoundBy Yes No r → ((e : ℕ) → e < entries → Yes e → Yes' e) → ((e : ℕ) → e < entries → No e → No' e) → FoundBy Yes' No' r
+found_as Yes' No' (Some e) f y n = (f.0, y e f.0 f.1)
+found_as Yes' No' None f y n = λ e l. n e l (f e l)
+
+-- this one passes, or none does
+abbrev pub FoundIn : (ℕ → Bool) → Option ℕ → Type 0
+FoundIn p r = FoundBy (λ e. p e ≡ true) (λ e. p e ≡ false) r
+
+pub found_at : (p : ℕ → Bool) (r : Option ℕ) (e : ℕ) → FoundIn p r → r ≡ Some e → (e < entries) × (p e ≡ true)
 found_at p r e f q = rw q at f
 
-pub found_nothing : (p : ℕ → Bool) (r : Found) → FoundIn p r → r ≡ Nothing → (e : ℕ) → e < entries → p e ≡ false
+pub found_nothing : (p : ℕ → Bool) (r : Option ℕ) → FoundIn p r → r ≡ None → (e : ℕ) → e < entries → p e ≡ false
 found_nothing p r f q = rw q at f
 
 abbrev pub named_at : List ℕ → ℕ → ℕ → ℕ → Bool
@@ -67,20 +75,20 @@ named_at l u k e = named u k (open_at l e)
 abbrev pub free_at : List ℕ → ℕ → Bool
 free_at l e = is_free (open_at l e)
 
--- a search that begins at any entry and goes round: j entries were seen, and none passed
-pub record Seen (p : ℕ → Bool) (first j : ℕ) : Type 0 where
+-- a search that begins at any entry and goes round: each of the j entries that were seen has P
+pub record Seen (P : ℕ → Type 0) (first j : ℕ) : Type 0 where
   pub most : j ≤ entries
-  pub misses : (i : ℕ) → i < j → p ((first + i) % entries) ≡ false
+  pub each : (i : ℕ) → i < j → P ((first + i) % entries)
 
-pub seen_none : {p : ℕ → Bool} {first : ℕ} → Seen p first 0
-seen_none = record { most = omega arith; misses = λ i h. absurd (omega arith) }
+pub seen_none : {P : ℕ → Type 0} {first : ℕ} → Seen P first 0
+seen_none = record { most = omega arith; each = λ i h. absurd (omega arith) }
 
-module _ {p : ℕ → Bool} {first j : ℕ} (s : Seen p first j) where
-  pub seen_more : j < entries → p ((first + j) % entries) ≡ false → Seen p first (j + 1)
-  seen_more h e = record { most = omega arith; misses = below_more _ _ s.misses e }
+module _ {P : ℕ → Type 0} {first j : ℕ} (s : Seen P first j) where
+  pub seen_more : j < entries → P ((first + j) % entries) → Seen P first (j + 1)
+  seen_more h e = record { most = omega arith; each = below_more _ _ s.each e }
 
-  pub seen_all : entries ≤ j → (e : ℕ) → e < entries → p e ≡ false
+  pub seen_all : entries ≤ j → (e : ℕ) → e < entries → P e
   seen_all h e b =
       let i : ℕ = (e + entries - first % entries) % entries in
       let c : (first + i) % entries ≡ e = omega arith in
-      rw (← c) (s.misses i (omega arith))
+      rw (← c) (s.each i (omega arith))

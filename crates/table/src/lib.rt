@@ -1,19 +1,20 @@
 // The table: a small core by value, and two flat arrays of numbers that are lent.
 #![tactic(auto)]
 
-ghost use Rattle.std.specs.Prelude.{◌≡◌, ℕ, ◌+◌, ◌-◌, ◌*◌, ◌<◌, ◌≤◌, get_or, set, length};
+ghost use Rattle.std.specs.Prelude.{◌≡◌, ℕ, ◌+◌, ◌-◌, ◌*◌, ◌<◌, ◌≤◌, get_or, set, length, true, false};
 ghost use Rattle.std.proofs.lemmas.List.Edits.{sets};
 ghost use Rattle.laws.specs.Rows.{numbers_from};
 ghost use Rattle.clock.specs.Vectors.{places, place};
 ghost use Rattle.machine.specs.Rules.{In};
 ghost use Rattle.machine.specs.Steps.{everywhere, within, begins};
-ghost use Rattle.table.specs.Value.{desk_cells, all_cells, cell_width, entries, open_width, cell_at, CellPut, open_at, OpenPut, MarkPut, Freed};
+ghost use Rattle.table.specs.Value.{desk_cells, all_cells, entries, cell_at, CellPut, open_at, OpenPut, MarkPut, Freed};
 ghost use Rattle.table.specs.TypeShape.{DesksShape, Shaped};
-ghost use Rattle.table.specs.EntryNames.{named_at, free_at, FoundIn};
+ghost use Rattle.table.specs.EntryNames.{named_at, free_at, FoundBy, FoundIn};
 ghost use Rattle.table.specs.Model.{open_m, slot};
 ghost use Rattle.table.specs.Beginning.{fresh_table, begin_table, Begins};
 
 use clock::{Clock, PLACES};
+use std::array;
 
 // Cells to a desk.
 pub const CELLS: usize = 64;
@@ -40,13 +41,13 @@ pub type Cells = [u16; PLACES * CELLS * CELL];
 
 pub type Opens = [u16; OPENS * OPEN];
 
-#[derive(Clone, Copy)]
+#[derive(Clone, Copy, Debug, PartialEq, Eq)]
 pub struct Desk {
     pub applied: [u16; PLACES],
     pub clock: Clock,
 }
 
-#[derive(Clone, Copy)]
+#[derive(Clone, Copy, Debug, PartialEq, Eq)]
 pub struct Core {
     pub n: usize,
     pub m: usize,
@@ -54,7 +55,7 @@ pub struct Core {
 }
 
 // Writer 0: unset.
-#[derive(Drop)]
+#[derive(Clone, Copy, Debug, PartialEq, Eq)]
 pub struct Cell {
     pub writer: u16,
     pub status: u16,
@@ -62,7 +63,7 @@ pub struct Cell {
 }
 
 // Writer 0: the entry is free. A mark: 0 not received, 1 held, 2 applied.
-#[derive(Clone, Copy)]
+#[derive(Clone, Copy, Debug, PartialEq, Eq)]
 pub struct Open {
     pub writer: u16,
     pub status: u16,
@@ -71,17 +72,11 @@ pub struct Open {
     pub marks: [u16; PLACES],
 }
 
-#[derive(Clone, Copy)]
+#[derive(Clone, Copy, Debug, PartialEq, Eq)]
 pub struct Table {
     pub core: Core,
     pub cells: Cells,
     pub opens: Opens,
-}
-
-#[derive(Drop)]
-pub enum Found {
-    At(usize),
-    Nothing,
 }
 
 // The PLACES numbers from a place on, of either array.
@@ -89,13 +84,7 @@ fn places_at(l: &[u16], at: usize) -> [u16; PLACES]
     requires { at + places ≤ length l.now }
     ensures { result ≡ numbers_from l.now at places }
 {
-    let mut v = [0u16; PLACES];
-    let mut t = 0;
-    while t < PLACES {
-        v[t] = l[at + t];
-        t += 1;
-    }
-    v
+    array::from_fn(|t| l[at + t])
 }
 
 fn put_places(l: &mut [u16], at: usize, v: [u16; PLACES])
@@ -103,36 +92,10 @@ fn put_places(l: &mut [u16], at: usize, v: [u16; PLACES])
     ensures l_after { l.new ≡ sets l.old at v }
     ensures v_len { length v ≡ places }
 {
-    let mut t = 0;
-    while t < PLACES {
-        l[at + t] = v[t];
-        t += 1;
-    }
+    l[at..at + PLACES].copy_from_slice(&v);
 }
 
-// One number. (A lent array tells its length where it goes on as a slice.)
-fn put_number(l: &mut [u16], at: usize, x: u16)
-    requires { at < length l.old }
-    ensures { l.new ≡ set l.old at x }
-{
-    l[at] = x;
-}
-
-fn seen(l: &[u16]) {}
-
-// Nothing is done by these: the contracts hand the caller what the types say.
-
-pub fn cells_size(cells: &Cells)
-    ensures { length cells.now ≡ all_cells * cell_width }
-{
-    seen(cells);
-}
-
-pub fn opens_size(opens: &Opens)
-    ensures { length opens.now ≡ entries * open_width }
-{
-    seen(opens);
-}
+// Kept, though they do nothing: what a type says of arrays within a struct the search does not find; here it is proved, once.
 
 pub fn desks_shape(desks: [Desk; PLACES])
     ensures { DesksShape desks }
@@ -141,9 +104,7 @@ pub fn desks_shape(desks: [Desk; PLACES])
 pub fn table_shape(t: Table)
     ensures { Shaped t }
 {
-    let core = t.core;
-    let desks = core.desks;
-    desks_shape(desks);
+    desks_shape(t.core.desks);
 }
 
 // Cells: row s holds cell x of desk i, s = (i - 1) * CELLS + (x - 1).
@@ -160,11 +121,10 @@ pub fn cell_at(cells: &Cells, s: usize) -> Cell
     ensures { result ≡ cell_at cells.now s }
 {
     let at = s * CELL;
-    let v = places_at(cells, at + CELL_VECTOR);
     Cell {
         writer: cells[at],
         status: cells[at + 1],
-        vector: v,
+        vector: places_at(cells, at + CELL_VECTOR),
     }
 }
 
@@ -175,8 +135,7 @@ pub fn put_cell(cells: &mut Cells, s: usize, c: Cell)
     let at = s * CELL;
     cells[at] = c.writer;
     cells[at + 1] = c.status;
-    let v = c.vector;
-    put_places(cells, at + CELL_VECTOR, v);
+    put_places(cells, at + CELL_VECTOR, c.vector);
 }
 
 // Open writes: entries from 0; desks and places within an entry from 0.
@@ -186,14 +145,12 @@ pub fn open_at(opens: &Opens, e: usize) -> Open
     ensures { result ≡ open_at opens.now e }
 {
     let at = e * OPEN;
-    let v = places_at(opens, at + OPEN_VECTOR);
-    let k = places_at(opens, at + MARKS);
     Open {
         writer: opens[at],
         status: opens[at + 1],
         cell: opens[at + 2],
-        vector: v,
-        marks: k,
+        vector: places_at(opens, at + OPEN_VECTOR),
+        marks: places_at(opens, at + MARKS),
     }
 }
 
@@ -205,10 +162,8 @@ pub fn put_open(opens: &mut Opens, e: usize, o: Open)
     opens[at] = o.writer;
     opens[at + 1] = o.status;
     opens[at + 2] = o.cell;
-    let v = o.vector;
-    put_places(opens, at + OPEN_VECTOR, v);
-    let k = o.marks;
-    put_places(opens, at + MARKS, k);
+    put_places(opens, at + OPEN_VECTOR, o.vector);
+    put_places(opens, at + MARKS, o.marks);
 }
 
 // 0 where the entry is free.
@@ -245,14 +200,14 @@ pub fn put_mark(opens: &mut Opens, e: usize, i: usize, k: u16)
     requires { (e < entries) × (i < places) }
     ensures { MarkPut opens.old e i k opens.new }
 {
-    put_number(opens, e * OPEN + (MARKS + i), k);
+    opens[e * OPEN + (MARKS + i)] = k;
 }
 
 pub fn set_free(opens: &mut Opens, e: usize)
     requires { e < entries }
     ensures { Freed opens.old e opens.new }
 {
-    put_number(opens, e * OPEN, 0);
+    opens[e * OPEN] = 0;
 }
 
 // Has every desk of the n applied entry e?
@@ -260,40 +215,25 @@ pub fn all_applied(opens: &Opens, e: usize, n: usize) -> bool
     requires { (e < entries) × (n ≤ places) }
     ensures { result ≡ everywhere n (open_m (open_at opens.now e)) }
 {
-    let mut t = 1;
-    while t <= n {
-        if mark_at(opens, e, t - 1) != DONE {
-            return false;
-        }
-        t += 1;
-    }
-    true
-}
-
-pub fn wide(x: u16) -> usize
-    ensures { (result ≡ x) × (result < 65536) }
-{
-    x as usize
+    (0..n).all(|i| mark_at(opens, e, i) == DONE)
 }
 
 // The number at place u, from 1, and 0 where there is none.
 pub fn at_place(v: [u16; PLACES], u: usize) -> u16
     ensures { result ≡ place v u }
 {
-    if u == 0 {
-        return 0;
+    if (1..=PLACES).contains(&u) {
+        v[u - 1]
+    } else {
+        0
     }
-    if PLACES < u {
-        return 0;
-    }
-    v[u - 1]
 }
 
 // Where the search for an entry of write u.k begins: any entry may hold it, and this makes most searches short.
 fn start(u: usize, k: u16) -> usize
     ensures { result < entries }
 {
-    (wide(k) * PLACES + u % PLACES) % OPENS
+    (usize::from(k) * PLACES + u % PLACES) % OPENS
 }
 
 // Does entry e hold write k of desk u (from 1)?
@@ -301,51 +241,37 @@ pub fn holds(opens: &Opens, e: usize, u: usize, k: u16) -> bool
     requires { (e < entries) × (In places u) }
     ensures { result ≡ named_at opens.now u k e }
 {
-    let w = wide(writer_at(opens, e));
-    if w != u {
-        return false;
+    usize::from(writer_at(opens, e)) == u && place_at(opens, e, u - 1) == k
+}
+
+// The first entry that passes, from entry first on and round.
+fn search_from<F: Fn(usize) -> bool>(first: usize, passes: F) -> Option<usize>
+    requires first_in { first < entries }
+    requires callable { (e : ℕ) → e < entries → F.pre passes e }
+    ensures { FoundBy (λ e. F.post passes e true) (λ e. F.post passes e false) result }
+{
+    for j in 0..OPENS {
+        let e = (first + j) % OPENS;
+        if passes(e) {
+            return Some(e);
+        }
     }
-    place_at(opens, e, u - 1) == k
+    None
 }
 
 // The entry of write k of desk u (from 1).
-pub fn find(opens: &Opens, u: usize, k: u16) -> Found
+pub fn find(opens: &Opens, u: usize, k: u16) -> Option<usize>
     requires { In places u }
     ensures { FoundIn (named_at opens.now u k) result }
 {
-    let first = start(u, k);
-    let mut j = 0;
-    while j < OPENS {
-        let e = (first + j) % OPENS;
-        if holds(opens, e, u, k) {
-            return Found::At(e);
-        }
-        j += 1;
-    }
-    Found::Nothing
+    search_from(start(u, k), |e| holds(opens, e, u, k))
 }
 
 // A free entry, for write k of desk u.
-pub fn find_free(opens: &Opens, u: usize, k: u16) -> Found
+pub fn find_free(opens: &Opens, u: usize, k: u16) -> Option<usize>
     ensures { FoundIn (free_at opens.now) result }
 {
-    let first = start(u, k);
-    let mut j = 0;
-    while j < OPENS {
-        let e = (first + j) % OPENS;
-        if writer_at(opens, e) == 0 {
-            return Found::At(e);
-        }
-        j += 1;
-    }
-    Found::Nothing
-}
-
-// What begin answers: a table, or refusal 11 (begun is false) and nothing but zeros.
-#[derive(Drop)]
-pub struct Begun {
-    pub begun: bool,
-    pub table: Table,
+    search_from(start(u, k), |e| writer_at(opens, e) == 0)
 }
 
 // Every desk's counts and clock at zero.
@@ -353,29 +279,25 @@ pub fn fresh_core(n: usize, m: usize) -> Core
     ensures { result ≡ (fresh_table n m).core }
 {
     let zero = [0u16; PLACES];
-    let clock = Clock { at: zero };
     let desk = Desk {
         applied: zero,
-        clock: clock,
+        clock: Clock { at: zero },
     };
-    let desks = [desk; PLACES];
     Core {
-        n: n,
-        m: m,
-        desks: desks,
+        n,
+        m,
+        desks: [desk; PLACES],
     }
 }
 
-fn fresh(n: usize, m: usize) -> Table
+// The table of those, with nothing set and nothing open.
+pub fn fresh(n: usize, m: usize) -> Table
     ensures { result ≡ fresh_table n m }
 {
-    let core = fresh_core(n, m);
-    let cells = [0u16; PLACES * CELLS * CELL];
-    let opens = [0u16; OPENS * OPEN];
     Table {
-        core: core,
-        cells: cells,
-        opens: opens,
+        core: fresh_core(n, m),
+        cells: [0; PLACES * CELLS * CELL],
+        opens: [0; OPENS * OPEN],
     }
 }
 
@@ -383,36 +305,22 @@ fn fresh(n: usize, m: usize) -> Table
 pub fn inside(n: usize, i: usize) -> bool
     ensures { result ≡ within n i }
 {
-    if i == 0 {
-        return false;
-    }
-    i <= n
+    (1..=n).contains(&i)
 }
 
 pub fn begins(n: usize, m: usize) -> bool
     ensures { result ≡ begins n m }
 {
-    if inside(PLACES, n) {
-        inside(CELLS, m)
-    } else {
-        false
-    }
+    inside(PLACES, n) && inside(CELLS, m)
 }
 
-// Everything starts at zero and unset.
-pub fn begin(n: usize, m: usize) -> Begun
+// Everything starts at zero and unset. None: refusal 11.
+pub fn begin(n: usize, m: usize) -> Option<Table>
     ensures { Begins n m result }
 {
     if begins(n, m) {
-        let t = fresh(n, m);
-        return Begun {
-            begun: true,
-            table: t,
-        };
-    }
-    let none = fresh(0, 0);
-    Begun {
-        begun: false,
-        table: none,
+        Some(fresh(n, m))
+    } else {
+        None
     }
 }

@@ -12,26 +12,13 @@ const LARGEST_NUMBER: usize = 65535;
 pub fn digit_count(k: u16) -> usize
     ensures { (result ≡ length (decimal k)) × (result ≤ most_digits) }
 {
-    if k < 10 {
-        return 1;
+    match k {
+        0..=9 => 1,
+        10..=99 => 2,
+        100..=999 => 3,
+        1000..=9999 => 4,
+        _ => 5,
     }
-    if k < 100 {
-        return 2;
-    }
-    if k < 1000 {
-        return 3;
-    }
-    if k < 10000 {
-        return 4;
-    }
-    5
-}
-
-fn digit(d: u16) -> u8
-    requires { d < 10 }
-    ensures { result ≡ 48 + d }
-{
-    (48 + d) as u8
 }
 
 // A number in decimal, from its last digit on.
@@ -40,14 +27,11 @@ pub fn put_number(out: &mut [u8], at: usize, k: u16) -> usize
     ensures { Stored out.old at (decimal k) out.new result }
 {
     let end = at + digit_count(k);
-    let mut p = end - 1;
-    let mut v = k;
-    while 10 <= v {
-        out[p] = digit(v % 10);
-        p -= 1;
-        v /= 10;
+    let mut left = k;
+    for p in (at..end).rev() {
+        out[p] = b'0' + (left % 10) as u8;
+        left /= 10;
     }
-    out[p] = digit(v);
     end
 }
 
@@ -56,12 +40,9 @@ pub fn put_words(out: &mut [u8], at: usize, words: &[u8]) -> usize
     requires { at + length words.now ≤ length out.old }
     ensures { Stored out.old at words.now out.new result }
 {
-    let mut j = 0;
-    while j < words.len() {
-        out[at + j] = words[j];
-        j += 1;
-    }
-    at + j
+    let end = at + words.len();
+    out[at..end].copy_from_slice(words);
+    end
 }
 
 // A letter and a number.
@@ -80,35 +61,23 @@ pub enum Field {
     Bad,
 }
 
-fn wide(b: u8) -> usize
-    ensures value { result ≡ b }
-    ensures upper_bound { result < 256 }
-{
-    b as usize
-}
-
 // The digits from a place on, after those that made first.
 fn digits(s: &[u8], from: usize, first: usize) -> Field
     requires { (from ≤ length s.now) × (first ≤ most_number) }
     ensures { DigitsTell s.now from first result }
 {
-    let mut v = first;
-    let mut i = from;
-    while i < s.len() {
-        let b = s[i];
-        if b < b'0' {
-            return Field::Num(v, i);
+    let mut value = first;
+    for end in from..s.len() {
+        let b = s[end];
+        if !b.is_ascii_digit() {
+            return Field::Num(value, end);
         }
-        if b'9' < b {
-            return Field::Num(v, i);
-        }
-        v = 10 * v + wide(b - b'0');
-        if LARGEST_NUMBER < v {
+        value = 10 * value + usize::from(b - b'0');
+        if LARGEST_NUMBER < value {
             return Field::Bad;
         }
-        i += 1;
     }
-    Field::Num(v, i)
+    Field::Num(value, s.len())
 }
 
 // A space and a number, from a place on.
@@ -125,15 +94,9 @@ pub fn next_field(s: &[u8], at: usize) -> Field
     if s.len() <= start {
         return Field::Bad;
     }
-    let b = s[start];
-    if b == b'0' {
-        return Field::Num(0, start + 1);
+    match s[start] {
+        b'0' => Field::Num(0, start + 1),
+        b @ b'1'..=b'9' => digits(s, start + 1, usize::from(b - b'0')),
+        _ => Field::Bad,
     }
-    if b < b'0' {
-        return Field::Bad;
-    }
-    if b'9' < b {
-        return Field::Bad;
-    }
-    digits(s, start + 1, wide(b - b'0'))
 }

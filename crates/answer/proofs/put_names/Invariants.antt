@@ -1,11 +1,8 @@
 -- What is left of the names makes the whole.
-use Rattle.std.specs.Prelude.{◌+◌, ◌-◌, ◌≤◌}
+use Rattle.std.specs.Prelude.{◌+◌, ◌≤◌}
 use Rattle.laws.specs.{Kit.{length}, Stores.{StoresLeft}}
 use Rattle.answer.specs.Link.NameLengths.{names_left}
 use Rattle.answer.proofs.put_names.Given as goal
 
 abbrev pub invariant-loop-j : goal.invariant-loop-j
-invariant-loop-j l = (l.j ≤ l.n) × ((l.at + length (names_left l.n l.names 0) ≤ length l.initial.out) × StoresLeft l.initial.out l.at (names_left l.n l.names 0) l.out l.p (names_left l.n l.names l.j))
-
-abbrev pub decreases-loop-j : goal.decreases-loop-j
-decreases-loop-j l = l.n - l.j
+invariant-loop-j l = (l.at + length (names_left l.j-end l.names 0) ≤ length l.initial.out) × StoresLeft l.initial.out l.at (names_left l.j-end l.names 0) l.out l.p (names_left l.j-end l.names l.j)

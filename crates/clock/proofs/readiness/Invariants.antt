@@ -1,11 +1,8 @@
-use Rattle.clock.specs.{Vectors.{places, place}, Readiness.{fails_at}}
-use Rattle.std.specs.Prelude.{◌≤◌, ◌-◌, ◌+◌, ◌≡◌}
+use Rattle.std.specs.Prelude.{◌-◌, ◌+◌, ◌≡◌}
 use Rattle.laws.specs.{Kit.{none, some}, Loop.{scan}}
 use Rattle.machine.specs.{Steps.{first_unapplied, failing}}
+use Rattle.clock.specs.{Vectors.{places, place}, Readiness.{fails_at}}
 use Rattle.clock.proofs.readiness.Given as goal
 
-abbrev pub invariant-loop-t : goal.invariant-loop-t
-invariant-loop-t l = (1 ≤ l.t) × ((l.t ≤ places + 1) × (scan (fails_at l.a l.v l.u) (λ d. some (first_unapplied (place l.a) d)) none (places + 1 - l.t) l.t ≡ failing places (place l.a) l.u (place l.v)))
-
-abbrev pub decreases-loop-t : goal.decreases-loop-t
-decreases-loop-t l = places + 1 - l.t
+abbrev pub invariant-loop-desk : goal.invariant-loop-desk
+invariant-loop-desk l = scan (fails_at l.a l.v l.u) (λ d. some (first_unapplied (place l.a) d)) none (places + 1 - l.desk) l.desk ≡ failing places (place l.a) l.u (place l.v)

@@ -1,16 +1,17 @@
 use Rattle.std.proofs.Common.{rules}
-use Rattle.laws.specs.Kit.{sym, ◌∙◌}
-use Rattle.rules.specs.{Link.Gap.{gap_here, gap_down, gap_zero}}
+use Rattle.std.specs.Prelude.{◌≡◌}
+use Rattle.laws.specs.Kit.{◌∙◌, true, false}
+use Rattle.rules.specs.Mirror.Test.{has}
+use Rattle.rules.proofs.Chains.{gap_found, found_down, down_of_rev}
 use Rattle.rules.proofs.gap.Goals as goal
 
-pub returns-then-not-has : goal.returns-then-not-has
-returns-then-not-has c = let L = c.loop-k in
-    sym (gap_here _ L.k (search rules) (sym c.has.ensures ∙ c.if-not-has.true)) ∙ L.invariant
-
-pub loop-k-preserved : goal.loop-k-preserved
-loop-k-preserved c = let L = c.loop-k in
-    sym (gap_down _ L.k (search rules) (sym c.has.ensures ∙ c.if-not-has.false)) ∙ L.invariant
-
 pub returns : goal.returns
-returns c = let L = c.loop-k in
-    sym (gap_zero _ L.k (search rules)) ∙ L.invariant
+returns c =
+    let f = has c.args.opens.now c.args.u in
+    let n = c.args.most in
+    let i = c.new.ensures in
+    c.unwrap_or.ensures
+    ∙ gap_found f n c.find.result
+    (found_down (λ k. f k ≡ false) (λ k. f k ≡ true) n c.find.result
+    (λ p t e. down_of_rev p c.new.result n i.start i.end i.exhausted (c.rev.ensures.runs p t e))
+    c.find.ensures.runs (λ a r v h. search rules) (λ k h. search rules) (λ k h. search rules))

@@ -1,17 +1,10 @@
 use Rattle.std.proofs.Common.{rules}
-use Rattle.laws.specs.{Kit.{refl, sym, ap, ◌∙◌, not}, All.{rest-fails, rest-next, rest_end}}
+use Rattle.laws.specs.Kit.{not}
+use Rattle.table.specs.EntryNames.{named_at}
 use Rattle.rules.specs.Mirror.Test.{last_of}
+use Rattle.laws.specs.Chains.{all_of_range}
 use Rattle.rules.proofs.last_of.Goals as goal
 
-pub loop-j-init : goal.loop-j-init
-unfolding last_of
-loop-j-init c = record { most = search rules; is = refl }
-
-pub returns-then-holds : goal.returns-then-holds
-returns-then-holds c = rest-fails c.loop-j.invariant (search rules) (ap not (sym c.holds.ensures ∙ c.if-holds.true))
-
-pub loop-j-preserved : goal.loop-j-preserved
-loop-j-preserved c = rest-next c.loop-j.invariant (search rules) (ap not (sym c.holds.ensures ∙ c.if-holds.false))
-
 pub returns : goal.returns
-returns c = rest_end c.loop-j.invariant (search rules)
+unfolding last_of
+returns c = let g = c.args in all_of_range (λ j. not (named_at g.opens.now g.u g.k j)) c.all.ensures.ran (λ j b q l r h. search rules)

@@ -1,14 +1,8 @@
 use Rattle.std.proofs.Common.{rules}
-use Rattle.laws.specs.{Tab.{filled_start, filled_more, filled_end}}
-use Rattle.rules.specs.Mirror.Parts.{most_marks}
+use Rattle.rules.specs.Mirror.Parts.{most_at, most_marks}
+use Rattle.laws.specs.Chains.{tab_of_from_fn}
 use Rattle.rules.proofs.most_marks.Goals as goal
-
-pub loop-t-init : goal.loop-t-init
-loop-t-init c = filled_start (search rules)
-
-pub loop-t-preserved : goal.loop-t-preserved
-loop-t-preserved c = rw c.most_mark.ensures (filled_more 0 c.loop-t.invariant (search rules))
 
 pub returns : goal.returns
 unfolding most_marks
-returns c = filled_end c.loop-t.invariant (search rules)
+returns c = let g = c.args in tab_of_from_fn 0 (most_at g.n) c.from_fn.ensures.items (λ t y q l h. search rules)

@@ -1,4 +1,4 @@
-use Rattle.laws.specs.Kit.{arith, refl}
+use Rattle.laws.specs.Kit.{refl}
 use Rattle.machine.specs.Steps as steps
 use Rattle.session.specs.Link.LineTurn.{acted_step, acted_quiet}
 use Rattle.session.proofs.act.Goals as goal
@@ -12,11 +12,8 @@ read_at-requires c = let a = rw c.in-Read.is at c.requires.1 in record { desks =
 pub write_at-requires : goal.write_at-requires
 write_at-requires c = let a = rw c.in-Write.is at c.requires.1 in record { desks = a.desks; own = _; placed = a.placed }
 
-pub trip-requires : goal.trip-requires
-trip-requires c =
-    let a = rw c.in-Trip.is at c.requires in
-    let k = a.0 in
-    (omega (arith, k), record { desks = a.1.desks; opens = _; own = _; placed = a.1.placed })
+pub trip_at-requires : goal.trip_at-requires
+trip_at-requires c = let a = rw c.in-Trip.is at c.requires.1 in record { desks = a.desks; opens = _; own = _; placed = a.placed }
 
 pub returns-in-Deliver : goal.returns-in-Deliver
 returns-in-Deliver c ds p =
@@ -36,4 +33,4 @@ returns-in-Write c ds p =
 pub returns-in-Trip : goal.returns-in-Trip
 returns-in-Trip c ds p =
     let e = c.in-Trip.is in
-    rw e (acted_quiet (steps.Trip _ _) c.trip.result.answer c.args.names.now refl (c.trip.ensures ds _ _ (rw e at p)))
+    rw e (acted_quiet (steps.Trip _ _) c.trip_at.result.answer c.args.names.now refl (c.trip_at.ensures ds _ _ (rw e at p)))

@@ -8,4 +8,4 @@ returns-then-ended c =
     let g = c.args in
     let e = c.line_of.ensures in
     rw (c.if-ended.true, value-said e, e.stored)
-    (means (line_of g.line.now) _ (cells-there g.line.now g.list.now (omega (arith, c.list_size.ensures))) (few-cells g.line.now))
+    (means (line_of g.line.now) _ (cells-there g.line.now g.list.now (omega (arith, c.told-list))) (few-cells g.line.now))

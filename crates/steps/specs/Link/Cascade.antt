@@ -1,5 +1,6 @@
 -- The cascade on a desk's counts and the two lent arrays: one write applied, and what is due, are the machine's.
 use Rattle.std.specs.Prelude.{◌+◌, ◌-◌, ◌*◌, ◌<◌, ◌≤◌, ◌≡◌, ◌∷◌, ◌++◌, ◌&&◌}
+use Rattle.std.specs.Prelude as std
 use Rattle.laws.specs.Kit.{ℕ, zero, suc, refl, sym, ap, subst, ◌∙◌, List, [], append_assoc}
 use Rattle.laws.specs.Kit.{append-nil, Bool, true, false, Option, none, some, arith, add-one, lt-ltb, le-ltb, ne_eqb, length, get_or}
 use Rattle.laws.specs.{Kit.{set, length-set, ltb, eqb, sets}, Loop.{pick, cases, scan, scan-same}, Stores.{sets_append}, Update.{upd, upd2}}
@@ -14,7 +15,7 @@ use Rattle.machine.proofs.RulesKept.{Midway, ReadyAt, ready-next}
 use Rattle.machine.proofs.RulesKept.{apply_midway, left_to_apply, apply-left, left-few}
 use Rattle.machine.proofs.Ready.{option_all}
 use Rattle.reply.specs.{Meaning.{names_of}, Names.{length-names, names-none, names_more}}
-use Rattle.table.specs.{declared.Cell.{Cell}, declared.Open.{Open}, declared.Found.{Found}, declared.Found.TheVariants.{At, Nothing}}
+use Rattle.table.specs.{declared.Cell.{Cell}, declared.Open.{Open}}
 use Rattle.table.specs.Value.{desk_cells, all_cells, cell_width, entries, open_width, cell_at, put_cell, cell_at_put, cell_at-other}
 use Rattle.table.specs.Value.{length-put_cell, FullCell, open_at, put_mark, free_entry, full-open_at, length-put_mark, length-free_entry}
 use Rattle.table.specs.{EntryNames.{named_at, named-is}, Model.{open_m, slot, cells_m, opens_m, cell_put}, Link.OpensModel.{Unique, opens_at}}
@@ -204,15 +205,15 @@ pub record DueAt (a own os : List ℕ) (i u e : ℕ) : Type 0 where
   pub holds : named_at os u (suc (place a u)) e ≡ true
   pub is_ready : ready_at a (open_at os e).vector u ≡ true
 
-abbrev pub DueSays : List ℕ → List ℕ → List ℕ → ℕ → ℕ → Found → Type 0
-DueSays a own os i u (At e) = DueAt a own os i u e
-DueSays a own os i u Nothing = due_in a own os i u ≡ false
+abbrev pub DueSays : List ℕ → List ℕ → List ℕ → ℕ → ℕ → std.Option ℕ → Type 0
+DueSays a own os i u (std.Some e) = DueAt a own os i u e
+DueSays a own os i u std.None = due_in a own os i u ≡ false
 
 module _ (a own os : List ℕ) (i u : ℕ) where
-  pub due-at : (r : Found) (e : ℕ) → DueSays a own os i u r → r ≡ At e → DueAt a own os i u e
+  pub due-at : (r : std.Option ℕ) (e : ℕ) → DueSays a own os i u r → r ≡ std.Some e → DueAt a own os i u e
   due-at r e f q = rw q at f
 
-  pub due-not : (r : Found) → DueSays a own os i u r → r ≡ Nothing → due_in a own os i u ≡ false
+  pub due-not : (r : std.Option ℕ) → DueSays a own os i u r → r ≡ std.None → due_in a own os i u ≡ false
   due-not r f q = rw q at f
 
   pub due_late : place own u ≤ place a u → due_in a own os i u ≡ false

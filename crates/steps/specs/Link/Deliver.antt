@@ -1,5 +1,6 @@
 -- Deliver: the refusals in their order, and the step as the machine's.
-use Rattle.std.specs.Prelude.{◌-◌, ◌<◌, ◌≤◌, ◌≡◌, ◌∷◌, ◌≢◌}
+use Rattle.std.specs.Prelude.{◌-◌, ◌<◌, ◌≤◌, ◌≡◌, ◌∷◌, ◌≢◌, Result, Ok, Err, IsErrAnd}
+use Rattle.std.proofs.lemmas.Result.{err_from_is_err_and}
 use Rattle.laws.specs.Kit.{ℕ, refl, sym, ap, ◌∙◌, List, [], true, Option, none, some, arith, set, sets, inl}
 use Rattle.laws.specs.{Kit.{inr}, Update.{upd-is}, Says.{clash}}
 use Rattle.clock.specs.Vectors.{places, place}
@@ -12,9 +13,9 @@ use Rattle.machine.specs.Answer as machineAnswer
 use Rattle.reply.specs.{declared.Refusal.{Refusal}, Meaning.{refusal_of, answer_of, Counted}}
 use Rattle.table.specs.{declared.Desk.{Desk}, declared.Table.{Table}, Value.{entries, open_at}, EntryNames.{named_at}, Model.{applied_m}}
 use Rattle.table.specs.{Model.{open_m, cells_m, opens_m, applied_put, clock_keep, model_of, table_of}, Link.OpensModel.{opens_at}}
-use Rattle.steps.specs.{declared.Turn.{Turn}, declared.deliver.Test.{Test}, declared.deliver.Test.TheVariants.{Passed, Failed}}
+use Rattle.steps.specs.declared.Turn.{Turn}
 use Rattle.steps.specs.{Stepped.{Placed, names_beside, Stepped}, Link.Cascade.{midst}}
-use Rattle.steps.specs.{Link.DeliverReceive.{Arrival, ReceivesAs, effect}, Mirror.Look.{refused_turn}, Link.LookStepped.{in_desks}}
+use Rattle.steps.specs.{Link.DeliverReceive.{Arrival, ReceivesAs, effect}, Mirror.Look.{refused_turn, turn_of}, Link.LookStepped.{in_desks}}
 use Rattle.steps.specs.{Link.LookStepped.{desk-shape, refused-stepped, taken-stepped}, Link.Look.{counts_start}}
 
 -- the part of a table that a delivery is handed
@@ -40,9 +41,9 @@ asked_of n a own i u k =
     (In (place own u) k or no_write) ∷
     (place a u < k or received) ∷ []
 
-abbrev pub Tested : ℕ → List ℕ → List ℕ → ℕ → ℕ → ℕ → Test → Type 0
-Tested n a own i u k (Failed r) = FirstFails (asked_of n a own i u k) (refusal_of r)
-Tested n a own i u k Passed = AllPass (asked_of n a own i u k)
+abbrev pub Tested : ℕ → List ℕ → List ℕ → ℕ → ℕ → ℕ → Result Unit Refusal → Type 0
+Tested n a own i u k (Err r) = FirstFails (asked_of n a own i u k) (refusal_of r)
+Tested n a own i u k (Ok _) = AllPass (asked_of n a own i u k)
 
 module _ {whole : Table} {own : List ℕ} {i : ℕ} {d : Desk} (p : Placed whole own i d) where
   abbrev n : ℕ
@@ -71,6 +72,13 @@ module _ {whole : Table} {own : List ℕ} {i : ℕ} {d : Desk} (p : Placed whole
     names_are = rw ((refusal-exactly s (Deliver i u k) (refusal_of r)).1 f);
     counted = λ c q. clash (cc);
   }
+
+  -- a refusal handed on by `?`
+  pub meets_refused_on : (u k : ℕ) (r : Refusal) {y : Refusal} (names : List ℕ) (made : Result Turn Refusal) → IsErrAnd made (λ x. x ≡ y) → y ≡ r
+      → FirstFails (rows_of s (Deliver i u k)) (refusal_of r) → Meets whole d names i u k (turn_of d made) cs os names
+  meets_refused_on u k r names made h e f =
+      let q = err_from_is_err_and made h in
+      rw (q.1, q.2, e) (meets_refused u k r names f)
 
   module _ (u k : ℕ) where
     own_is : In n u → place own u ≡ written s u

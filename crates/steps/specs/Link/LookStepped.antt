@@ -1,5 +1,6 @@
 -- A step by what the machine's tests say: refused by the first that fails, or the effect.
-use Rattle.std.specs.Prelude.{◌-◌, ◌<◌, ◌≡◌}
+use Rattle.std.specs.Prelude.{◌-◌, ◌<◌, ◌≡◌, Result, Err, IsErrAnd}
+use Rattle.std.proofs.lemmas.Result.{err_from_is_err_and}
 use Rattle.laws.specs.Kit.{ℕ, refl, sym, ap, ◌∙◌, List, [], Bool, true, false, not, arith, not-true, not-false, length, set}
 use Rattle.laws.specs.{Loop.{pick}, Says.{Says, apart}}
 use Rattle.machine.specs.Answer as machine
@@ -10,7 +11,7 @@ use Rattle.clock.specs.Vectors.{places}
 use Rattle.table.specs.{declared.Desk.{Desk}, declared.Table.{Table}, Value.{desk_cells, all_cells, cell_at}, TypeShape.{DeskShape}}
 use Rattle.table.specs.{Link.OpensModel.{Unique}, Sound.{AllZero}, Model.{model_of, table_of}}
 use Rattle.reply.specs.{Meaning.{answer_of, refusal_of}, declared.Refusal.{Refusal}}
-use Rattle.steps.specs.{declared.Turn.{Turn}, Mirror.Look.{refused_turn}, Stepped.{Placed, Stepped, put_desk, put_back, table_after}}
+use Rattle.steps.specs.{declared.Turn.{Turn}, Mirror.Look.{refused_turn, turn_of}, Stepped.{Placed, Stepped, put_desk, put_back, table_after}}
 
 -- what a test of the code, `if !b`, says
 pub stops : {b p : Bool} {P : Type 0} → Says p P → b ≡ p → not b ≡ true → P → ⊥
@@ -59,6 +60,13 @@ module _ {whole : Table} {own : List ℕ} {i : ℕ} {d : Desk} (p : Placed whole
     pub refused-turn : (r : Refusal) {t : Turn} → t ≡ refused_turn d r → FirstFails (rows_of (model_of whole) a) (refusal_of r)
         → Stepped whole i d a t.desk whole.cells whole.opens (answer_of t.answer [])
     refused-turn r e f = rw e (refused-stepped (refusal_of r) f)
+
+    -- a refusal handed on by `?`
+    pub refused_on : (r : Refusal) {y : Refusal} (made : Result Turn Refusal) → IsErrAnd made (λ x. x ≡ y) → y ≡ r → FirstFails (rows_of (model_of whole) a) (refusal_of r)
+        → Stepped whole i d a (turn_of d made).desk whole.cells whole.opens (answer_of (turn_of d made).answer [])
+    refused_on r made h e f =
+        let q = err_from_is_err_and made h in
+        refused-turn r (ap (turn_of d) (q.1 ∙ ap Err (q.2 ∙ e))) f
 
     -- every test has passed, and the model becomes what the effect says
     pub taken-stepped : {d' : Desk} {cs' os' : List ℕ} {answer : machine.Answer} → In n i → AllPass (rows_of (model_of whole) a)

@@ -1,5 +1,5 @@
 -- The write as values is the machine's write.
-use Rattle.std.specs.Prelude.{◌+◌, ◌-◌, ◌<◌, ◌≤◌, ◌≡◌}
+use Rattle.std.specs.Prelude.{◌+◌, ◌-◌, ◌<◌, ◌≤◌, ◌≡◌, Option, Some, None, Ok}
 use Rattle.laws.specs.Kit.{ℕ, zero, suc, refl, sym, ap, ◌∙◌, fun_ext, List, [], none, some, arith, add-one, lt-ltb}
 use Rattle.laws.specs.{Kit.{ne_eqb, eqb, length, set, replicate, length-set, length-replicate}, All.{all_true}, Update.{upd, upd_same}}
 use Rattle.laws.specs.{Update.{upd2, upd2-is, same_or}, Loop.{cases}}
@@ -14,7 +14,7 @@ use Rattle.table.specs.{Value.{cell_at_put, cell_at-other}, EntryNames.{entry_nu
 use Rattle.table.specs.{Model.{applied_put, clock_put, cell_put, model_of}, Link.OpensModel.{Unique, opens_store, unique_store}}
 use Rattle.table.specs.Sound.{AllZero}
 use Rattle.reply.specs.Meaning.{answer_of}
-use Rattle.steps.specs.{declared.write.Spot.{Spot}, declared.write.Spot.TheVariants.{Entry, Alone, Full}, Stepped.{Placed, Stepped}}
+use Rattle.steps.specs.Stepped.{Placed, Stepped}
 use Rattle.steps.specs.Link.LookStepped.{in_places, in_cells, in_desks, desk-shape, taken-stepped}
 use Rattle.steps.specs.{Link.Look.{clock-start, counts_start}, Mirror.Write.{Spotted, new_marks, enter_at, wrote_desk, wrote_cell}}
 use Rattle.steps.specs.{Mirror.Write.{wrote_open, wrote_turn}, OpenCount.{free_few}}
@@ -120,29 +120,27 @@ module _ {whole : Table} {own : List ℕ} {i : ℕ} {d : Desk} (p : Placed whole
           let t = all_true (λ k. eqb (done_here.marks k) states.done) n 1 (λ k a b. let q : k ≡ i = omega (arith, hi) in rw (q, upd_same (λ (k : ℕ). states.away) i states.done)) in
           rw (t, still_open)
 
-      opens-new : (s : Spot) → Spotted n os s → (s ≡ Full → ⊥) → (opens_m (enter_at os s (wrote_open d i x v)) ≡ upd2 (opens_m os) i (next_number (model_of whole) i) (still_open n done_here)) × (Unique (enter_at os s (wrote_open d i x v)))
-      opens-new (Entry e) h ne =
+      opens-new : (s : Option ℕ) → Spotted n os (Ok s) → (opens_m (enter_at os s (wrote_open d i x v)) ≡ upd2 (opens_m os) i (next_number (model_of whole) i) (still_open n done_here)) × (Unique (enter_at os s (wrote_open d i x v)))
+      opens-new (Some e) h =
           let o = wrote_open d i x v in
           let inuse = ne_eqb i 0 (λ q. (omega (arith, hi.0))) in
           let fresh : opens_m os o.writer (entry_number o) ≡ none = rw name_new (new-number i p.sound.rules.frame) in (
             opens_store os e o h.1.0 p.opens_size full-new h.1.1 inuse fresh ∙ rw (name_new, open-new, stays_open h.0),
             unique_store os e o h.1.0 p.opens_size full-new h.1.1 inuse fresh p.sound.unique,
           )
-      opens-new Alone h ne =
+      opens-new None h =
           let new = new-number i p.sound.rules.frame in
           (rw (goes_alone h) (upd2-is (opens_m os) i (next_number (model_of whole) i) none (opens_m os) new (λ j y nj. refl)), p.sound.unique)
-      opens-new Full h ne = absurd (ne refl)
 
-      few_open : (s : Spot) → Spotted n os s → (s ≡ Full → ⊥) → open_count (model_of whole) < states.most_open
-      few_open (Entry e) h ne = free_few p.sound e h.1.0 h.1.1
-      few_open Alone h ne = omega (arith, alone_none_open p.sound.rules h)
-      few_open Full h ne = absurd (ne refl)
+      few_open : (s : Option ℕ) → Spotted n os (Ok s) → open_count (model_of whole) < states.most_open
+      few_open (Some e) h = free_few p.sound e h.1.0 h.1.1
+      few_open None h = omega (arith, alone_none_open p.sound.rules h)
 
-      pub write-stepped : (s : Spot) → v ≤ states.most_status → Spotted n os s → (s ≡ Full → ⊥)
+      pub write-stepped : (s : Option ℕ) → v ≤ states.most_status → Spotted n os (Ok s)
           → Stepped whole i d (Write i x v) (wrote_desk d i) (put_cell cs (slot i x) (wrote_cell d i v)) (enter_at os s (wrote_open d i x v)) (answer_of (wrote_turn d i).answer [])
-      write-stepped s hv h ne =
-          let o = opens-new s h ne in
-          taken-stepped p (Write i x v) hi (hi, (hx, (hv, (rw written_start hw, (few_open s h ne, tt)))))
+      write-stepped s hv h =
+          let o = opens-new s h in
+          taken-stepped p (Write i x v) hi (hi, (hx, (hv, (rw written_start hw, (few_open s h, tt)))))
           (ap (λ (k : ℕ). machine.wrote (states.name i k)) (sym number-new))
           (λ j. record { setup = (model_of whole).setup; applied = applied-new j; clock = clock-new j; cell = cell-new j; opens = o.0 j })
           blanks-new o.1

@@ -4,8 +4,8 @@ use Rattle.table.proofs.begin.Goals as goal
 
 pub returns-then-begins : goal.returns-then-begins
 returns-then-begins c = let g = c.args in
-    rw c.fresh-t.ensures (begins-yes g.n g.m (sym c.begins.ensures ∙ c.if-begins.true))
+    rw c.fresh.ensures (begins-yes g.n g.m (sym c.begins.ensures ∙ c.if-begins.true))
 
-pub returns : goal.returns
-returns c = let g = c.args in
-    rw c.fresh-none.ensures (begins-no g.n g.m (sym c.begins.ensures ∙ c.if-begins.false))
+pub returns-else-begins : goal.returns-else-begins
+returns-else-begins c = let g = c.args in
+    begins-no g.n g.m (sym c.begins.ensures ∙ c.if-begins.false)

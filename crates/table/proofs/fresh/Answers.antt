@@ -3,4 +3,4 @@ use Rattle.table.proofs.fresh.Goals as goal
 
 pub returns : goal.returns
 unfolding fresh_table
-returns c = rw c.fresh_core-core.ensures
+returns c = rw c.fresh_core.ensures

@@ -1,15 +1,16 @@
 use Rattle.std.proofs.Common.{rules}
-use Rattle.laws.specs.Kit.{sym, ap, ◌∙◌, eqb, ℕ}
+use Rattle.laws.specs.Kit.{sym, ap, ◌∙◌, eqb, ℕ, ne_eqb}
 use Rattle.table.specs.{Value.{open_at}, EntryNames.{other-writer, same_writer}}
 use Rattle.table.proofs.holds.Goals as goal
 
-pub returns-then-w-u : goal.returns-then-w-u
-returns-then-w-u c = let g = c.args in
-    let w = sym c.writer_at.ensures in
-    sym (other-writer (open_at g.opens.now g.e) g.u g.k (λ q. c.if-w-u.true (c.wide-w.ensures.0 ∙ sym w ∙ q)))
-
-pub returns : goal.returns
-returns c = let g = c.args in
-    let w = c.wide-w.ensures.0 ∙ c.writer_at.ensures in
+pub returns-then-from-u : goal.returns-then-from-u
+returns-then-from-u c = let g = c.args in
+    let w = c.from.ensures ∙ c.writer_at.ensures in
     ap (λ (x : ℕ). eqb x g.k) c.place_at.ensures
-    ∙ sym (same_writer (open_at g.opens.now g.e) g.u g.k (search rules) (sym w ∙ c.if-w-u.false))
+    ∙ sym (same_writer (open_at g.opens.now g.e) g.u g.k (search rules) (sym w ∙ c.if-from-u.true))
+
+pub returns-else-from-u : goal.returns-else-from-u
+returns-else-from-u c = let g = c.args in
+    let w = c.from.ensures ∙ c.writer_at.ensures in
+    ne_eqb c.from.result g.u c.if-from-u.false
+    ∙ sym (other-writer (open_at g.opens.now g.e) g.u g.k (λ q. c.if-from-u.false (w ∙ q)))

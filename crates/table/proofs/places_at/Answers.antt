@@ -1,13 +1,9 @@
 use Rattle.std.proofs.Common.{rules}
-use Rattle.laws.specs.{Tab.{filled_start, filled_more, filled_end}, Rows.{numbers_from}}
+use Rattle.std.specs.Prelude.{◌+◌}
+use Rattle.laws.specs.{Kit.{get_or}, Rows.{numbers_from}}
+use Rattle.laws.specs.Chains.{tab_of_from_fn}
 use Rattle.table.proofs.places_at.Goals as goal
-
-pub loop-t-init : goal.loop-t-init
-loop-t-init c = filled_start (search rules)
-
-pub loop-t-preserved : goal.loop-t-preserved
-loop-t-preserved c = filled_more 0 c.loop-t.invariant (search rules)
 
 pub returns : goal.returns
 unfolding numbers_from
-returns c = filled_end c.loop-t.invariant (search rules)
+returns c = tab_of_from_fn 0 (λ t. get_or c.args.l.now (c.args.at + t) 0) c.from_fn.ensures.items (λ t x q l h. search rules)

@@ -1,4 +1,4 @@
-use Rattle.laws.specs.Kit.{◌∙◌, length-set}
+use Rattle.laws.specs.Kit.{◌∙◌, arith}
 use Rattle.table.specs.Value.{put_cell-steps}
 use Rattle.table.proofs.put_cell.Goals as goal
 
@@ -7,5 +7,5 @@ returns c = let g = c.args in
     record {
       is = c.put_places.ensures.l_after ∙ put_cell-steps g.cells.now g.s g.c;
       full = record { vector = c.put_places.ensures.v_len };
-      size = simp length-set at c.put_places-arg-1.given.0.1;
+      size = omega arith;
     }

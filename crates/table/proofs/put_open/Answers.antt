@@ -1,5 +1,5 @@
 use Rattle.std.specs.Prelude.{◌+◌, ◌*◌}
-use Rattle.laws.specs.Kit.{ap, ◌∙◌, ℕ, List, length-set, sets}
+use Rattle.laws.specs.Kit.{ap, ◌∙◌, ℕ, List, arith, sets}
 use Rattle.table.specs.Value.{open_width, marks_from, put_open-steps}
 use Rattle.table.proofs.put_open.Goals as goal
 
@@ -10,5 +10,5 @@ returns c = let g = c.args in
     record {
       is = b.l_after ∙ ap (λ (l : List ℕ). sets l (g.e * open_width + marks_from) g.o.marks) a.l_after ∙ put_open-steps g.opens.now g.e g.o a.v_len;
       full = record { vector = a.v_len; marks = b.v_len };
-      size = simp length-set at c.put_places-arg-1.given.0.1;
+      size = omega arith;
     }

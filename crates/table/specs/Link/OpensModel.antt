@@ -1,12 +1,13 @@
 -- Open writes: no name stands in two entries, and then a store into an entry is an update of the model at one name.
 use Rattle.std.specs.Prelude.{◌-◌, ◌*◌, ◌<◌, ◌≡◌}
+use Rattle.std.specs.Prelude as std
 use Rattle.laws.specs.Kit.{ℕ, suc, refl, sym, ap, ◌∙◌, List, Option, none, some, true, false, arith, length, set}
 use Rattle.laws.specs.{Loop.{pick, cases}, Says.{apart}, Update.{upd2, upd2_again, upd2-is, same_or}, Find.{Alone, first-none, first-same}}
 use Rattle.laws.specs.Find.{first-other, first-at, first-is, first-not}
 use Rattle.clock.specs.Vectors.{places, place, place_set}
 use Rattle.machine.specs.Table as machine
 use Rattle.machine.specs.{Steps.{mark}, Rules.{In}}
-use Rattle.table.specs.{declared.Open.{Open}, declared.Found.{Found}, declared.Found.TheVariants.{Nothing}, Value.{entries}}
+use Rattle.table.specs.{declared.Open.{Open}, Value.{entries}}
 use Rattle.table.specs.Value.{open_width, open0, open_at, put_open, put_mark, free_entry, entries_of, marked, emptied, is_free, FullOpen}
 use Rattle.table.specs.Value.{full-open_at, length-put_mark, get_or-entries_of, length-entries_of, open_at-stored, open_at-kept}
 use Rattle.table.specs.{Value.{entries_of_put, entries_of-mark, entries_of_free}, EntryNames.{entry_number, named, named_at, FoundIn}}
@@ -63,8 +64,8 @@ opens-some l u k w f =
     record { at = r.at; small = b; holds = rw (get_or-entries_of l r.at b) at r.passes; is = r.is ∙ ap open_m (get_or-entries_of l r.at b) }
 
 -- what a search by name finds is what the model has under the name
-pub found_none : (l : List ℕ) (u k : ℕ) (r : Found) → FoundIn (named_at l u k) r → r ≡ Nothing → opens_m l u k ≡ none
-found_none l u k r f p = let g : FoundIn (named_at l u k) Nothing = rw p at f in opens-none l u k g
+pub found_none : (l : List ℕ) (u k : ℕ) (r : std.Option ℕ) → FoundIn (named_at l u k) r → r ≡ std.None → opens_m l u k ≡ none
+found_none l u k r f p = let g : FoundIn (named_at l u k) std.None = rw p at f in opens-none l u k g
 
 -- a store into entry e: m has o there, and all else as l --
 

@@ -1,51 +1,38 @@
-use Rattle.std.proofs.Common.{rules}
-use Rattle.std.specs.Prelude.{◌+◌, ◌/◌, ◌%◌, ◌≤◌, ◌<◌, ◌≡◌, ◌∷◌}
-use Rattle.laws.specs.Kit.{ℕ, refl, sym, ap, ◌∙◌, List, [], arith, length, set, length-set, sets}
-use Rattle.laws.specs.Stores.{sets_last}
+use Rattle.std.specs.Prelude.{◌+◌, ◌-◌, ◌/◌, ◌%◌, ◌<◌, ◌≡◌, ◌∷◌}
+use Rattle.laws.specs.Kit.{ℕ, sym, ap, ◌∙◌, List, [], arith, length, set, sets, ltb, lt-ltb, le-ltb, ltb-true, ltb-false, true, false}
+use Rattle.laws.specs.{Stores.{sets_last}, Loop.{pick, cases}}
 use Rattle.text.specs.{Number.{decimal}, Link.Decimal.{decimal-one, decimal-more, decimal_longer, decimal-some}}
 use Rattle.text.proofs.put_number.Goals as goal
 
--- a turn stores the last digit of what is left
-turn : (out : List ℕ) (at p v : ℕ) → 10 ≤ v → p + 1 ≡ at + length (decimal v) → sets (set out p (48 + v % 10)) at (decimal (v / 10)) ≡ sets out at (decimal v)
-turn out at p v h e =
-    let q : p ≡ at + length (decimal (v / 10)) = omega (arith, decimal_longer v h) in
-    rw (decimal-more v h, q) (sym (sets_last (decimal (v / 10)) out at (48 + v % 10)))
+-- the digits of n that are left at p, of a number that begins at `at`
+abbrev digits_left : ℕ → ℕ → ℕ → List ℕ
+digits_left at p n = pick (ltb at p) (decimal n) []
 
--- one digit is left
-last : (out : List ℕ) (at p v : ℕ) → v < 10 → p + 1 ≡ at + length (decimal v) → set out p (48 + v) ≡ sets out at (decimal v)
-last out at p v h e =
-    let d : decimal v ≡ (48 + v) ∷ [] = decimal-one v h in
+-- a turn stores the last of them
+record Turn (out : List ℕ) (at p n : ℕ) : Type 0 where
+  place : p ≡ at + length (digits_left at p (n / 10))
+  same : sets (set out p (48 + n % 10)) at (digits_left at p (n / 10)) ≡ sets out at (decimal n)
+
+turn : (out : List ℕ) (at p n : ℕ) → p + 1 ≡ at + length (decimal n) → Turn out at p n
+turn out at p n e =
+    cases (ltb n 10)
+    (λ t. let l = ltb-true n 10 t in
+    let d : decimal n ≡ (48 + n) ∷ [] = decimal-one n l in
     let q : p ≡ at = omega (arith, ap length d) in
-    rw (d, q)
+    let m : n % 10 ≡ n = omega arith in
+    let z : ltb at at ≡ false = le-ltb at at (omega arith) in
+    rw q record { place = rw z (omega arith); same = rw (z, d, m) })
+    (λ t. let l = ltb-false n 10 t in
+    let q : p ≡ at + length (decimal (n / 10)) = omega (arith, decimal_longer n l) in
+    let z : ltb at p ≡ true = lt-ltb at p (omega (arith, decimal-some (n / 10))) in
+    record { place = rw z q; same = rw (z, decimal-more n l, q) (sym (sets_last (decimal (n / 10)) out at (48 + n % 10))) })
 
-pub overflow_sub-p : goal.overflow_sub-p
-overflow_sub-p c = omega (arith, decimal-some c.args.k)
-
-pub loop-v-init : goal.loop-v-init
-loop-v-init c = let o = decimal-some c.args.k in (omega arith, (omega arith, (refl, refl)))
-
-pub overflow_sub-p-in-loop-v : goal.overflow_sub-p-in-loop-v
-overflow_sub-p-in-loop-v c = let L = c.loop-v in omega (arith, decimal_longer L.v (search rules), decimal-some (L.v / 10))
-
-pub loop-v-preserved : goal.loop-v-preserved
-loop-v-preserved c = let L = c.loop-v in
-    let h : 10 ≤ L.v = search rules in
-    let l = decimal_longer L.v h in
-    let o = decimal-some (L.v / 10) in (
-      omega arith,
-      (
-        omega arith,
-        (
-          length-set L.out L.p c.digit.result ∙ L.invariant.1.1.0,
-          rw c.digit.ensures (turn L.out c.args.at L.p L.v h L.invariant.0 ∙ L.invariant.1.1.1),
-        ),
-      ),
-    )
-
-pub returns : goal.returns
-returns c = let L = c.loop-v in
-    record {
-      stored =
-          rw c.digit-2.ensures (last L.out c.args.at L.p L.v (search rules) L.invariant.0 ∙ L.invariant.1.1.1);
-      behind = search rules;
-    }
+pub loop-p-preserved : goal.loop-p-preserved
+loop-p-preserved c =
+    let L = c.loop-p in
+    let h : c.args.at < L.p = c.loop-p-test.true in
+    let z : ltb c.args.at L.p ≡ true = lt-ltb _ _ h in
+    let i = rw z at L.invariant.place in
+    let j = rw z at L.invariant.same in
+    let w = turn L.out c.args.at (L.p - 1) L.left (omega (arith, i)) in
+    record { place = w.place; same = w.same ∙ j }

@@ -1,11 +1,11 @@
--- What is left, in place of the digits to come, makes the whole number.
-use Rattle.std.specs.Prelude.{◌+◌, ◌<◌, ◌≡◌}
-use Rattle.laws.specs.Kit.{length, sets}
+-- The digits that are left, in place of those to come, make the whole number.
+use Rattle.std.specs.Prelude.{◌+◌, ◌≡◌}
+use Rattle.laws.specs.{Kit.{length, sets, [], ltb}, Loop.{pick}}
 use Rattle.text.specs.{Number.{decimal}}
 use Rattle.text.proofs.put_number.Given as goal
 
-abbrev pub invariant-loop-v : goal.invariant-loop-v
-invariant-loop-v l = (l.p + 1 ≡ l.at + length (decimal l.v)) × ((l.p < length l.initial.out) × ((length l.out ≡ length l.initial.out) × (sets l.out l.at (decimal l.v) ≡ sets l.initial.out l.at (decimal l.k))))
-
-abbrev pub decreases-loop-v : goal.decreases-loop-v
-decreases-loop-v l = l.v
+abbrev pub invariant-loop-p : goal.invariant-loop-p
+invariant-loop-p l = record {
+  place : l.p ≡ l.at + length (pick (ltb l.at l.p) (decimal l.left) []);
+  same : sets l.out l.at (pick (ltb l.at l.p) (decimal l.left) []) ≡ sets l.initial.out l.at (decimal l.k);
+}

@@ -1,14 +1,13 @@
-use Rattle.std.proofs.Common.{rules}
 use Rattle.std.specs.Prelude.{◌+◌, ◌-◌}
-use Rattle.laws.specs.{Kit.{sym, ◌∙◌, none, some, arith, get_or, set}, Loop.{scan_end, scan-here}}
-use Rattle.laws.specs.Loop.{scan-next}
+use Rattle.laws.specs.{Kit.{refl, sym, ◌∙◌, none, some, arith, get_or, set}, Loop.{scan_end, scan-here, scan-next}}
 use Rattle.machine.specs.Table.{State, most_open}
 use Rattle.table.specs.{Value.{open_at}, Model.{open_m}}
 use Rattle.steps.specs.Link.Cascade.{midst, from, due-at, due-not, Running, NextReady, Gone, going-starts}
-use Rattle.steps.specs.{Link.Cascade.{going_safe, going-turn, gone_ends, gone_on}, Link.CascadeSearch.{Yields, yields_at}}
+use Rattle.steps.specs.{Link.Cascade.{going_safe, going-turn, gone_ends, gone_on}, Link.CascadeSearch.{Yields, scan-whole, yields_at}}
 use Rattle.steps.specs.Link.CascadeSearch.{yields_none}
 use Rattle.steps.proofs.deliver.cascade.Goals as goal
-use Rattle.steps.proofs.deliver.cascade.Goals.{After-put_name, Joined-n-t, then-n-t, else-n-t+in-At}
+use Rattle.steps.proofs.deliver.cascade.Goals.{After-put_name, Left-loop-t}
+use Rattle.steps.proofs.deliver.cascade.Goals.{then-loop-t-test+in-Some, else-loop-t-test, then-loop-t-test+in_default+else-t-n}
 
 -- a turn, for every state that the values are a part of
 gone : (c : goal.After-put_name)
@@ -16,54 +15,54 @@ gone : (c : goal.After-put_name)
     let g = c.args in
     (b : State) → Running b g.n g.i g.c g.own g.cells.now g.opens.now → NextReady g.n g.c g.opens.now g.u g.e
     → Gone (from most_open (midst b g.i g.c g.cells.now g.opens.now) g.i g.u (open_m (open_at g.opens.now g.e)))
-    b g.n g.i (set A.a (A.w - 1) (get_or A.a (A.w - 1) 0 + 1)) g.own c.apply_at.new.cells c.apply_at.new.opens
+    b g.n g.i (set A.counts (A.writer - 1) (get_or A.counts (A.writer - 1) 0 + 1)) g.own c.apply_at.new.cells c.apply_at.new.opens
     g.names.now c.put_name.new.names (A.len + 1))
-gone c b r d =
-    going-turn (c.apply.invariant.1 b r d) c.small.ensures
-    c.apply_at.ensures
-    c.put_name.ensures
+gone c b r d = going-turn (c.apply.invariant.1 b r d) refl c.apply_at.ensures c.put_name.ensures
 
 -- what the search yields: the first writer with a write that is due, and its entry
-yields : (c : goal.Joined-n-t)
+yields : (c : goal.Left-loop-t)
     → (let A = c.apply in
     let g = c.args in
-    let a = set A.a (A.w - 1) (get_or A.a (A.w - 1) 0 + 1) in
-    Yields g.n g.i a g.own c.apply_at.new.opens c.if-n-t.found)
+    let a = set A.counts (A.writer - 1) (get_or A.counts (A.writer - 1) 0 + 1) in
+    Yields g.n g.i a g.own c.apply_at.new.opens c.loop-t-test.found)
 yields c =
-    let s = c.search in
+    let s = c.loop-t in
     let n = c.args.n in
-    elim c.if-n-t.branch [
-      | then-n-t w ↦ rw w.found-is (sym s.invariant.0 ∙ scan_end _ some none (n + 1) s.t (omega (arith, w.if-n-t.true)))
-      | else-n-t+in-At w ↦ (let d = due-at _ _ _ _ _ w.due_of.result _ w.due_of.ensures w.in-At.is in
-          rw w.found-is (s.invariant.1.0, w.if-n-t.false, sym s.invariant.0 ∙ scan-here _ some none (n + 1) s.t (omega (arith, w.if-n-t.false)) d.is_due, d))
+    elim c.loop-t-test.branch [
+      | then-loop-t-test+in-Some w ↦ (let d = due-at _ _ _ _ _ w.due_of.result _ w.due_of.ensures w.in-Some.is in
+          rw w.found-is (omega arith, w.loop-t-test.true, sym s.invariant ∙ scan-here _ some none (n + 1) s.t (omega arith) d.is_due, d))
+      | else-loop-t-test w ↦ rw w.found-is (sym s.invariant ∙ scan_end _ some none (n + 1) s.t (omega arith))
+      | then-loop-t-test+in_default+else-t-n w ↦ (let d = due-not _ _ _ _ _ w.due_of.result w.due_of.ensures w.in_default.is in
+          rw w.found-is (sym s.invariant ∙ scan-next _ some none (n + 1) s.t (omega arith) d ∙ scan_end _ some none (n + 1) (s.t + 1) (omega arith)))
     ]
 
 pub apply-init : goal.apply-init
 apply-init c =
     let p = c.requires in (going_safe (going-starts c.args.names.now p.1 p.2), λ b r d. going-starts c.args.names.now r d)
 
+pub loop-t-init : goal.loop-t-init
+loop-t-init c = scan-whole _ _
+
 pub due_of-requires : goal.due_of-requires
 due_of-requires c =
     let p = c.requires in
     let h = c.apply.invariant.0 in
-    (h.desk, ((c.search.invariant.1.0, omega (arith, c.if-n-t.false, h.count)), (gone (goal.at.due_of-requires c).After-put_name p.0 p.1 p.2).now.unique))
+    (h.desk, ((omega arith, omega (arith, c.loop-t-test.true, h.count)), (gone (goal.at.due_of-requires c).After-put_name p.0 p.1 p.2).now.unique))
 
-pub search-preserved : goal.search-preserved
-search-preserved c =
-    let L = c.search in
+pub loop-t-preserved : goal.loop-t-preserved
+loop-t-preserved c =
+    let L = c.loop-t in
     let n = c.args.n in
-    let h = c.if-n-t.false in (
-      sym (scan-next _ some none (n + 1) L.t (omega arith) (due-not _ _ _ _ L.t c.due_of.result c.due_of.ensures c.in_default.is)) ∙ L.invariant.0,
-      (search rules, omega arith),
-    )
+    let h = c.loop-t-test.true in
+    sym (scan-next _ some none (n + 1) L.t (omega arith) (due-not _ _ _ _ L.t c.due_of.result c.due_of.ensures c.in_default.is)) ∙ L.invariant
 
 pub apply-preserved : goal.apply-preserved
 apply-preserved c =
-    let y = yields_at _ _ _ _ _ c.if-n-t.found (yields (goal.at.apply-preserved c).Joined-n-t) c.in-At-found.is in
+    let y = yields_at _ _ _ _ _ c.loop-t-test.found (yields (goal.at.apply-preserved c).Left-loop-t) c.in-Some-found.is in
     let p = c.requires in
     let s = going_safe (gone_on (gone (goal.at.apply-preserved c).After-put_name p.0 p.1 p.2) (y.0, y.1) y.2 y.3) in
     (s, λ b r d. gone_on (gone (goal.at.apply-preserved c).After-put_name b r d) (y.0, y.1) y.2 y.3)
 
 pub returns : goal.returns
 returns c b r d =
-    gone_ends (gone (goal.at.returns c).After-put_name b r d) (yields_none _ _ _ _ _ c.if-n-t.found (yields (goal.at.returns c).Joined-n-t) c.in_default-found.is)
+    gone_ends (gone (goal.at.returns c).After-put_name b r d) (yields_none _ _ _ _ _ c.loop-t-test.found (yields (goal.at.returns c).Left-loop-t) c.in_default-found.is)

@@ -1,19 +1,19 @@
 use Rattle.std.specs.Prelude.{◌<◌, ◌≡◌, ◌&&◌}
 use Rattle.laws.specs.Kit.{ℕ, suc, sym, ap, subst, ◌∙◌, true, arith, add-one, eq-eqb, ne_eqb, eqb}
+use Rattle.laws.specs.Loop.{cases}
 use Rattle.machine.specs.Table.{held}
 use Rattle.clock.specs.{Vectors.{place, place_at}, Readiness.{ready_at}}
 use Rattle.table.specs.{Value.{entries, open_at}, EntryNames.{named_at, FoundIn, found_at}, Link.OpensModel.{found_none}}
 use Rattle.steps.specs.Link.Cascade.{due_in, due_late, due-none, due-held}
 use Rattle.steps.proofs.deliver.due_of.Goals as goal
-use Rattle.steps.proofs.deliver.due_of.Goals.{After-find, After-mark_at, After-ready, In-At}
+use Rattle.steps.proofs.deliver.due_of.Goals.{After-find, After-mark_at, In-At}
 
 -- what the search by name finds is the writer's next write
 found : (c : goal.After-find) → (let g = c.args in FoundIn (named_at g.opens.now g.u (suc (place g.a g.u))) c.find.result)
 found c =
     let g = c.args in
-    let p = c.requires in
     subst (λ (k : ℕ). FoundIn (named_at g.opens.now g.u k) c.find.result)
-    (c.one_more.ensures ∙ add-one _ ∙ ap suc (sym (place_at g.a g.u p.1.0.0)))
+    (add-one _ ∙ ap suc (sym (place_at g.a g.u c.requires.1.0.0)))
     c.find.ensures
 
 entry : (c : goal.In-At) → (let g = c.args in FoundIn (named_at g.opens.now g.u (suc (place g.a g.u))) c.find.result
@@ -28,20 +28,15 @@ due : (c : goal.After-mark_at)
 due c h =
     let g = c.args in
     let p = c.requires in
-    let l : place g.a g.u < place g.own g.u = omega (arith, place_at g.a g.u p.1.0.0, place_at g.own g.u p.1.0.0, c.if-most-k.false) in
+    let l : place g.a g.u < place g.own g.u = omega (arith, place_at g.a g.u p.1.0.0, place_at g.own g.u p.1.0.0, c.if-own-u.false) in
     due-held g.a g.own g.opens.now g.i g.u _ c.mark_at.result p.0.0 l p.1.1 h.0 h.1
     c.mark_at.ensures
 
-ready-is : (c : goal.After-ready)
-    → (let g = c.args in
-    c.ready.result ≡ ready_at g.a (open_at g.opens.now c.in-At.e).vector g.u)
-ready-is c = c.ready.ensures ∙ rw c.vector_at-v.ensures
-
-pub returns-then-most-k : goal.returns-then-most-k
-returns-then-most-k c =
+pub returns-then-own-u : goal.returns-then-own-u
+returns-then-own-u c =
     let g = c.args in
     let h = c.requires.1.0.0 in
-    due_late g.a g.own g.opens.now g.i g.u (omega (arith, place_at g.a g.u h, place_at g.own g.u h, c.if-most-k.true))
+    due_late g.a g.own g.opens.now g.i g.u (omega (arith, place_at g.a g.u h, place_at g.own g.u h, c.if-own-u.true))
 
 pub returns-in_default : goal.returns-in_default
 returns-in_default c =
@@ -53,20 +48,12 @@ returns-then-mark_at-ne-HELD c =
     let w = goal.at.returns-then-mark_at-ne-HELD c in
     due w.After-mark_at (entry w.In-At (found w.After-find)) ∙ rw (ne_eqb _ _ c.if-mark_at-ne-HELD.true)
 
-pub returns-then-ready : goal.returns-then-ready
-returns-then-ready c =
-    let w = goal.at.returns-then-ready c in
-    let h = entry w.In-At (found w.After-find) in
-    let r = sym (ready-is w.After-ready) ∙ c.if-ready.true in
-    record {
-      is_due = due w.After-mark_at h ∙ rw (eq-eqb _ _ c.if-mark_at-ne-HELD.false) r;
-      small = h.0;
-      holds = h.1;
-      is_ready = r;
-    }
-
 pub returns : goal.returns
 returns c =
     let w = goal.at.returns c in
-    due w.After-mark_at (entry w.In-At (found w.After-find))
-    ∙ rw (eq-eqb _ _ c.if-mark_at-ne-HELD.false) (sym (ready-is w.After-ready) ∙ c.if-ready.false)
+    let h = entry w.In-At (found w.After-find) in
+    let r = c.ready.ensures ∙ rw c.vector_at.ensures in
+    let d = due w.After-mark_at h ∙ rw (eq-eqb _ _ c.if-mark_at-ne-HELD.false) (sym r) in
+    rw c.then_some.ensures (cases c.ready.result
+    (λ t. rw t (record { is_due = d ∙ t; small = h.0; holds = h.1; is_ready = sym r ∙ t }))
+    (λ t. rw t (d ∙ t)))

@@ -10,14 +10,14 @@ ready-is : (c : goal.After-ready)
     → (let g = c.args in c.ready.result ≡ ready_at g.d.applied (open_at g.opens.now g.e).vector g.u)
 ready-is c = c.ready.ensures ∙ rw c.vector_at-v.ensures
 
-pub cascade-r-requires : goal.cascade-r-requires
-cascade-r-requires c =
+pub cascade-len-requires : goal.cascade-len-requires
+cascade-len-requires c =
     let p = c.requires in
-    (p.0, p.2.running, next_of_arrival p.2 (sym (ready-is (goal.at.cascade-r-requires c).After-ready) ∙ c.if-ready.true))
+    (p.0, p.2.running, next_of_arrival p.2 (sym (ready-is (goal.at.cascade-len-requires c).After-ready) ∙ c.if-ready.true))
 
 pub returns-then-ready : goal.returns-then-ready
 returns-then-ready c b k r =
-    received-ready c.args.d r (sym (ready-is (goal.at.returns-then-ready c).After-ready) ∙ c.if-ready.true) c.cascade-r.ensures
+    received-ready c.args.d r (sym (ready-is (goal.at.returns-then-ready c).After-ready) ∙ c.if-ready.true) c.cascade-len.ensures
 
 pub waits_for-requires : goal.waits_for-requires
 waits_for-requires c =

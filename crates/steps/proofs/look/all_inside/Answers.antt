@@ -1,18 +1,20 @@
 use Rattle.std.proofs.Common.{rules}
-use Rattle.laws.specs.{Kit.{sym, ◌∙◌}, Lists.{every-left, every_stop}}
-use Rattle.laws.specs.Lists.{every_end}
+use borrow.Author.Tests.{tests}
+use Rattle.std.specs.List.{list_all}
+use Rattle.std.proofs.lemmas.Iterator.{YieldsList-from_slice}
+use Rattle.std.proofs.lemmas.Iterator.Search.{all_from_yields_List}
+use Rattle.std.specs.Prelude.{◌≡◌, ◌∷◌}
+use Rattle.laws.specs.{Kit.{refl, ◌∙◌, List, [], Bool}, Lists.{every}, Loop.{cases}}
 use Rattle.machine.specs.Steps.{within}
 use Rattle.steps.proofs.look.all_inside.Goals as goal
 
-pub returns-then-not-inside : goal.returns-then-not-inside
-returns-then-not-inside c = let L = c.loop-j in
-    let a = c.args in
-    every_stop (within a.m) a.list.now L.j 0 L.invariant.1 (search rules) (rw (← c.wide.ensures.0) (sym c.inside.ensures ∙ c.if-not-inside.true))
-
-pub loop-j-preserved : goal.loop-j-preserved
-loop-j-preserved c = let L = c.loop-j in
-    let a = c.args in
-    (search rules, every-left (within a.m) a.list.now L.j 0 L.invariant.1 (search rules) (rw (← c.wide.ensures.0) (sym c.inside.ensures ∙ c.if-not-inside.false)))
+all-every : {A : Type 0} (p : A → Bool) (l : List A) → list_all p l ≡ every p l
+unfolding every
+all-every p [] = refl
+all-every p (x ∷ l) = cases (p x) (λ e. rw (e, all-every p l, every)) (λ e. rw (e, every))
 
 pub returns : goal.returns
-returns c = let a = c.args in every_end (within a.m) a.list.now c.loop-j.j c.loop-j.invariant.1 (search rules)
+returns c =
+    all_from_yields_List (within c.args.m) _ _ c.all.result c.all.ensures.ran (YieldsList-from_slice c.args.list.now cc)
+    (λ x b q k. search (rules, tests))
+    ∙ all-every (within c.args.m) c.args.list.now
