@@ -196,6 +196,7 @@ pub fn mark_at(opens: &Opens, e: usize, i: usize) -> u16
     opens[e * OPEN + (MARKS + i)]
 }
 
+#[tactic(auto, unfolding(crate::specs::Value::put_mark))]
 pub fn put_mark(opens: &mut Opens, e: usize, i: usize, k: u16)
     requires { (e < entries) × (i < places) }
     ensures { MarkPut opens.old e i k opens.new }
@@ -203,6 +204,7 @@ pub fn put_mark(opens: &mut Opens, e: usize, i: usize, k: u16)
     opens[e * OPEN + (MARKS + i)] = k;
 }
 
+#[tactic(auto, unfolding(crate::specs::Value::free_entry))]
 pub fn set_free(opens: &mut Opens, e: usize)
     requires { e < entries }
     ensures { Freed opens.old e opens.new }
@@ -222,10 +224,9 @@ pub fn all_applied(opens: &Opens, e: usize, n: usize) -> bool
 pub fn at_place(v: [u16; PLACES], u: usize) -> u16
     ensures { result ≡ place v u }
 {
-    if (1..=PLACES).contains(&u) {
-        v[u - 1]
-    } else {
-        0
+    match u {
+        1..=PLACES => v[u - 1],
+        _ => 0,
     }
 }
 
@@ -275,6 +276,7 @@ pub fn find_free(opens: &Opens, u: usize, k: u16) -> Option<usize>
 }
 
 // Every desk's counts and clock at zero.
+#[tactic(auto, unfolding(crate::specs::Beginning::fresh_table))]
 pub fn fresh_core(n: usize, m: usize) -> Core
     ensures { result ≡ (fresh_table n m).core }
 {

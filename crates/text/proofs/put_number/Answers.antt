@@ -1,38 +1,51 @@
-use Rattle.std.specs.Prelude.{◌+◌, ◌-◌, ◌/◌, ◌%◌, ◌<◌, ◌≡◌, ◌∷◌}
-use Rattle.laws.specs.Kit.{ℕ, sym, ap, ◌∙◌, List, [], arith, length, set, sets, ltb, lt-ltb, le-ltb, ltb-true, ltb-false, true, false}
-use Rattle.laws.specs.{Stores.{sets_last}, Loop.{pick, cases}}
+use Rattle.std.proofs.Common.{rules}
+use Rattle.std.specs.Prelude.{◌+◌, ◌-◌, ◌/◌, ◌%◌, ◌≤◌, ◌<◌, ◌≡◌, ◌∷◌}
+use Rattle.laws.specs.Kit.{ℕ, sym, ap, ◌∙◌, ltb, ltb-true, ltb-false, List, [], arith, length, length-sets, set, sets}
+use Rattle.laws.specs.{Stores.{sets_last}, Loop.{cases}}
 use Rattle.text.specs.{Number.{decimal}, Link.Decimal.{decimal-one, decimal-more, decimal_longer, decimal-some}}
 use Rattle.text.proofs.put_number.Goals as goal
 
--- the digits of n that are left at p, of a number that begins at `at`
-abbrev digits_left : ℕ → ℕ → ℕ → List ℕ
-digits_left at p n = pick (ltb at p) (decimal n) []
+-- two digits are left at least
+two : (n : ℕ) → 1 < length (decimal n) → 10 ≤ n
+two n h = cases (ltb n 10) (λ t. absurd (omega (arith, ap length (decimal-one n (ltb-true n 10 t))))) (λ t. ltb-false n 10 t)
 
--- a turn stores the last of them
-record Turn (out : List ℕ) (at p n : ℕ) : Type 0 where
-  place : p ≡ at + length (digits_left at p (n / 10))
-  same : sets (set out p (48 + n % 10)) at (digits_left at p (n / 10)) ≡ sets out at (decimal n)
+-- one digit is left
+one : (n : ℕ) → length (decimal n) ≡ 1 → n < 10
+one n h = cases (ltb n 10) (λ t. ltb-true n 10 t) (λ t. absurd (omega (arith, decimal_longer n (ltb-false n 10 t), decimal-some (n / 10))))
 
-turn : (out : List ℕ) (at p n : ℕ) → p + 1 ≡ at + length (decimal n) → Turn out at p n
-turn out at p n e =
-    cases (ltb n 10)
-    (λ t. let l = ltb-true n 10 t in
-    let d : decimal n ≡ (48 + n) ∷ [] = decimal-one n l in
-    let q : p ≡ at = omega (arith, ap length d) in
-    let m : n % 10 ≡ n = omega arith in
-    let z : ltb at at ≡ false = le-ltb at at (omega arith) in
-    rw q record { place = rw z (omega arith); same = rw (z, d, m) })
-    (λ t. let l = ltb-false n 10 t in
-    let q : p ≡ at + length (decimal (n / 10)) = omega (arith, decimal_longer n l) in
-    let z : ltb at p ≡ true = lt-ltb at p (omega (arith, decimal-some (n / 10))) in
-    record { place = rw z q; same = rw (z, decimal-more n l, q) (sym (sets_last (decimal (n / 10)) out at (48 + n % 10))) })
+-- a turn stores the last digit of what is left
+turn : (out : List ℕ) (at p v : ℕ) → 10 ≤ v → p + 1 ≡ at + length (decimal v) → sets (set out p (48 + v % 10)) at (decimal (v / 10)) ≡ sets out at (decimal v)
+turn out at p v h e =
+    let q : p ≡ at + length (decimal (v / 10)) = omega (arith, decimal_longer v h) in
+    rw (decimal-more v h, q) (sym (sets_last (decimal (v / 10)) out at (48 + v % 10)))
 
 pub loop-p-preserved : goal.loop-p-preserved
-loop-p-preserved c =
-    let L = c.loop-p in
-    let h : c.args.at < L.p = c.loop-p-test.true in
-    let z : ltb c.args.at L.p ≡ true = lt-ltb _ _ h in
-    let i = rw z at L.invariant.place in
-    let j = rw z at L.invariant.same in
-    let w = turn L.out c.args.at (L.p - 1) L.left (omega (arith, i)) in
-    record { place = w.place; same = w.same ∙ j }
+loop-p-preserved c = let L = c.loop-p in
+    let t : c.args.at + 1 < L.p = c.loop-p-test.true in
+    let h : 10 ≤ L.left = two L.left (omega (arith, L.invariant.place)) in
+    record {
+      place = omega (arith, L.invariant.place, decimal_longer L.left h);
+      same = turn L.out c.args.at (L.p - 1) L.left h (omega (arith, L.invariant.place)) ∙ L.invariant.same;
+    }
+
+-- after the loop
+left : (p at n : ℕ) → p ≤ at + 1 → p ≡ at + length (decimal n) → n < 10
+left p at n h e = one n (omega (arith, decimal-some n))
+
+pub overflow_cast-out-2 : goal.overflow_cast-out-2
+overflow_cast-out-2 c = let L = c.loop-p in let l = left L.p c.args.at L.left c.loop-p-test.false L.invariant.place in omega arith
+
+pub overflow_add-out-2 : goal.overflow_add-out-2
+overflow_add-out-2 c = let L = c.loop-p in let l = left L.p c.args.at L.left c.loop-p-test.false L.invariant.place in omega arith
+
+long : (l m : List ℕ) (at : ℕ) (v w : List ℕ) → sets l at v ≡ sets m at w → length l ≡ length m
+long l m at v w e = sym (length-sets l at v) ∙ (ap length e ∙ length-sets m at w)
+
+pub bounds-out-at : goal.bounds-out-at
+bounds-out-at c = let L = c.loop-p in
+    omega (arith, long L.out c.args.out.now c.args.at (decimal L.left) (decimal c.args.k) L.invariant.same, decimal-some c.args.k, c.requires)
+
+pub returns : goal.returns
+returns c = let L = c.loop-p in
+    let d : decimal L.left ≡ (48 + L.left) ∷ [] = decimal-one L.left (left L.p c.args.at L.left c.loop-p-test.false L.invariant.place) in
+    record { stored = rw d at L.invariant.same; behind = search rules }
