@@ -1,7 +1,6 @@
 -- The frame of the four steps: 13 where the table breaks the rules, else what the step given makes of the table's parts.
-use Rattle.std.specs.Prelude.{◌≡◌}
-use Rattle.laws.specs.Kit.{ℕ, List, [], ◌⊎◌, inl, inr, sym, ◌∙◌}
-use denote.{Ref.{MutBor}, Param.Members.{Once}}
+use Rattle.std.specs.{Prelude.{◌≡◌, ◌⊎◌}, Borrow.{MutBor}, Fn.{Once}}
+use Rattle.laws.specs.Kit.{ℕ, List, [], inl, inr, sym, ◌∙◌}
 use Rattle.machine.specs.Steps.{Step}
 use Rattle.reply.specs.{declared.Name.{Name}, declared.Answer.TheVariants.{Refused}, declared.Refusal.TheVariants.{Broken}, Meaning.{answer_of}}
 use Rattle.table.specs.{declared.Core.{Core}, declared.Desk.{Desk}, declared.Table.{Table}, Sound.{SoundTable}}
