@@ -3,6 +3,7 @@ use Rattle.std.specs.Prelude.{◌+◌, ◌-◌, ◌*◌, ◌≤◌, ◌≡◌, �
 use Rattle.laws.specs.Kit.{ℕ, refl, sym, ◌∙◌, List, [], Option, none, some, arith, ltb-true, ltb-false}
 use Rattle.laws.specs.{Kit.{eqb-true, eqb-false, eqb, ltb, length, get_or, take, drop, length-drop, sets, sets-eq, take_at}, Loop.{cases}}
 use Rattle.std.specs.Borrow.{Bor}
+use Rattle.std.specs.Prelude as std
 use Rattle.machine.specs.Steps.{Read, Write, Deliver, Trip}
 use Rattle.schedule.specs.{declared.Line.{Line as Answer}, Grammar.{Line, begin_line, step_line, most_bytes, one_or_more, form, line_of}}
 use Rattle.schedule.specs.{Lines.{line_at, place_in}, LineValue.{trip_cells, most_listed, numbers_of, SaidBy, value-said}}
@@ -89,5 +90,5 @@ line_small s =
 pub line-at-unique : (x : Bor (List ℕ)) (at : ℕ) (r r' : Bor (List ℕ)) → r.now ≡ line_at x.now at → r'.now ≡ line_at x.now at → r.ref_ptr ≡ place_in x at → r'.ref_ptr ≡ place_in x at → (r.now ≡ r'.now) × (r.ref_ptr ≡ r'.ref_ptr)
 line-at-unique x at r r' a b c d = (a ∙ sym b, c ∙ sym d)
 
-pub line_of_unique : (s l : List ℕ) (r r' : Answer) (l' l'' : List ℕ) → SaidBy (line_of s) r l l' → SaidBy (line_of s) r' l l'' → (r ≡ r') × (l' ≡ l'')
+pub line_of_unique : (s l : List ℕ) (r r' : std.Option Answer) (l' l'' : List ℕ) → SaidBy (line_of s) r l l' → SaidBy (line_of s) r' l l'' → (r ≡ r') × (l' ≡ l'')
 line_of_unique s l r r' l' l'' a b = (value-said a ∙ sym (value-said b), a.stored ∙ sym b.stored)

@@ -2,13 +2,12 @@
 #![tactic(auto)]
 
 ghost use Rattle.std.specs.Prelude.{◌≡◌, ◌<◌, ◌≤◌, length};
+ghost use Rattle.text.specs.Fields.{fields_at};
 ghost use Rattle.schedule.specs.Lines.{line_at, place_in};
-ghost use Rattle.schedule.specs.Grammar.{most_bytes, line_of, two, three, one_or_more};
-ghost use Rattle.schedule.specs.LineValue.{line_value, SaidBy};
-ghost use Rattle.schedule.specs.Mirror.Forms.{say_at, pairs, triples, travels, ToldLine};
+ghost use Rattle.schedule.specs.Grammar.{most_bytes, line_of, one_or_more};
+ghost use Rattle.schedule.specs.LineValue.{SaidBy};
+ghost use Rattle.schedule.specs.Mirror.Forms.{exactly, say_at, travels, ToldLine};
 ghost use Rattle.schedule.specs.Link.TripCells.{CellsTell};
-
-use text::Field;
 
 const LONGEST_LINE: usize = 128;
 
@@ -26,106 +25,94 @@ pub fn line_at(s: &[u8], at: usize) -> &[u8]
 }
 
 // What a line says. The cells of a trip stand in an array beside; here is how many.
-#[derive(Clone, Copy)]
+#[derive(Clone, Copy, Debug, PartialEq, Eq)]
 pub enum Line {
     New(usize, usize),
     Read(usize, usize),
     Write(usize, usize, usize),
     Deliver(usize, usize, usize),
     Trip(usize, usize),
-    NoStep,
 }
 
-// N n m or R i x.
-fn two(s: &[u8], begins: bool) -> Line
-    ensures { result ≡ line_value (say_at s.now 1 (two (pairs begins))) }
+// The N numbers behind the letter, where nothing else follows.
+fn numbers<const N: usize>(s: &[u8]) -> Option<[usize; N]>
+    requires { 0 < length s.now }
+    ensures { result ≡ exactly N (fields_at s.now 1) }
 {
-    let Field::Num(a, p) = text::next_field(s, 1) else {
-        return Line::NoStep;
-    };
-    let Field::Num(b, q) = text::next_field(s, p) else {
-        return Line::NoStep;
-    };
-    if q != s.len() {
-        return Line::NoStep;
+    let mut numbers = [0; N];
+    let mut at = 1;
+    for t in 0..N {
+        let Some(field) = text::next_field(s, at) else {
+            return None;
+        };
+        numbers[t] = field.value;
+        at = field.end;
     }
-    if begins {
-        return Line::New(a, b);
+    if at != s.len() {
+        return None;
     }
-    Line::Read(a, b)
+    Some(numbers)
 }
 
-// W i x v or D i u k.
-fn three(s: &[u8], writes: bool) -> Line
-    ensures { result ≡ line_value (say_at s.now 1 (three (triples writes))) }
-{
-    let Field::Num(a, p) = text::next_field(s, 1) else {
-        return Line::NoStep;
-    };
-    let Field::Num(b, q) = text::next_field(s, p) else {
-        return Line::NoStep;
-    };
-    let Field::Num(d, e) = text::next_field(s, q) else {
-        return Line::NoStep;
-    };
-    if e != s.len() {
-        return Line::NoStep;
-    }
-    if writes {
-        return Line::Write(a, b, d);
-    }
-    Line::Deliver(a, b, d)
-}
-
-// The cells of a trip, from a place to the end, and how many.
-fn trip_cells(s: &[u8], from: usize, cells: &mut [u16; LIST]) -> Field
+// The cells of a trip, from a place to the end: how many.
+fn trip_cells(s: &[u8], from: usize, cells: &mut [u16; LIST]) -> Option<usize>
     requires { length s.now ≤ most_bytes }
     ensures { CellsTell s.now from cells.old result cells.new }
 {
     let mut at = from;
-    let mut n: usize = 0;
+    let mut n = 0;
     while at < s.len() {
-        let Field::Num(x, next) = text::next_field(s, at) else {
-            return Field::Bad;
+        let Some(field) = text::next_field(s, at) else {
+            return None;
         };
-        cells[n] = x as u16;
+        cells[n] = field.value as u16;
         n += 1;
-        at = next;
+        at = field.end;
     }
-    Field::Num(n, at)
+    Some(n)
 }
 
 // T i x x ..
-fn trip(s: &[u8], cells: &mut [u16; LIST]) -> Line
+fn trip(s: &[u8], cells: &mut [u16; LIST]) -> Option<Line>
     requires { length s.now ≤ most_bytes }
     ensures { ToldLine (say_at s.now 1 (one_or_more travels)) result cells.old cells.new }
 {
-    let Field::Num(i, at) = text::next_field(s, 1) else {
-        return Line::NoStep;
+    let Some(desk) = text::next_field(s, 1) else {
+        return None;
     };
     let mut found = *cells;
-    let Field::Num(n, _) = trip_cells(s, at, &mut found) else {
-        return Line::NoStep;
+    let Some(count) = trip_cells(s, desk.end, &mut found) else {
+        return None;
     };
     *cells = found;
-    Line::Trip(i, n)
+    Some(Line::Trip(desk.value, count))
 }
 
-// What a line says, without its LF.
-pub fn line_of(s: &[u8], cells: &mut [u16; LIST]) -> Line
+// What a line says, without its LF; none: it is no step.
+pub fn line_of(s: &[u8], cells: &mut [u16; LIST]) -> Option<Line>
     ensures { SaidBy (line_of s.now) result cells.old cells.new }
 {
-    if s.len() == 0 {
-        return Line::NoStep;
-    }
     if LONGEST_LINE < s.len() {
-        return Line::NoStep;
+        return None;
     }
-    let letter = s[0];
-    match letter {
-        b'N' | b'R' => two(s, letter == b'N'),
-        b'D' | b'W' => three(s, letter == b'W'),
+    match *s.first()? {
+        b'N' => {
+            let [n, m] = numbers::<2>(s)?;
+            Some(Line::New(n, m))
+        }
+        b'R' => {
+            let [i, x] = numbers::<2>(s)?;
+            Some(Line::Read(i, x))
+        }
+        b'W' => {
+            let [i, x, v] = numbers::<3>(s)?;
+            Some(Line::Write(i, x, v))
+        }
+        b'D' => {
+            let [i, u, k] = numbers::<3>(s)?;
+            Some(Line::Deliver(i, u, k))
+        }
         b'T' => trip(s, cells),
-        _ => Line::NoStep,
+        _ => None,
     }
 }

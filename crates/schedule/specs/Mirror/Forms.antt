@@ -1,11 +1,12 @@
 -- The forms of a line over the fields that follow its letter, and the code's answer to each.
-use Rattle.std.specs.Prelude.{◌<◌, ◌≤◌, ◌≡◌, ◌∷◌, ◌⊎◌}
+use Rattle.std.specs.Prelude.{◌<◌, ◌≤◌, ◌≡◌, ◌∷◌, ◌⊎◌, Some, None, MatchOption}
+use Rattle.std.specs.Prelude as std
 use Rattle.laws.specs.Kit.{ℕ, suc, refl, ◌∙◌, List, [], inl, inr, Bool, true, false, Option, none, some, bind}
 use Rattle.laws.specs.Kit.{arith, ne_eqb, le-leb, lt-leb, ltb-true, ltb-false, eqb-true, eqb-false, eqb, ltb, length, get_or, drop}
-use Rattle.laws.specs.{Kit.{drop_of_length-le, drop-cons, drop-length, sets}, Loop.{cases}}
+use Rattle.laws.specs.{Kit.{drop_of_length-le, drop-cons, drop-length, sets}, Loop.{cases, pick}}
 use Rattle.machine.specs.Steps.{Read, Write, Deliver, Trip}
 use Rattle.machine.proofs.Ready.{option_all}
-use Rattle.schedule.specs.{declared.Line.{Line as Answer}, declared.Line.TheVariants.{NoStep}, Grammar.{Line, begin_line, step_line}}
+use Rattle.schedule.specs.{declared.Line.{Line as Answer}, Grammar.{Line, begin_line, step_line}}
 use Rattle.schedule.specs.{Grammar.{most_bytes, two, three, one_or_more, form, sentence, line_of}, LineValue.{line_value, trip_cells}}
 use Rattle.text.specs.{Number.{number}, Words.{space, onto, words, read_onto, numbers}, Fields.{rest, fields_at, FieldIs}}
 
@@ -24,8 +25,13 @@ travels i xs = step_line (Trip i xs)
 unfoldable pub say_at : List ℕ → ℕ → (List ℕ → Option Line) → Option Line
 say_at s at f = bind (fields_at s at) f
 
+-- the numbers of a form of n fields
+unfoldable pub exactly : ℕ → Option (List ℕ) → std.Option (List ℕ)
+exactly n none = None
+exactly n (some l) = pick (eqb (length l) n) (Some l) None
+
 -- the code's answer r to what is said, with the lent list from l to l'
-abbrev pub ToldLine : Option Line → Answer → List ℕ → List ℕ → Type 0
+abbrev pub ToldLine : Option Line → std.Option Answer → List ℕ → List ℕ → Type 0
 ToldLine o r l l' = (r ≡ line_value o) × (l' ≡ sets l 0 (trip_cells o))
 
 module _ (s : List ℕ) (at : ℕ) (f : List ℕ → Option Line) where
@@ -89,6 +95,30 @@ module _ (P : List ℕ → Option Line → Type 0) (z : (l : List ℕ) → P l n
   three-all f h (a ∷ b ∷ c ∷ []) = h a b c
   three-all f h (a ∷ b ∷ c ∷ d ∷ l) = z (a ∷ b ∷ c ∷ d ∷ l)
 
+-- what is said in a form of two fields, or of three, by the numbers that `exactly` gives
+pub said_two : (s : List ℕ) (f : ℕ → ℕ → Line) → MatchOption (exactly 2 (fields_at s 1)) (say_at s 1 (two f) ≡ none) (λ l. say_at s 1 (two f) ≡ some (f (get_or l 0 0) (get_or l 1 0)))
+unfolding say_at bind exactly
+said_two s f = go (fields_at s 1)
+  where
+    go : (o : Option (List ℕ)) → MatchOption (exactly 2 o) (bind o (two f) ≡ none) (λ l. bind o (two f) ≡ some (f (get_or l 0 0) (get_or l 1 0)))
+    go none = refl
+    go (some []) = refl
+    go (some (a ∷ [])) = refl
+    go (some (a ∷ b ∷ [])) = refl
+    go (some (a ∷ b ∷ c ∷ l)) = rw (ne_eqb (suc (suc (suc (length l)))) 2 (λ e. (omega arith)))
+
+pub said_three : (s : List ℕ) (f : ℕ → ℕ → ℕ → Line) → MatchOption (exactly 3 (fields_at s 1)) (say_at s 1 (three f) ≡ none) (λ l. say_at s 1 (three f) ≡ some (f (get_or l 0 0) (get_or l 1 0) (get_or l 2 0)))
+unfolding say_at bind exactly
+said_three s f = go (fields_at s 1)
+  where
+    go : (o : Option (List ℕ)) → MatchOption (exactly 3 o) (bind o (three f) ≡ none) (λ l. bind o (three f) ≡ some (f (get_or l 0 0) (get_or l 1 0) (get_or l 2 0)))
+    go none = refl
+    go (some []) = refl
+    go (some (a ∷ [])) = refl
+    go (some (a ∷ b ∷ [])) = refl
+    go (some (a ∷ b ∷ c ∷ [])) = refl
+    go (some (a ∷ b ∷ c ∷ d ∷ l)) = rw (ne_eqb (suc (suc (suc (suc (length l))))) 3 (λ e. (omega arith)))
+
 two_cells : (b : Bool) (l : List ℕ) → trip_cells (two (pairs b) l) ≡ []
 two_cells true = two-all (λ l o. trip_cells o ≡ []) (λ l. refl) (pairs true) (λ x y. refl)
 two_cells false = two-all (λ l o. trip_cells o ≡ []) (λ l. refl) (pairs false) (λ x y. refl)
@@ -98,11 +128,11 @@ three-cells true = three-all (λ l o. trip_cells o ≡ []) (λ l. refl) (triples
 three-cells false = three-all (λ l o. trip_cells o ≡ []) (λ l. refl) (triples false) (λ x y z. refl)
 
 -- nothing is stored: no step, or another form than a trip's
-pub told_none : (o : Option Line) (l : List ℕ) → o ≡ none → ToldLine o NoStep l l
+pub told_none : (o : Option Line) (l : List ℕ) → o ≡ none → ToldLine o None l l
 told_none o l e = rw e (refl, refl)
 
 told-form : (s : List ℕ) (f : List ℕ → Option Line) → ((l : List ℕ) → trip_cells (f l) ≡ []) →
-    (o : Option Line) → o ≡ say_at s 1 f → (r : Answer) (l : List ℕ) → r ≡ line_value (say_at s 1 f) → ToldLine o r l l
+    (o : Option Line) → o ≡ say_at s 1 f → (r : std.Option Answer) (l : List ℕ) → r ≡ line_value (say_at s 1 f) → ToldLine o r l l
 told-form s f h o e r l a =
     let n : trip_cells (say_at s 1 f) ≡ [] = say_at-all s 1 f (λ o. trip_cells o ≡ []) refl (λ l _. h l) in rw e (a, rw n)
 
@@ -148,7 +178,7 @@ module _ (s : List ℕ) (z : length s ≡ 0 → ⊥) (h : length s ≤ most_byte
   line-two (inl e) = by_letter 78 refl e ∙ rw e
   line-two (inr e) = by_letter 82 refl e ∙ rw e
 
-  pub told-two : (get_or s 0 0 ≡ 78) ⊎ (get_or s 0 0 ≡ 82) → (r : Answer) (l : List ℕ) → r ≡ line_value (say_at s 1 (two (pairs (eqb (get_or s 0 0) 78)))) → ToldLine (line_of s) r l l
+  pub told-two : (get_or s 0 0 ≡ 78) ⊎ (get_or s 0 0 ≡ 82) → (r : std.Option Answer) (l : List ℕ) → r ≡ line_value (say_at s 1 (two (pairs (eqb (get_or s 0 0) 78)))) → ToldLine (line_of s) r l l
   told-two k = told-form s (two (pairs (eqb (get_or s 0 0) 78))) (two_cells (eqb (get_or s 0 0) 78)) (line_of s) (line-two k)
 
   line-three : (get_or s 0 0 ≡ 68) ⊎ (get_or s 0 0 ≡ 87) → line_of s ≡ say_at s 1 (three (triples (eqb (get_or s 0 0) 87)))
@@ -156,7 +186,7 @@ module _ (s : List ℕ) (z : length s ≡ 0 → ⊥) (h : length s ≤ most_byte
   line-three (inl e) = by_letter 68 refl e ∙ rw e
   line-three (inr e) = by_letter 87 refl e ∙ rw e
 
-  pub told-three : (get_or s 0 0 ≡ 68) ⊎ (get_or s 0 0 ≡ 87) → (r : Answer) (l : List ℕ) → r ≡ line_value (say_at s 1 (three (triples (eqb (get_or s 0 0) 87)))) → ToldLine (line_of s) r l l
+  pub told-three : (get_or s 0 0 ≡ 68) ⊎ (get_or s 0 0 ≡ 87) → (r : std.Option Answer) (l : List ℕ) → r ≡ line_value (say_at s 1 (three (triples (eqb (get_or s 0 0) 87)))) → ToldLine (line_of s) r l l
   told-three k = told-form s (three (triples (eqb (get_or s 0 0) 87))) (three-cells (eqb (get_or s 0 0) 87)) (line_of s) (line-three k)
 
   pub line_trip : get_or s 0 0 ≡ 84 → line_of s ≡ say_at s 1 (one_or_more travels)
