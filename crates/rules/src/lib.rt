@@ -15,7 +15,7 @@ ghost use Rattle.rules.specs.Mirror.Parts.{mark_of, used_mark, used_marks, most_
 use clock::PLACES;
 use std::array;
 use table::{
-    CELL, CELLS, Cell, Cells, Core, DONE, Desk, Found, HELD, MOST_STATUS, OPENS, Open, Opens, Table,
+    CELL, CELLS, Cell, Cells, Core, DONE, Desk, HELD, MOST_STATUS, OPENS, Open, Opens, Table,
 };
 
 // (Two tests joined by `&` both run, without a branch.)
@@ -38,10 +38,7 @@ fn has(opens: &Opens, u: usize, k: u16) -> bool
     requires { In places u }
     ensures { result ≡ has opens.now u k }
 {
-    match table::find(opens, u, k) {
-        Found::At(_) => true,
-        Found::Nothing => false,
-    }
+    table::find(opens, u, k).is_some()
 }
 
 // Of desk u, whose last write is most, the latest write that is not open. (At most 64 are found on the way down.)
@@ -74,64 +71,6 @@ fn ranges_ok(n: usize, m: usize, o: Open) -> bool
     (usize::from(o.writer) <= n) & cell
 }
 
-// Its number is k.
-fn due_ok(n: usize, own: [u16; PLACES], opens: &Opens, e: usize, o: Open, k: u16) -> bool
-    requires n_le_places { (n ≤ places) × (e < entries) }
-    requires o_value { (o ≡ open_at opens.now e) × (k ≡ entry_number o) }
-    ensures { result ≡ (due_test n own o).passes }
-{
-    clock::covers(own, o.vector) && (1 <= k) & !table::all_applied(opens, e, n)
-}
-
-fn used_ok(n: usize, m: usize, own: [u16; PLACES], opens: &Opens, e: usize, o: Open) -> bool
-    requires n_le_places { (n ≤ places) × (e < entries) }
-    requires o_value { (o ≡ open_at opens.now e) × (1 ≤ o.writer) }
-    ensures { result ≡ (used_test n m own opens.now e o).passes }
-{
-    if !ranges_ok(n, m, o) {
-        return false;
-    }
-    let u = usize::from(o.writer);
-    let k = table::at_place(o.vector, u);
-    due_ok(n, own, opens, e, o, k) & last_of(opens, u, k, e)
-}
-
-fn entry_ok(n: usize, m: usize, own: [u16; PLACES], opens: &Opens, e: usize) -> bool
-    requires { (n ≤ places) × (e < entries) }
-    ensures { result ≡ (entry_test n m own opens.now e).passes }
-{
-    let o = table::open_at(opens, e);
-    o.writer == 0 || used_ok(n, m, own, opens, e, o)
-}
-
-fn entries_ok(n: usize, m: usize, own: [u16; PLACES], opens: &Opens) -> bool
-    requires { n ≤ places }
-    ensures { result ≡ (all_entries_test n m own opens.now).passes }
-{
-    (0..OPENS).all(|e| entry_ok(n, m, own, opens, e))
-}
-
-// What a desk must have applied: gap of one in use, nothing past n.
-fn live_ok(n: usize, a: [u16; PLACES], gap: [u16; PLACES], i: usize) -> bool
-    ensures { result ≡ (live_test n a gap i).passes }
-{
-    if i < n {
-        clock::covers(a, gap)
-    } else {
-        zero(a)
-    }
-}
-
-// Desk i, from 0: its counts and its clock.
-fn counts_ok(n: usize, own: [u16; PLACES], gap: [u16; PLACES], i: usize, d: Desk) -> bool
-    requires { i < places }
-    ensures { result ≡ (counts_test n own gap i d).passes }
-{
-    let a = d.applied;
-    let k = d.clock.at;
-    clock::covers(own, a) && clock::covers(a, k) && (k[i] == a[i]) & live_ok(n, a, gap, i)
-}
-
 // Cell x, from 0, of a desk with the counts a.
 fn set_ok(m: usize, a: [u16; PLACES], x: usize, c: Cell) -> bool
     ensures { result ≡ (set_cell m a x c).passes }
@@ -156,13 +95,6 @@ fn cell_ok(m: usize, a: [u16; PLACES], x: usize, c: Cell) -> bool
     } else {
         set_ok(m, a, x, c)
     }
-}
-
-fn cells_ok(m: usize, a: [u16; PLACES], i: usize, cells: &Cells) -> bool
-    requires { i < places }
-    ensures { result ≡ (all_cells_test m a i cells.now).passes }
-{
-    (0..CELLS).all(|x| cell_ok(m, a, x, table::cell_at(cells, i * CELLS + x)))
 }
 
 // The mark p of o at a desk with the counts a, where the desk has not applied it; and in any case.
@@ -199,13 +131,6 @@ fn mark_ok(a: [u16; PLACES], i: usize, opens: &Opens, e: usize) -> bool
     table::open_at(opens, e).writer == 0 || used_mark_ok(a, i, opens, e)
 }
 
-fn marks_ok(a: [u16; PLACES], i: usize, opens: &Opens) -> bool
-    requires { i < places }
-    ensures { result ≡ (used_marks a i opens.now).passes }
-{
-    (0..OPENS).all(|e| mark_ok(a, i, opens, e))
-}
-
 // The largest mark at desk t, from 0: none past n.
 fn most_mark(n: usize, t: usize) -> u16
     ensures { result ≡ most_at n t }
@@ -225,12 +150,6 @@ fn limit_ok(most: [u16; PLACES], o: Open) -> bool
     o.writer == 0 || clock::covers(most, o.marks)
 }
 
-fn limits_ok(most: [u16; PLACES], opens: &Opens) -> bool
-    ensures { result ≡ (all_limits_test most opens.now).passes }
-{
-    (0..OPENS).all(|e| limit_ok(most, table::open_at(opens, e)))
-}
-
 // Are all the numbers zero?
 fn all_zero(l: &[u16]) -> bool
     ensures { result ≡ (zeros_test l.now 0).passes }
@@ -239,87 +158,151 @@ fn all_zero(l: &[u16]) -> bool
     l.iter().fold(0, |some, x| some | *x) == 0
 }
 
-// Desk i: its counts, and its cells and marks where it is in use.
-fn desk_ok(
-    n: usize,
-    m: usize,
+// A core and the two lent arrays, with each desk's own count and, of each desk, the latest write that is not open.
+#[derive(Clone, Copy)]
+struct Lent<'a> {
+    core: &'a Core,
     own: [u16; PLACES],
     gap: [u16; PLACES],
-    i: usize,
-    d: Desk,
-    cells: &Cells,
-    opens: &Opens,
-) -> bool
-    requires { i < places }
-    ensures { result ≡ (used_desk n m own gap cells.now opens.now i d).passes }
-{
-    let a = d.applied;
-    let counts = counts_ok(n, own, gap, i, d);
-    if i < n {
-        counts & cells_ok(m, a, i, cells) & marks_ok(a, i, opens)
-    } else {
-        counts
+    cells: &'a Cells,
+    opens: &'a Opens,
+}
+
+impl Lent<'_> {
+    // Of entry e, whose write is o: its number is k.
+    fn due_ok(&self, e: usize, o: Open, k: u16) -> bool
+        requires n_le_places { (self.now.core.now.n ≤ places) × (e < entries) }
+        requires o_value { (o ≡ open_at self.now.opens.now e) × (k ≡ entry_number o) }
+        ensures { result ≡ (due_test self.now.core.now.n self.now.own o).passes }
+    {
+        clock::covers(self.own, o.vector)
+            && (1 <= k) & !table::all_applied(self.opens, e, self.core.n)
+    }
+
+    fn used_ok(&self, e: usize, o: Open) -> bool
+        requires n_le_places { (self.now.core.now.n ≤ places) × (e < entries) }
+        requires o_value { (o ≡ open_at self.now.opens.now e) × (1 ≤ o.writer) }
+        ensures { result ≡ (used_test self.now.core.now.n self.now.core.now.m self.now.own self.now.opens.now e o).passes }
+    {
+        if !ranges_ok(self.core.n, self.core.m, o) {
+            return false;
+        }
+        let u = usize::from(o.writer);
+        let k = table::at_place(o.vector, u);
+        self.due_ok(e, o, k) & last_of(self.opens, u, k, e)
+    }
+
+    fn entry_ok(&self, e: usize) -> bool
+        requires { (self.now.core.now.n ≤ places) × (e < entries) }
+        ensures { result ≡ (entry_test self.now.core.now.n self.now.core.now.m self.now.own self.now.opens.now e).passes }
+    {
+        let o = table::open_at(self.opens, e);
+        o.writer == 0 || self.used_ok(e, o)
+    }
+
+    fn entries_ok(&self) -> bool
+        requires { self.now.core.now.n ≤ places }
+        ensures { result ≡ (all_entries_test self.now.core.now.n self.now.core.now.m self.now.own self.now.opens.now).passes }
+    {
+        (0..OPENS).all(|e| self.entry_ok(e))
+    }
+
+    // What desk i, from 0, with the counts a must have applied: gap of one in use, nothing past n.
+    fn live_ok(&self, a: [u16; PLACES], i: usize) -> bool
+        ensures { result ≡ (live_test self.now.core.now.n a self.now.gap i).passes }
+    {
+        if i < self.core.n {
+            clock::covers(a, self.gap)
+        } else {
+            zero(a)
+        }
+    }
+
+    // Its counts and its clock.
+    fn counts_ok(&self, i: usize, d: Desk) -> bool
+        requires { i < places }
+        ensures { result ≡ (counts_test self.now.core.now.n self.now.own self.now.gap i d).passes }
+    {
+        let a = d.applied;
+        let k = d.clock.at;
+        clock::covers(self.own, a) && clock::covers(a, k) && (k[i] == a[i]) & self.live_ok(a, i)
+    }
+
+    fn cells_ok(&self, a: [u16; PLACES], i: usize) -> bool
+        requires { i < places }
+        ensures { result ≡ (all_cells_test self.now.core.now.m a i self.now.cells.now).passes }
+    {
+        (0..CELLS).all(|x| cell_ok(self.core.m, a, x, table::cell_at(self.cells, i * CELLS + x)))
+    }
+
+    fn marks_ok(&self, a: [u16; PLACES], i: usize) -> bool
+        requires { i < places }
+        ensures { result ≡ (used_marks a i self.now.opens.now).passes }
+    {
+        (0..OPENS).all(|e| mark_ok(a, i, self.opens, e))
+    }
+
+    // Desk i: its counts, and its cells and marks where it is in use.
+    fn desk_ok(&self, i: usize, d: Desk) -> bool
+        requires { i < places }
+        ensures { result ≡ (used_desk self.now.core.now.n self.now.core.now.m self.now.own self.now.gap self.now.cells.now self.now.opens.now i d).passes }
+    {
+        let counts = self.counts_ok(i, d);
+        if i < self.core.n {
+            counts & self.cells_ok(d.applied, i) & self.marks_ok(d.applied, i)
+        } else {
+            counts
+        }
+    }
+
+    fn used_desks_ok(&self) -> bool
+        ensures { result ≡ (used_desks self.now.core.now.n self.now.core.now.m self.now.own self.now.gap self.now.cells.now self.now.opens.now self.now.core.now.desks).passes }
+    {
+        (0..PLACES).all(|i| self.desk_ok(i, self.core.desks[i]))
+    }
+
+    fn limits_ok(&self) -> bool
+        ensures { result ≡ (all_limits_test (most_marks self.now.core.now.n) self.now.opens.now).passes }
+    {
+        let most = most_marks(self.core.n);
+        (0..OPENS).all(|e| limit_ok(most, table::open_at(self.opens, e)))
+    }
+
+    // All desks. Past n the cells are one run of zeros, and no mark stands.
+    fn desks_ok(&self) -> bool
+        requires { self.now.core.now.n ≤ places }
+        ensures { result ≡ (all_desks_test self.now.core.now.n self.now.core.now.m self.now.own self.now.gap self.now.cells.now self.now.opens.now self.now.core.now.desks).passes }
+    {
+        let cells = self.cells;
+        let unset = all_zero(&cells[self.core.n * CELLS * CELL..]);
+        self.used_desks_ok() & unset & self.limits_ok()
     }
 }
 
-fn used_desks_ok(
-    n: usize,
-    m: usize,
-    own: [u16; PLACES],
-    gap: [u16; PLACES],
-    desks: [Desk; PLACES],
-    cells: &Cells,
-    opens: &Opens,
-) -> bool
-    ensures { result ≡ (used_desks n m own gap cells.now opens.now desks).passes }
+fn passes(core: &Core, own: [u16; PLACES], cells: &Cells, opens: &Opens) -> bool
+    ensures { result ≡ (own_test core.now.n core.now.m own core.now.desks cells.now opens.now).passes }
 {
-    (0..PLACES).all(|i| desk_ok(n, m, own, gap, i, desks[i], cells, opens))
-}
-
-// All desks. Past n the cells are one run of zeros, and no mark stands.
-fn desks_ok(
-    n: usize,
-    m: usize,
-    own: [u16; PLACES],
-    gap: [u16; PLACES],
-    desks: [Desk; PLACES],
-    cells: &Cells,
-    opens: &Opens,
-) -> bool
-    requires { n ≤ places }
-    ensures { result ≡ (all_desks_test n m own gap cells.now opens.now desks).passes }
-{
-    let used = used_desks_ok(n, m, own, gap, desks, cells, opens);
-    let unset = all_zero(&cells[n * CELLS * CELL..]);
-    let most = most_marks(n);
-    used & unset & limits_ok(most, opens)
-}
-
-fn passes(
-    n: usize,
-    m: usize,
-    own: [u16; PLACES],
-    desks: [Desk; PLACES],
-    cells: &Cells,
-    opens: &Opens,
-) -> bool
-    ensures { result ≡ (own_test n m own desks cells.now opens.now).passes }
-{
-    if !table::begins(n, m) {
+    if !table::begins(core.n, core.m) {
         return false;
     }
     let gap = gap_counts(own, opens);
-    entries_ok(n, m, own, opens) & desks_ok(n, m, own, gap, desks, cells, opens)
+    let lent = Lent {
+        core,
+        own,
+        gap,
+        cells,
+        opens,
+    };
+    lent.entries_ok() & lent.desks_ok()
 }
 
 // Does the table keep the rules? Its model does, its unset cells are all zero, and no name stands in two of its entries.
 pub fn keeps_rules(core: Core, cells: &Cells, opens: &Opens) -> bool
     ensures { Says result (SoundTable (table_with core cells.now opens.now)) }
 {
-    let desks = core.desks;
-    table::desks_shape(desks);
-    let own = own_counts(desks);
-    passes(core.n, core.m, own, desks, cells, opens)
+    table::desks_shape(core.desks);
+    let own = own_counts(core.desks);
+    passes(&core, own, cells, opens)
 }
 
 // The same of a whole table, by value.

@@ -7,7 +7,7 @@ ghost use Rattle.laws.specs.Rows.{numbers_from};
 ghost use Rattle.clock.specs.Vectors.{places, place};
 ghost use Rattle.machine.specs.Rules.{In};
 ghost use Rattle.machine.specs.Steps.{everywhere, within, begins};
-ghost use Rattle.table.specs.Value.{desk_cells, all_cells, cell_width, entries, open_width, cell_at, CellPut, open_at, OpenPut, MarkPut, Freed};
+ghost use Rattle.table.specs.Value.{desk_cells, all_cells, entries, cell_at, CellPut, open_at, OpenPut, MarkPut, Freed};
 ghost use Rattle.table.specs.TypeShape.{DesksShape, Shaped};
 ghost use Rattle.table.specs.EntryNames.{named_at, free_at, FoundBy, FoundIn};
 ghost use Rattle.table.specs.Model.{open_m, slot};
@@ -41,13 +41,13 @@ pub type Cells = [u16; PLACES * CELLS * CELL];
 
 pub type Opens = [u16; OPENS * OPEN];
 
-#[derive(Clone, Copy)]
+#[derive(Clone, Copy, Debug, PartialEq, Eq)]
 pub struct Desk {
     pub applied: [u16; PLACES],
     pub clock: Clock,
 }
 
-#[derive(Clone, Copy)]
+#[derive(Clone, Copy, Debug, PartialEq, Eq)]
 pub struct Core {
     pub n: usize,
     pub m: usize,
@@ -55,7 +55,7 @@ pub struct Core {
 }
 
 // Writer 0: unset.
-#[derive(Drop)]
+#[derive(Clone, Copy, Debug, PartialEq, Eq)]
 pub struct Cell {
     pub writer: u16,
     pub status: u16,
@@ -63,7 +63,7 @@ pub struct Cell {
 }
 
 // Writer 0: the entry is free. A mark: 0 not received, 1 held, 2 applied.
-#[derive(Clone, Copy)]
+#[derive(Clone, Copy, Debug, PartialEq, Eq)]
 pub struct Open {
     pub writer: u16,
     pub status: u16,
@@ -72,7 +72,7 @@ pub struct Open {
     pub marks: [u16; PLACES],
 }
 
-#[derive(Clone, Copy)]
+#[derive(Clone, Copy, Debug, PartialEq, Eq)]
 pub struct Table {
     pub core: Core,
     pub cells: Cells,
@@ -95,15 +95,7 @@ fn put_places(l: &mut [u16], at: usize, v: [u16; PLACES])
     l[at..at + PLACES].copy_from_slice(&v);
 }
 
-// Nothing is done by these: the contracts hand the caller what the types say. (What a lent array tells of its length, a caller knows without.)
-
-pub fn cells_size(cells: &Cells)
-    ensures { length cells.now ≡ all_cells * cell_width }
-{}
-
-pub fn opens_size(opens: &Opens)
-    ensures { length opens.now ≡ entries * open_width }
-{}
+// Kept, though they do nothing: what a type says of arrays within a struct the search does not find; here it is proved, once.
 
 pub fn desks_shape(desks: [Desk; PLACES])
     ensures { DesksShape desks }
@@ -224,12 +216,6 @@ pub fn all_applied(opens: &Opens, e: usize, n: usize) -> bool
     ensures { result ≡ everywhere n (open_m (open_at opens.now e)) }
 {
     (0..n).all(|i| mark_at(opens, e, i) == DONE)
-}
-
-pub fn wide(x: u16) -> usize
-    ensures { (result ≡ x) × (result < 65536) }
-{
-    usize::from(x)
 }
 
 // The number at place u, from 1, and 0 where there is none.

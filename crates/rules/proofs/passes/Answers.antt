@@ -5,7 +5,7 @@ use Rattle.rules.specs.{Mirror.Test.{own_test}}
 use Rattle.rules.proofs.passes.Goals as goal
 use Rattle.rules.proofs.passes.Goals.{Else-not-begins}
 
-begun : (c : goal.Else-not-begins) → let g = c.args in begins g.n g.m ≡ true
+begun : (c : goal.Else-not-begins) → let g = c.args in begins g.core.now.n g.core.now.m ≡ true
 begun c = sym c.begins.ensures ∙ c.if-not-begins.false
 
 pub returns-then-not-begins : goal.returns-then-not-begins

@@ -1,6 +1,6 @@
 use Rattle.laws.specs.Kit.{eq-eqb, ne_eqb}
 use Rattle.rules.specs.Mirror.Test.{entry_test}
-use Rattle.rules.proofs.entry_ok.Goals as goal
+use Rattle.rules.proofs.Lent.entry_ok.Goals as goal
 
 pub returns-then-o-eq0 : goal.returns-then-o-eq0
 unfolding entry_test

@@ -1,10 +1,10 @@
 use Rattle.std.specs.Prelude.{◌≡◌}
 use Rattle.laws.specs.Kit.{sym, ◌∙◌, true}
 use Rattle.rules.specs.{Mirror.Test.{ranges_test, used_test}}
-use Rattle.rules.proofs.used_ok.Goals as goal
-use Rattle.rules.proofs.used_ok.Goals.{Else-not-ranges_ok}
+use Rattle.rules.proofs.Lent.used_ok.Goals as goal
+use Rattle.rules.proofs.Lent.used_ok.Goals.{Else-not-ranges_ok}
 
-past_ranges : (c : goal.Else-not-ranges_ok) → let g = c.args in (ranges_test g.n g.m g.o).passes ≡ true
+past_ranges : (c : goal.Else-not-ranges_ok) → let g = c.args.self.now in (ranges_test g.core.now.n g.core.now.m c.args.o).passes ≡ true
 past_ranges c = sym c.ranges_ok.ensures ∙ c.if-not-ranges_ok.false
 
 pub returns-then-not-ranges_ok : goal.returns-then-not-ranges_ok
