@@ -1,7 +1,7 @@
 use Rattle.laws.specs.Kit.{refl}
 use Rattle.machine.specs.Steps as steps
 use Rattle.session.specs.Link.LineTurn.{acted_step, acted_quiet}
-use Rattle.session.proofs.act.Goals as goal
+use Rattle.session.proofs.Running.act.Goals as goal
 
 pub deliver_at-requires : goal.deliver_at-requires
 deliver_at-requires c = let a = rw c.in-Deliver.is at c.requires.1 in (_, a.desks, a.placed)
