@@ -60,11 +60,13 @@ fn trip_cells(s: &[u8], from: usize, cells: &mut [u16; LIST]) -> Option<usize>
     ensures { CellsTell s.now from cells.old result cells.new }
 {
     let mut at = from;
+    // Kept: the places of the fields lead the loop, so no range counts the cells.
     let mut n = 0;
     while at < s.len() {
         let Some(field) = text::next_field(s, at) else {
             return None;
         };
+        // Kept: `as` loses nothing of a field's value (`FieldIs`), and TryFrom is for what may not fit.
         cells[n] = field.value as u16;
         n += 1;
         at = field.end;

@@ -1,6 +1,6 @@
 use Rattle.std.proofs.Common.{rules}
 use Rattle.std.specs.Prelude.{◌≡◌}
-use Rattle.laws.specs.Kit.{length-replicate}
+use Rattle.laws.specs.Kit.{arith, length-replicate}
 use Rattle.schedule.proofs.ReadTo.{read_none, read_more, read_short, read_long, read_all}
 use Rattle.schedule.proofs.numbers.Goals as goal
 
