@@ -1,7 +1,7 @@
 -- What a step on a table value promises: the machine's step where the value keeps the rules, and 13 where it breaks them.
 use Rattle.std.specs.Prelude.{◌-◌, ◌*◌, ◌≤◌, ◌≡◌}
 use Rattle.laws.specs.Kit.{ℕ, refl, sym, ap, ◌∙◌, List, Bool, true, false, not, arith, get_or, replicate, sets}
-use Rattle.laws.specs.Says.{Says}
+use Rattle.laws.specs.Says.{Says, clash}
 use Rattle.clock.specs.Vectors.{places}
 use Rattle.machine.specs.Answer as machine
 use Rattle.machine.specs.{Rules.{In}, Steps.{Step, Deliver, step}}
@@ -12,7 +12,6 @@ use Rattle.table.specs.Sound.{SoundTable}
 use Rattle.rules.specs.{Mirror.Test.{owns}, Link.ArrayLimits.{own_is}}
 use Rattle.steps.specs.{Stepped.{Placed, Stepped, put_desk, put_back, names_beside, table_after}, declared.Turn.{Turn}, Link.Deliver.{Meets}}
 use Rattle.steps.specs.Link.LookStepped.{stops, passes}
-use Rattle.access.specs.declared.Done.{Done}
 
 -- of a table that keeps the rules: the machine's answer and its table, which keeps them too
 pub record Steps (t : Table) (a : Step) (r : Table) (answer : machine.Answer) : Type 0 where
@@ -41,12 +40,19 @@ pub record Brought (t : Table) (i u k : ℕ) (r : Table) (answer : Answer) (name
   pub names_are : names ≡ sets no_names 0 (names_beside (answer_of answer names))
   pub counted : Counted answer
 
-abbrev pub broken_done : Table → Done
-broken_done t = record { table = t; answer = Refused Broken }
-
 module _ {t : Table} where
   pub few-desks : SoundTable t → t.core.n ≤ places
   few-desks s = s.rules.frame.ranges.desks.1
+
+  pub met_unsound : {a : Step} → (SoundTable t → ⊥) → Met t a t (machine.refused machine.broken)
+  met_unsound off = record {
+    steps = λ s. absurd (off s);
+    refuses = λ x e. refl;
+    broken = λ s. record { answer_is = refl; table_is = refl };
+  }
+
+  pub brought_unsound : {i u k : ℕ} → (SoundTable t → ⊥) → Brought t i u k t (Refused Broken) no_names
+  brought_unsound off = record { met = met_unsound off; names_are = refl; counted = λ c q. clash (cc) }
 
   module _ {b : Bool} (says : Says b (SoundTable t)) where
     pub met-broken : (a : Step) → not b ≡ true → Met t a t (machine.refused machine.broken)

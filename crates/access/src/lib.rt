@@ -7,11 +7,16 @@ ghost use Rattle.machine.specs.Rules.{In};
 ghost use Rattle.machine.specs.Steps.{Read, Write, Trip};
 ghost use Rattle.reply.specs.Meaning.{answer_of};
 ghost use Rattle.table.specs.Value.{desk0};
-ghost use Rattle.access.specs.Met.{broken_done, Met, Brought};
-ghost use Rattle.steps.specs.Stepped.{table_after};
+ghost use Rattle.access.specs.Met.{Met, Brought, no_names};
+ghost use Rattle.access.specs.Acted.{core_after, Takes, Acted};
+ghost use Rattle.rules.specs.Mirror.Test.{owns};
+ghost use Rattle.steps.specs.Stepped.{Placed};
+ghost use Rattle.steps.specs.declared.Turn.{Turn};
+ghost use Rattle.table.specs.declared.Desk.{Desk};
 
 use clock::PLACES;
 use reply::{Answer, NAMES, Refusal};
+use steps::Turn;
 use table::{Cells, Core, Desk, Opens, Table};
 
 #[derive(Drop)]
@@ -29,140 +34,90 @@ pub struct Delivered {
 }
 
 // Desk i, or any where there is none.
-fn acting(desks: [Desk; PLACES], i: usize) -> Desk
-    ensures { In places i → get_or desks (i - 1) desk0 ≡ result }
+fn acting(t: &Table, i: usize) -> Desk
+    ensures { In places i → get_or t.now.core.desks (i - 1) desk0 ≡ result }
 {
     if table::inside(PLACES, i) {
-        return desks[i - 1];
-    }
-    desks[0]
-}
-
-// The table of these parts, with desk i as d where there is one.
-fn together(core: Core, i: usize, d: Desk, cells: Cells, opens: Opens) -> Table
-    requires { core.n ≤ places }
-    ensures { result ≡ table_after core i d cells opens }
-{
-    let n = core.n;
-    let m = core.m;
-    let mut desks = core.desks;
-    if table::inside(n, i) {
-        desks[i - 1] = d;
-    }
-    let after = Core {
-        n: n,
-        m: m,
-        desks: desks,
-    };
-    Table {
-        core: after,
-        cells: cells,
-        opens: opens,
+        t.core.desks[i - 1]
+    } else {
+        t.core.desks[0]
     }
 }
 
-fn broken(t: Table) -> Done
-    ensures { result ≡ broken_done t }
+// Desk i of the n as d, where there is one.
+fn put_desk(core: &mut Core, i: usize, d: Desk)
+    requires { core.old.n ≤ places }
+    ensures { core.new ≡ core_after core.old i d }
 {
-    Done {
+    if table::inside(core.n, i) {
+        core.desks[i - 1] = d;
+    }
+}
+
+// One step of desk i: 13 where the table breaks the rules; else the step is given the desk and the arrays, and its desk goes back.
+fn acted<F: FnOnce(Desk, &mut Cells, &mut Opens, &mut [u16; NAMES]) -> Turn>(
+    mut t: Table,
+    i: usize,
+    step: F,
+) -> Delivered
+    requires { (d : Desk) → Placed t (owns t.core.desks) i d → Takes F.FnOnce step t d }
+    ensures { Acted F.FnOnce step t i result }
+{
+    let mut names = [0; NAMES];
+    table::table_shape(t);
+    if !rules::keeps_rules(t.core, &t.cells, &t.opens) {
+        return Delivered {
+            table: t,
+            answer: Answer::Refused(Refusal::Broken),
+            names,
+        };
+    }
+    let d = acting(&t, i);
+    let turn = step(d, &mut t.cells, &mut t.opens, &mut names);
+    put_desk(&mut t.core, i, turn.desk);
+    Delivered {
         table: t,
-        answer: Answer::Refused(Refusal::Broken),
+        answer: turn.answer,
+        names,
     }
 }
 
 pub fn read(t: Table, i: usize, x: usize) -> Done
     ensures { Met t (Read i x) result.table (answer_of result.answer []) }
 {
-    table::table_shape(t);
-    if !rules::table_keeps_rules(t) {
-        return broken(t);
-    }
-    let core = t.core;
-    let cells = t.cells;
-    let opens = t.opens;
-    let desks = core.desks;
-    let d = acting(desks, i);
-    let turn = steps::look::read_at(core.n, core.m, d, &cells, i, x);
-    let after = turn.desk;
-    let answer = turn.answer;
-    let next = together(core, i, after, cells, opens);
-    Done {
-        table: next,
-        answer: answer,
-    }
+    let Core { n, m, .. } = t.core;
+    let Delivered { table, answer, .. } = acted(t, i, |d, cells, _, _| {
+        steps::look::read_at(n, m, d, cells, i, x)
+    });
+    Done { table, answer }
 }
 
 pub fn write(t: Table, i: usize, x: usize, v: usize) -> Done
     ensures { Met t (Write i x v) result.table (answer_of result.answer []) }
 {
-    table::table_shape(t);
-    if !rules::table_keeps_rules(t) {
-        return broken(t);
-    }
-    let core = t.core;
-    let mut cells = t.cells;
-    let mut opens = t.opens;
-    let desks = core.desks;
-    let d = acting(desks, i);
-    let turn = steps::write::write_at(core.n, core.m, d, &mut cells, &mut opens, i, x, v);
-    let after = turn.desk;
-    let answer = turn.answer;
-    let next = together(core, i, after, cells, opens);
-    Done {
-        table: next,
-        answer: answer,
-    }
+    let Core { n, m, .. } = t.core;
+    let Delivered { table, answer, .. } = acted(t, i, |d, cells, opens, _| {
+        steps::write::write_at(n, m, d, cells, opens, i, x, v)
+    });
+    Done { table, answer }
 }
 
 pub fn deliver(t: Table, i: usize, u: usize, k: usize) -> Delivered
     ensures { Brought t i u k result.table result.answer result.names }
 {
-    let mut names = [0u16; NAMES];
-    table::table_shape(t);
-    if !rules::table_keeps_rules(t) {
-        return Delivered {
-            table: t,
-            answer: Answer::Refused(Refusal::Broken),
-            names: names,
-        };
-    }
-    let core = t.core;
-    let mut cells = t.cells;
-    let mut opens = t.opens;
-    let desks = core.desks;
-    let own = rules::own_counts(desks);
-    let d = acting(desks, i);
-    let turn = steps::deliver::deliver_at(
-        core.n, d, own, &mut cells, &mut opens, &mut names, i, u, k,
-    );
-    let after = turn.desk;
-    let answer = turn.answer;
-    let next = together(core, i, after, cells, opens);
-    Delivered {
-        table: next,
-        answer: answer,
-        names: names,
-    }
+    let Core { n, desks, .. } = t.core;
+    acted(t, i, |d, cells, opens, names| {
+        let own = rules::own_counts(desks);
+        steps::deliver::deliver_at(n, d, own, cells, opens, names, i, u, k)
+    })
 }
 
 pub fn trip(t: Table, i: usize, list: &[u16]) -> Done
     ensures { Met t (Trip i list.now) result.table (answer_of result.answer []) }
 {
-    table::table_shape(t);
-    if !rules::table_keeps_rules(t) {
-        return broken(t);
-    }
-    let core = t.core;
-    let cells = t.cells;
-    let opens = t.opens;
-    let desks = core.desks;
-    let d = acting(desks, i);
-    let turn = steps::look::trip_at(core.n, core.m, d, &cells, i, list);
-    let after = turn.desk;
-    let answer = turn.answer;
-    let next = together(core, i, after, cells, opens);
-    Done {
-        table: next,
-        answer: answer,
-    }
+    let Core { n, m, .. } = t.core;
+    let Delivered { table, answer, .. } = acted(t, i, |d, cells, _, _| {
+        steps::look::trip_at(n, m, d, cells, i, list)
+    });
+    Done { table, answer }
 }

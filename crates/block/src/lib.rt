@@ -4,7 +4,6 @@
 ghost use Rattle.std.specs.Prelude.{◌≡◌, ◌∷◌, ℕ, ◌+◌, ◌*◌, ◌/◌, ◌<◌, ◌≤◌, min, get_or, length, take};
 ghost use Rattle.std.proofs.lemmas.List.Edits.{sets};
 ghost use Rattle.laws.specs.Says.{Says};
-ghost use Rattle.laws.specs.FirstNot.{FirstNot};
 ghost use Rattle.clock.specs.Vectors.{places, place};
 ghost use Rattle.block.specs.Limits.{places_for, edition_of, block_bytes, check_at, payload_bytes, vector_bytes, after_vector};
 ghost use Rattle.block.specs.Limits.{cell_bytes, open_bytes, cells_in, opens_in, blocks_for};
@@ -12,7 +11,7 @@ ghost use Rattle.block.specs.Check.{check_of};
 ghost use Rattle.block.specs.Block.{word, long, vector_words, mark_bytes};
 ghost use Rattle.block.specs.Damage.{Right, WholeBlocks, blocks_in};
 ghost use Rattle.block.specs.Stands.{KindStands, Stands};
-ghost use Rattle.block.specs.Mirror.BlockTests.{Passes, PassesAt};
+ghost use Rattle.block.specs.Mirror.BlockTests.{FirstFails};
 ghost use Rattle.block.specs.Mirror.Block.{head};
 ghost use Rattle.machine.specs.Table.{most_writes};
 
@@ -23,6 +22,7 @@ pub const BLOCK: usize = 512;
 // Where its payload stands.
 pub const PAYLOAD_AT: usize = 4;
 // The kinds of a block.
+// Kept: bytes of the format, no enum. `put_head` promises to put any, and an image may tell any; each enum would be turned into its byte.
 pub const SIZE_KIND: u8 = 1;
 
 pub const DESK_KIND: u8 = 2;
@@ -109,12 +109,6 @@ pub fn blocks_for(c: usize, x: usize) -> usize
 
 // The check of a block --
 
-fn wide(x: u8) -> u32
-    ensures { (result ≡ x) × (result < 256) }
-{
-    x as u32
-}
-
 // As the handbook draws it: from byte 507 back to byte 0 the sum so far, and the sum of those sums; plus one at the end.
 fn check(b: &[u8]) -> u32
     requires { check_at ≤ length b.now }
@@ -122,11 +116,9 @@ fn check(b: &[u8]) -> u32
 {
     let mut sum_so_far: u32 = 0;
     let mut sum_of_sums: u32 = 0;
-    let mut to_go = CHECK;
-    while to_go > 0 {
-        sum_so_far = sum_so_far + wide(b[to_go - 1]);
-        sum_of_sums = sum_of_sums + sum_so_far;
-        to_go -= 1;
+    for j in (0..CHECK).rev() {
+        sum_so_far += u32::from(b[j]);
+        sum_of_sums += sum_so_far;
     }
     sum_of_sums + 1
 }
@@ -136,117 +128,65 @@ pub fn seal(b: &mut [u8; BLOCK])
     ensures { b.new ≡ sets b.old check_at (long (check_of b.old)) }
 {
     let c = check(b);
-    b[CHECK] = (c % 256) as u8;
-    b[CHECK + 1] = (c / 256 % 256) as u8;
-    b[CHECK + 2] = (c / 65536 % 256) as u8;
-    b[CHECK + 3] = (c / 16777216) as u8;
+    b[CHECK..].copy_from_slice(&c.to_le_bytes());
 }
 
 // Is the check that stands in a block its own?
-fn right(b: &[u8]) -> bool
-    requires { length b.now ≡ block_bytes }
+pub fn right(b: &[u8; BLOCK]) -> bool
     ensures { Says result (Right b.now) }
 {
-    let c0 = wide(b[CHECK]);
-    let c1 = wide(b[CHECK + 1]);
-    let c2 = wide(b[CHECK + 2]);
-    let c3 = wide(b[CHECK + 3]);
-    c0 + 256 * c1 + 65536 * c2 + 16777216 * c3 == check(b)
+    u32::from_le_bytes([b[CHECK], b[CHECK + 1], b[CHECK + 2], b[CHECK + 3]]) == check(b)
 }
 
 // Can a block of this kind stand at place k: the sizes first, and no others behind them?
 fn kind_stands(k: usize, kind: u8) -> bool
     ensures { Says result (KindStands k kind) }
 {
-    if k == 0 {
-        return kind == SIZE_KIND;
+    match k {
+        0 => kind == SIZE_KIND,
+        _ => DESK_KIND <= kind && kind <= OPEN_KIND,
     }
-    if kind < DESK_KIND {
-        return false;
-    }
-    kind <= OPEN_KIND
 }
 
 // Can a block stand at place k, by the place, edition and kind that it tells?
-fn stands(b: &[u8], k: usize) -> bool
-    requires { length b.now ≡ block_bytes }
+pub fn stands(b: &[u8; BLOCK], k: usize) -> bool
     ensures { Says result (Stands k b.now) }
 {
-    let lo = wide(b[2]);
-    let hi = wide(b[3]);
-    if (lo + 256 * hi) as usize != k {
-        return false;
-    }
-    if b[1] < EDITION_1 {
-        return false;
-    }
-    if EDITION_2 < b[1] {
-        return false;
-    }
-    kind_stands(k, b[0])
-}
-
-// What is asked of each block.
-#[derive(Clone, Copy)]
-pub enum Test {
-    Check,
-    Place,
-}
-
-fn passes(b: &[u8], k: usize, test: Test) -> bool
-    requires { length b.now ≡ block_bytes }
-    ensures { Says result (Passes test k b.now) }
-{
-    match test {
-        Test::Check => right(b),
-        Test::Place => stands(b, k),
-    }
+    usize::from(u16::from_le_bytes([b[2], b[3]])) == k
+        && EDITION_1 <= b[1]
+        && b[1] <= EDITION_2
+        && kind_stands(k, b[0])
 }
 
 // The place of the first block that fails the test, or the block count.
-pub fn first_not(b: &[u8], test: Test) -> usize
-    ensures { FirstNot (PassesAt test b.now) (blocks_in b.now) result }
+pub fn first_not<F: Fn(&[u8; BLOCK], usize) -> bool>(b: &[u8], test: F) -> usize
+    requires { (k : ℕ) (x : _) → k < blocks_in b.now → F.pre test x k }
+    ensures { FirstFails F.Fn test b.now (blocks_in b.now) result }
 {
-    let count = b.len() / BLOCK;
-    let mut k = 0;
-    while k < count {
-        let at = BLOCK * k;
-        let e = at + BLOCK;
-        if !passes(&b[at..e], k, test) {
+    let (blocks, _) = b.as_chunks::<BLOCK>();
+    for (k, block) in blocks.iter().enumerate() {
+        if !test(block, k) {
             return k;
         }
-        k += 1;
     }
-    k
+    blocks.len()
 }
 
 // Is the length a nonzero multiple of 512? (Else 15.)
 pub fn whole_blocks(b: &[u8]) -> bool
     ensures { Says result (WholeBlocks b.now) }
 {
-    let n = b.len();
-    if n == 0 {
-        return false;
-    }
-    n % BLOCK == 0
+    b.len() != 0 && b.len() % BLOCK == 0
 }
 
 // Fields of a block --
-
-pub fn byte(x: u16) -> u8
-    requires { x < 256 }
-    ensures { result ≡ x }
-{
-    x as u8
-}
 
 // A number of 16 bits, low byte first.
 fn put_word(b: &mut [u8; BLOCK], at: usize, x: u16)
     requires { at + 2 ≤ block_bytes }
     ensures { b.new ≡ sets b.old at (word x) }
 {
-    b[at] = (x % 256) as u8;
-    b[at + 1] = (x / 256) as u8;
+    b[at..at + 2].copy_from_slice(&x.to_le_bytes());
 }
 
 // The first p places of a vector, and of marks.
@@ -254,22 +194,18 @@ pub fn put_words(b: &mut [u8; BLOCK], at: usize, v: [u16; PLACES], p: usize)
     requires { (p ≤ places) × (at + vector_bytes p ≤ block_bytes) }
     ensures { b.new ≡ sets b.old at (vector_words p (place v)) }
 {
-    let mut t = 0;
-    while t < p {
+    for t in 0..p {
         put_word(b, at + 2 * t, v[t]);
-        t += 1;
     }
 }
 
 pub fn put_marks(b: &mut [u8; BLOCK], at: usize, v: [u16; PLACES], p: usize)
-    requires p_le_places { (p ≤ places) × (at + p ≤ block_bytes) }
-    requires by_index { (t : ℕ) → get_or v t 0 < 256 }
+    requires room { (p ≤ places) × (at + p ≤ block_bytes) }
+    requires bytes { (t : ℕ) → get_or v t 0 < 256 }
     ensures { b.new ≡ sets b.old at (mark_bytes p (place v)) }
 {
-    let mut t = 0;
-    while t < p {
-        b[at + t] = byte(v[t]);
-        t += 1;
+    for t in 0..p {
+        b[at + t] = v[t] as u8;
     }
 }
 
@@ -286,9 +222,9 @@ pub fn put_record(
     requires { (p ≤ places) × ((at + after_vector p ≤ block_bytes) × ((x < 256) × ((y < 256) × (z < 256)))) }
     ensures { b.new ≡ sets b.old at (x ∷ y ∷ z ∷ 0 ∷ vector_words p (place v)) }
 {
-    b[at] = byte(x);
-    b[at + 1] = byte(y);
-    b[at + 2] = byte(z);
+    b[at] = x as u8;
+    b[at + 1] = y as u8;
+    b[at + 2] = z as u8;
     b[at + 3] = 0;
     put_words(b, at + VECTOR_AT, v, p);
 }
@@ -304,37 +240,19 @@ pub fn put_head(b: &mut [u8; BLOCK], p: usize, kind: u8, at: u16)
 
 // Bytes --
 
-pub fn least(a: usize, b: usize) -> usize
-    ensures { result ≡ min a b }
-{
-    if a < b { a } else { b }
-}
-
 // The first len bytes of a part, put into the buffer from place at on.
 pub fn copy(part: &[u8], len: usize, out: &mut [u8], at: usize)
     requires { (len ≤ length part.now) × (at + len ≤ length out.old) }
     ensures { out.new ≡ sets out.old at (take len part.now) }
 {
-    let mut j = 0;
-    while j < len {
-        out[at + j] = part[j];
-        j += 1;
-    }
+    out[at..at + len].copy_from_slice(&part[..len]);
 }
 
 // Are two parts of one length the same bytes?
+// Kept: the must-fail edit `byte_not_compared` is on it, and docs/ name it.
 pub fn same(a: &[u8], b: &[u8]) -> bool
     requires { length a.now ≡ length b.now }
     ensures { Says result (a.now ≡ b.now) }
 {
-    // No way out in the middle: the compiler then compares many bytes at a time.
-    let mut same = true;
-    let mut i = 0;
-    while i < a.len() {
-        if a[i] != b[i] {
-            same = false;
-        }
-        i += 1;
-    }
-    same
+    a == b
 }

@@ -62,10 +62,8 @@ fn put_open(b: &mut [u8; BLOCK], at: usize, o: Open, p: usize)
     requires { (p ≤ places) × ((at + open_bytes p ≤ block_bytes) × SmallOpen o) }
     ensures { b.new ≡ sets b.old at (open_raw p o) }
 {
-    let v = o.vector;
-    block::put_record(b, at, o.writer, o.status, o.cell, v, p);
-    let k = o.marks;
-    block::put_marks(b, at + block::cell_bytes(p), k, p);
+    block::put_record(b, at, o.writer, o.status, o.cell, o.vector, p);
+    block::put_marks(b, at + block::cell_bytes(p), o.marks, p);
 }
 
 // The block of desk k, from 1: it stands at place k.
@@ -75,11 +73,8 @@ fn desk_block(p: usize, k: u16, d: Desk) -> [u8; BLOCK]
 {
     let mut b = [0u8; BLOCK];
     block::put_head(&mut b, p, DESK_KIND, k);
-    let applied = d.applied;
-    block::put_record(&mut b, PAYLOAD_AT, k, 0, 0, applied, p);
-    let clock = d.clock;
-    let v = clock.at;
-    block::put_words(&mut b, PAYLOAD_AT + block::cell_bytes(p), v, p);
+    block::put_record(&mut b, PAYLOAD_AT, k, 0, 0, d.applied, p);
+    block::put_words(&mut b, PAYLOAD_AT + block::cell_bytes(p), d.clock.at, p);
     block::seal(&mut b);
     b
 }
@@ -91,9 +86,9 @@ fn size_block(p: usize, n: u16, m: u16, count: u16) -> [u8; BLOCK]
 {
     let mut b = [0u8; BLOCK];
     block::put_head(&mut b, p, SIZE_KIND, 0);
-    b[DESKS_AT] = block::byte(n);
-    b[CELLS_AT] = block::byte(m);
-    b[COUNT_AT] = block::byte(count);
+    b[DESKS_AT] = n as u8;
+    b[CELLS_AT] = m as u8;
+    b[COUNT_AT] = count as u8;
     block::seal(&mut b);
     b
 }
@@ -108,13 +103,17 @@ fn cell_block(p: usize, at: u16, cells: &Cells, i: usize, q: usize) -> [u8; BLOC
     let w = block::cell_bytes(p);
     let room = block::cells_in(p);
     let first = room * q;
-    let end = block::least(CELLS, first + room);
-    let mut j = 0;
-    while first + j < end {
+    for j in 0..room.min(CELLS - first) {
         let c = table::cell_at(cells, i * CELLS + (first + j));
-        let v = c.vector;
-        block::put_record(&mut b, PAYLOAD_AT + w * j, c.writer, c.status, 0, v, p);
-        j += 1;
+        block::put_record(
+            &mut b,
+            PAYLOAD_AT + w * j,
+            c.writer,
+            c.status,
+            0,
+            c.vector,
+            p,
+        );
     }
     block::seal(&mut b);
     b
@@ -137,13 +136,9 @@ fn open_block(
     let w = block::open_bytes(p);
     let room = block::opens_in(p);
     let first = room * q;
-    let end = block::least(count, first + room);
-    let mut j = 0;
-    while first + j < end {
-        let e = order[first + j];
-        let o = table::open_at(opens, e);
+    for j in 0..room.min(count.saturating_sub(first)) {
+        let o = table::open_at(opens, order[first + j]);
         put_open(&mut b, PAYLOAD_AT + w * j, o, p);
-        j += 1;
     }
     block::seal(&mut b);
     b
@@ -174,25 +169,17 @@ fn block_at(
     requires { Planned (table_with core cells.now opens.now) order.now plan × (k < plan.total) }
     ensures { result ≡ block_at plan.p (model_of (table_with core cells.now opens.now)) k }
 {
-    let n = core.n;
-    let m = core.m;
-    let p = plan.p;
-    let count = plan.count;
     if k == 0 {
-        return size_block(p, n as u16, m as u16, count as u16);
+        return size_block(plan.p, core.n as u16, core.m as u16, plan.count as u16);
     }
-    if k <= n {
-        let desks = core.desks;
-        let d = desks[k - 1];
-        return desk_block(p, k as u16, d);
+    if k <= core.n {
+        return desk_block(plan.p, k as u16, core.desks[k - 1]);
     }
-    let first = plan.ahead;
-    if k < first {
-        let q = k - (1 + n);
-        let row = plan.row;
-        return cell_block(p, k as u16, cells, q / row, q % row);
+    if k < plan.ahead {
+        let q = k - (1 + core.n);
+        return cell_block(plan.p, k as u16, cells, q / plan.row, q % plan.row);
     }
-    open_block(p, k as u16, opens, order, count, k - first)
+    open_block(plan.p, k as u16, opens, order, plan.count, k - plan.ahead)
 }
 
 fn save_blocks(
@@ -206,12 +193,9 @@ fn save_blocks(
     requires { Planned (table_with core cells.now opens.now) order.now plan × (block_bytes * plan.total ≤ length out.old) }
     ensures { out.new ≡ sets out.old 0 (encode (model_of (table_with core cells.now opens.now))) }
 {
-    let total = plan.total;
-    let mut k = 0;
-    while k < total {
+    for k in 0..plan.total {
         let b = block_at(core, cells, opens, order, plan, k);
         block::copy(&b, BLOCK, out, BLOCK * k);
-        k += 1;
     }
 }
 
@@ -227,42 +211,21 @@ fn same_blocks(
     requires { Planned (table_with core cells.now opens.now) order.now plan × (length b.now ≡ block_bytes * plan.total) }
     ensures { Says result (encode (model_of (table_with core cells.now opens.now)) ≡ b.now) }
 {
-    let total = plan.total;
-    let mut k = 0;
-    while k < total {
-        let x = block_at(core, cells, opens, order, plan, k);
-        let at = BLOCK * k;
-        let e = at + BLOCK;
-        if !block::same(&x, &b[at..e]) {
-            return false;
-        }
-        k += 1;
-    }
-    true
+    plan.total
+        == block::first_not(
+            b,
+            |x, k| block::same(x, &block_at(core, cells, opens, order, plan, k)),
+        )
 }
 
 // The open writes, by writer then number --
-
-fn smaller(a: u16, b: u16) -> u16
-    ensures { result ≡ min a b }
-{
-    if a < b { a } else { b }
-}
-
-fn number(x: u16) -> usize
-    ensures { (result ≡ x) × (result < 65536) }
-{
-    x as usize
-}
 
 // Desk u's own count, u from 0.
 fn own_count(desks: [Desk; PLACES], u: usize) -> u16
     requires { u < places }
     ensures { result ≡ applied_m desks (suc u) (suc u) }
 {
-    let d = desks[u];
-    let a = d.applied;
-    a[u]
+    desks[u].applied[u]
 }
 
 // How many of desk u's writes every desk has applied, u from 0.
@@ -271,12 +234,8 @@ fn lowest(desks: [Desk; PLACES], n: usize, u: usize) -> u16
     ensures { result ≡ low n (applied_m desks) (suc u) }
 {
     let mut r = own_count(desks, u);
-    let mut i = 0;
-    while i < n {
-        let d = desks[i];
-        let a = d.applied;
-        r = smaller(a[u], r);
-        i += 1;
+    for i in 0..n {
+        r = r.min(desks[i].applied[u]);
     }
     r
 }
@@ -287,32 +246,25 @@ fn open_count(desks: [Desk; PLACES], n: usize) -> usize
     ensures { (result ≡ length (counted n (applied_m desks))) × (result ≤ places * (most_writes + 1)) }
 {
     let mut r = 0;
-    let mut u = 0;
-    while u < n {
-        let own = number(own_count(desks, u));
-        let lo = number(lowest(desks, n, u));
-        r = r + (own - lo);
-        u += 1;
+    for u in 0..n {
+        r += usize::from(own_count(desks, u) - lowest(desks, n, u));
     }
     r
 }
 
 // The entries of desk u's writes lo + 1 to own, u from 1, put into the order from place p on.
 fn order_of(opens: &Opens, u: usize, lo: u16, own: u16, order: &mut [usize], p: usize) -> usize
-    requires fact { (In places u) × ((lo ≤ own) × (p + (own - lo) ≤ length order.old)) }
-    requires by_index { (k : ℕ) → lo < k → k ≤ own → opens_m opens.now u k ≡ none → ⊥ }
+    requires room { (In places u) × ((lo ≤ own) × (p + (own - lo) ≤ length order.old)) }
+    requires open_numbers { (k : ℕ) → lo < k → k ≤ own → opens_m opens.now u k ≡ none → ⊥ }
     ensures { Listed opens.now u lo own p order.old order.new result }
 {
-    let mut k = lo;
     let mut at = p;
-    while k < own {
-        let found = table::find(opens, u, k + 1);
-        let Found::At(e) = found else {
+    for k in lo..own {
+        let Found::At(e) = table::find(opens, u, k + 1) else {
             return at;
         };
         order[at] = e;
         at += 1;
-        k += 1;
     }
     at
 }
@@ -323,12 +275,15 @@ fn order_all(opens: &Opens, desks: [Desk; PLACES], n: usize, order: &mut [usize]
     ensures { InOrder opens.now (counted n (applied_m desks)) order.new result }
 {
     let mut count = 0;
-    let mut u = 0;
-    while u < n {
-        let own = own_count(desks, u);
-        let lo = lowest(desks, n, u);
-        count = order_of(opens, u + 1, lo, own, order, count);
-        u += 1;
+    for u in 0..n {
+        count = order_of(
+            opens,
+            u + 1,
+            lowest(desks, n, u),
+            own_count(desks, u),
+            order,
+            count,
+        );
     }
     count
 }
@@ -366,11 +321,7 @@ pub fn image_length(core: Core) -> usize
     requires { (core.n ≤ places) × (core.m ≤ desk_cells) }
     ensures { result ≡ block_bytes * blocks_of (places_for core.n) core.n core.m (length (counted core.n (applied_m core.desks))) }
 {
-    let n = core.n;
-    let m = core.m;
-    let desks = core.desks;
-    let count = open_count(desks, n);
-    length_of(n, m, count)
+    length_of(core.n, core.m, open_count(core.desks, core.n))
 }
 
 // The order of the open writes of a table that keeps the rules, and how its blocks stand. (The cells are there for the contract alone.)
@@ -378,27 +329,24 @@ fn planned(core: Core, cells: &Cells, opens: &Opens, order: &mut [usize; OPENS])
     requires { SoundTable (table_with core cells.now opens.now) }
     ensures { Planned (table_with core cells.now opens.now) order.new result }
 {
-    let n = core.n;
-    let m = core.m;
-    let desks = core.desks;
-    let count = order_all(opens, desks, n, order);
-    let p = block::places_for(n);
-    let row = per_desk(p, m);
-    let ahead = cells_end(n, row);
+    let count = order_all(opens, core.desks, core.n, order);
+    let p = block::places_for(core.n);
+    let row = per_desk(p, core.m);
+    let ahead = cells_end(core.n, row);
     let total = ahead + block::blocks_for(block::opens_in(p), count);
     Plan {
-        p: p,
-        count: count,
-        row: row,
-        ahead: ahead,
-        total: total,
+        p,
+        count,
+        row,
+        ahead,
+        total,
     }
 }
 
 // The image of a table that keeps the rules, into a buffer that is long enough. The result is the image's length.
 pub fn save_parts(core: Core, cells: &Cells, opens: &Opens, out: &mut [u8]) -> usize
-    requires sound_table { SoundTable (table_with core cells.now opens.now) }
-    requires opens_in_bounds { length (encode (model_of (table_with core cells.now opens.now))) ≤ length out.old }
+    requires sound { SoundTable (table_with core cells.now opens.now) }
+    requires room { length (encode (model_of (table_with core cells.now opens.now))) ≤ length out.old }
     ensures { Saved (model_of (table_with core cells.now opens.now)) out.old out.new result }
 {
     let mut order = [0usize; OPENS];
@@ -414,10 +362,7 @@ pub fn is_image(core: Core, cells: &Cells, opens: &Opens, b: &[u8]) -> bool
 {
     let mut order = [0usize; OPENS];
     let plan = planned(core, cells, opens, &mut order);
-    if b.len() != BLOCK * plan.total {
-        return false;
-    }
-    same_blocks(core, cells, opens, &order, plan, b)
+    b.len() == BLOCK * plan.total && same_blocks(core, cells, opens, &order, plan, b)
 }
 
 // What save answers: the image's length, or refusal 13 (Broken) or 14 (Short).
@@ -432,15 +377,11 @@ pub enum Saving {
 pub fn save(t: Table, out: &mut [u8]) -> Saving
     ensures { Saves t out.old out.new (saving_of result) }
 {
-    let core = t.core;
-    let cells = t.cells;
-    let opens = t.opens;
-    if !rules::keeps_rules(core, &cells, &opens) {
+    if !rules::keeps_rules(t.core, &t.cells, &t.opens) {
         return Saving::Broken;
     }
-    if out.len() < image_length(core) {
+    if out.len() < image_length(t.core) {
         return Saving::Short;
     }
-    let n = save_parts(core, &cells, &opens, out);
-    Saving::Length(n)
+    Saving::Length(save_parts(t.core, &t.cells, &t.opens, out))
 }

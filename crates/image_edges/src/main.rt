@@ -14,13 +14,8 @@ fn say(rt: &impl Print, line: &[u8]) -> io::Result<()> {
 
 fn saving(rt: &impl Print, s: Saving) -> io::Result<()> {
     match s {
-        Saving::Length(n) => {
-            if n == 3072 {
-                say(rt, b"3072 bytes\n")
-            } else {
-                say(rt, b"another length\n")
-            }
-        }
+        Saving::Length(3072) => say(rt, b"3072 bytes\n"),
+        Saving::Length(_) => say(rt, b"another length\n"),
         Saving::Broken => say(rt, b"13\n"),
         Saving::Short => say(rt, b"14\n"),
     }
@@ -43,7 +38,6 @@ fn loading(rt: &impl Print, o: Outcome) -> io::Result<()> {
 
 // Two desks and a cell: desk 1 has written status 2, which desk 2 has yet to receive. The open write is in the entry named.
 fn one_write(entry: usize) -> Table {
-    let zero = [0u16; PLACES];
     let mut one = [0u16; PLACES];
     one[0] = 1;
     let first = Desk {
@@ -51,16 +45,12 @@ fn one_write(entry: usize) -> Table {
         clock: Clock { at: one },
     };
     let second = Desk {
-        applied: zero,
-        clock: Clock { at: zero },
+        applied: [0; PLACES],
+        clock: Clock { at: [0; PLACES] },
     };
     let mut desks = [second; PLACES];
     desks[0] = first;
-    let core = Core {
-        n: 2,
-        m: 1,
-        desks: desks,
-    };
+    let core = Core { n: 2, m: 1, desks };
     let mut cells = [0u16; PLACES * CELLS * CELL];
     cells[0] = 1;
     cells[1] = 2;
@@ -74,68 +64,48 @@ fn one_write(entry: usize) -> Table {
         opens[at + 3] = 1;
         opens[at + 3 + PLACES] = 2;
     }
-    Table {
-        core: core,
-        cells: cells,
-        opens: opens,
-    }
+    Table { core, cells, opens }
 }
 
 fn tell(rt: &impl Print, b: bool) -> io::Result<()> {
-    if b {
-        say(rt, b"yes\n")
-    } else {
-        say(rt, b"no\n")
-    }
+    say(rt, if b { b"yes\n" } else { b"no\n" })
 }
 
 // Save into the first n bytes.
 fn save_into(rt: &impl Print, t: Table, out: &mut [u8], n: usize) -> io::Result<()> {
-    let z = 0;
     if n <= out.len() {
-        saving(rt, image::save(t, &mut out[z..n]))?;
+        saving(rt, image::save(t, &mut out[..n]))?;
     }
     Ok(())
 }
 
 // Load the first n bytes.
 fn load_from(rt: &impl Print, b: &[u8], n: usize) -> io::Result<()> {
-    let z = 0;
     if n <= b.len() {
-        let r = load::load(&b[z..n]);
-        let a = r.answer;
-        loading(rt, a)?;
+        loading(rt, load::load(&b[..n]).answer)?;
     }
     Ok(())
 }
 
 // Are the bytes from n on the same?
 fn same_from(rt: &impl Print, a: &[u8], b: &[u8], n: usize) -> io::Result<()> {
-    if n <= a.len() {
-        if n <= b.len() {
-            tell(rt, a[n..] == b[n..])?;
-        }
+    if n <= a.len() && n <= b.len() {
+        tell(rt, a[n..] == b[n..])?;
     }
     Ok(())
 }
 
 fn same_upto(rt: &impl Print, a: &[u8], b: &[u8], n: usize) -> io::Result<()> {
-    let z = 0;
-    if n <= a.len() {
-        if n <= b.len() {
-            tell(rt, a[z..n] == b[z..n])?;
-        }
+    if n <= a.len() && n <= b.len() {
+        tell(rt, a[..n] == b[..n])?;
     }
     Ok(())
 }
 
 // Load the first n bytes, and save what was loaded.
 fn reload(rt: &impl Print, b: &[u8], n: usize, out: &mut [u8]) -> io::Result<()> {
-    let z = 0;
     if n <= b.len() {
-        let r = load::load(&b[z..n]);
-        let t = r.table;
-        saving(rt, image::save(t, out))?;
+        saving(rt, image::save(load::load(&b[..n]).table, out))?;
     }
     Ok(())
 }

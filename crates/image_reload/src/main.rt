@@ -47,20 +47,13 @@ fn say(rt: &impl Print, line: &[u8]) -> io::Result<()> {
 }
 
 fn say_same(rt: &impl Print, same: bool) -> io::Result<()> {
-    if same {
-        say(rt, b" | same")
-    } else {
-        say(rt, b" | DIFFERENT")
-    }
+    say(rt, if same { b" | same" } else { b" | DIFFERENT" })
 }
 
 // The first bytes of a buffer, without their LF.
 fn emit(rt: &impl Print, all: &[u8], len: usize) -> io::Result<()> {
-    if 0 < len {
-        if len <= all.len() {
-            let e = len - 1;
-            say(rt, &all[0..e])?;
-        }
+    if 0 < len && len <= all.len() {
+        say(rt, &all[..len - 1])?;
     }
     Ok(())
 }
@@ -70,47 +63,39 @@ fn step(t: Table, line: &[u8]) -> Said
     requires { Live t }
     ensures { Live result.table }
 {
-    let core = t.core;
-    let mut cells = t.cells;
-    let mut opens = t.opens;
-    let mut out = [0u8; ANSWER];
-    let p = session::run(core, &mut cells, &mut opens, line, 0, &mut out);
-    let after = p.core;
-    let next = Table {
-        core: after,
-        cells: cells,
-        opens: opens,
+    let Table {
+        core,
+        mut cells,
+        mut opens,
+    } = t;
+    let mut answer = [0u8; ANSWER];
+    let p = session::run(core, &mut cells, &mut opens, line, 0, &mut answer);
+    let table = Table {
+        core: p.core,
+        cells,
+        opens,
     };
     Said {
-        table: next,
-        answer: out,
+        table,
+        answer,
         len: p.len,
     }
 }
 
 // A table saved; no bytes where that is refused.
 fn saved(t: Table) -> Image {
-    let mut b = image::room();
-    let s = image::save(t, &mut b);
-    let Saving::Length(len) = s else {
-        return Image { bytes: b, len: 0 };
+    let mut bytes = image::room();
+    let Saving::Length(len) = image::save(t, &mut bytes) else {
+        return Image { bytes, len: 0 };
     };
-    Image { bytes: b, len: len }
+    Image { bytes, len }
 }
 
 // Do two tables have the same image, byte for byte?
 fn same_image(a: Table, b: Table) -> bool {
     let x = saved(a);
     let y = saved(b);
-    if x.len == 0 {
-        return false;
-    }
-    if x.len != y.len {
-        return false;
-    }
-    let p = x.bytes;
-    let q = y.bytes;
-    p == q
+    x.len != 0 && x.len == y.len && x.bytes == y.bytes
 }
 
 fn say_outcome(rt: &impl Print, o: Outcome) -> io::Result<()> {
@@ -127,19 +112,17 @@ fn loaded(rt: &impl Print, b: &[u8]) -> io::Result<Table>
     ensures { IfOk result (λ t. Live t) }
 {
     let l = load::load(b);
-    let o = l.answer;
-    say_outcome(rt, o)?;
+    say_outcome(rt, l.answer)?;
     Ok(l.table)
 }
 
 fn load_first(rt: &impl Print, b: &[u8], len: usize) -> io::Result<Table>
     ensures { IfOk result (λ t. Live t) }
 {
-    let z = 0;
     if b.len() < len {
         return loaded(rt, b);
     }
-    loaded(rt, &b[z..len])
+    loaded(rt, &b[..len])
 }
 
 // A table saved and reloaded. What is not saved is not reloaded: no bytes are 12.
@@ -147,8 +130,7 @@ fn reload(rt: &impl Print, t: Table) -> io::Result<Table>
     ensures { IfOk result (λ u. Live u) }
 {
     let x = saved(t);
-    let b = x.bytes;
-    load_first(rt, &b, x.len)
+    load_first(rt, &x.bytes, x.len)
 }
 
 // A step of both.
@@ -158,17 +140,13 @@ fn both(rt: &impl Print, t: Two, line: &[u8]) -> io::Result<Two>
 {
     let a = step(t.kept, line);
     let b = step(t.reloaded, line);
-    let x = a.answer;
-    let y = b.answer;
-    emit(rt, &x, a.len)?;
+    emit(rt, &a.answer, a.len)?;
     say(rt, b" | ")?;
-    emit(rt, &y, b.len)?;
-    say_same(rt, x == y)?;
-    let kept = a.table;
-    let reloaded = b.table;
+    emit(rt, &b.answer, b.len)?;
+    say_same(rt, a.answer == b.answer)?;
     Ok(Two {
-        kept: kept,
-        reloaded: reloaded,
+        kept: a.table,
+        reloaded: b.table,
     })
 }
 
@@ -177,11 +155,9 @@ fn again(rt: &impl Print, t: Two) -> io::Result<Two>
     requires { Live t.kept × Live t.reloaded }
     ensures { IfOk result (λ u. Live u.kept × Live u.reloaded) }
 {
-    let kept = t.kept;
-    let reloaded = reload(rt, t.reloaded)?;
     Ok(Two {
-        kept: kept,
-        reloaded: reloaded,
+        kept: t.kept,
+        reloaded: reload(rt, t.reloaded)?,
     })
 }
 
@@ -194,11 +170,10 @@ fn compare(rt: &impl Print, t: Two) -> io::Result<()> {
 fn nothing() -> Two
     ensures { Live result.kept × Live result.reloaded }
 {
-    let none = table::begin(0, 0);
-    let kept = none.table;
+    let none = table::begin(0, 0).table;
     Two {
-        kept: kept,
-        reloaded: kept,
+        kept: none,
+        reloaded: none,
     }
 }
 

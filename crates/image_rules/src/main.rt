@@ -8,7 +8,7 @@
 // Every other line is a comment.
 #![tactic(auto)]
 
-ghost use Rattle.std.specs.Prelude.{◌+◌, ◌<◌, ◌≤◌, length, IfOk};
+ghost use Rattle.std.specs.Prelude.{◌+◌, ◌*◌, ◌<◌, ◌≤◌, length, IfOk};
 ghost use Rattle.std.specs.Io.{ReadsAtMost};
 ghost use Rattle.block.specs.Limits.{block_bytes};
 
@@ -31,7 +31,7 @@ fn say(rt: &impl Print, line: &[u8]) -> io::Result<()> {
 
 fn emit(rt: &impl Print, all: &[u8], len: usize) -> io::Result<()> {
     if len <= all.len() {
-        say(rt, &all[0..len])?;
+        say(rt, &all[..len])?;
     }
     Ok(())
 }
@@ -40,22 +40,19 @@ fn emit(rt: &impl Print, all: &[u8], len: usize) -> io::Result<()> {
 fn seal_at(b: &mut [u8], at: usize)
     requires { at + block_bytes ≤ length b.old }
 {
-    let e = at + BLOCK;
     let mut block = [0u8; BLOCK];
-    block::copy(&b[at..e], BLOCK, &mut block, 0);
+    block::copy(&b[at..at + BLOCK], BLOCK, &mut block, 0);
     block::seal(&mut block);
     block::copy(&block, BLOCK, b, at);
 }
 
 // The checks of the first len bytes, each put right.
 fn seal(b: &mut [u8; IMAGE], len: usize) {
-    let mut at = 0;
-    while at < len {
-        if IMAGE - BLOCK < at {
-            return;
+    for k in 0..IMAGE / BLOCK {
+        let at = BLOCK * k;
+        if at < len {
+            seal_at(b, at);
         }
-        seal_at(b, at);
-        at += BLOCK;
     }
 }
 
@@ -75,15 +72,12 @@ fn say_outcome(rt: &impl Print, o: Outcome) -> io::Result<()> {
 }
 
 fn loaded(rt: &impl Print, b: &[u8]) -> io::Result<()> {
-    let l = load::load(b);
-    let o = l.answer;
-    say_outcome(rt, o)
+    say_outcome(rt, load::load(b).answer)
 }
 
 fn load_first(rt: &impl Print, b: &[u8], len: usize) -> io::Result<()> {
-    let z = 0;
     if len <= b.len() {
-        loaded(rt, &b[z..len])?;
+        loaded(rt, &b[..len])?;
     }
     Ok(())
 }
@@ -97,15 +91,12 @@ fn take(list: &mut [u16; LIST], count: usize, b: u8) -> usize {
     if LIST <= count {
         return count;
     }
-    if b < b'0' {
+    let b'0'..=b'9' = b else {
         return count + 1;
-    }
-    if b'9' < b {
-        return count + 1;
-    }
+    };
     let v = list[count];
     if v < 1000 {
-        list[count] = 10 * v + (b - b'0') as u16;
+        list[count] = 10 * v + u16::from(b - b'0');
     }
     count
 }
@@ -113,29 +104,30 @@ fn take(list: &mut [u16; LIST], count: usize, b: u8) -> usize {
 // The numbers that a line begins with, and how many. One byte follows each; the first letter ends them.
 fn numbers(line: &[u8], list: &mut [u16; LIST]) -> usize {
     let mut count = 0;
-    let mut j = 0;
-    while j < line.len() {
-        if b'A' <= line[j] {
+    for b in line {
+        if b'A' <= *b {
             return count;
         }
-        count = take(list, count, line[j]);
-        j += 1;
+        count = take(list, count, *b);
     }
     count
 }
 
-// Byte j of block k becomes v, for the numbers k, j, v from place 1 on.
-fn change(b: &mut [u8; IMAGE], list: &[u16; LIST], count: usize) {
-    let mut p = 1;
-    while p + 2 < count {
-        if LIST <= p + 2 {
-            return;
-        }
-        let at = BLOCK * table::wide(list[p]) + table::wide(list[p + 1]);
+// The bytes of so many blocks.
+fn bytes_of(blocks: u16) -> usize
+    ensures { result ≤ 65535 * block_bytes }
+{
+    BLOCK * usize::from(blocks)
+}
+
+// Byte j of block k becomes v, for the numbers k, j, v three by three.
+fn change(b: &mut [u8; IMAGE], list: &[u16]) {
+    let (changes, _) = list.as_chunks::<3>();
+    for [k, j, v] in changes {
+        let at = bytes_of(*k) + usize::from(*j);
         if at < IMAGE {
-            b[at] = (list[p + 2] % 256) as u8;
+            b[at] = (*v % 256) as u8;
         }
-        p += 3;
     }
 }
 
@@ -143,9 +135,11 @@ fn change(b: &mut [u8; IMAGE], list: &[u16; LIST], count: usize) {
 fn broken(rt: &impl Print, good: &[u8; IMAGE], line: &[u8]) -> io::Result<()> {
     let mut list = [0u16; LIST];
     let count = numbers(line, &mut list);
-    let len = BLOCK * table::wide(list[0]);
+    let len = bytes_of(list[0]);
     let mut b = *good;
-    change(&mut b, &list, count);
+    if let Some(changes) = list.get(1..count) {
+        change(&mut b, changes);
+    }
     say(rt, line)?;
     say(rt, b":")?;
     load_image(rt, &b, len)?;
@@ -161,21 +155,18 @@ fn replay(rt: &impl Print, text: &[u8]) -> io::Result<Table> {
     let mut opens = [0u16; OPENS * OPEN];
     let mut out = [0u8; 16384];
     let p = session::run(core, &mut cells, &mut opens, text, 0, &mut out);
-    let len = p.len;
-    emit(rt, &out, len)?;
-    let after = p.core;
+    emit(rt, &out, p.len)?;
     Ok(Table {
-        core: after,
-        cells: cells,
-        opens: opens,
+        core: p.core,
+        cells,
+        opens,
     })
 }
 
 fn save(rt: &impl Print, good: &mut [u8; IMAGE], schedule: &[u8]) -> io::Result<()> {
     let t = replay(rt, schedule)?;
     let mut b = image::room();
-    let s = image::save(t, &mut b);
-    let Saving::Length(len) = s else {
+    let Saving::Length(len) = image::save(t, &mut b) else {
         return say(rt, b"not saved\n");
     };
     rt.print(len)?;
@@ -198,16 +189,10 @@ fn one(
     requires { (from ≤ at) × (at ≤ length text.now) }
     ensures { IfOk result (λ next. next ≤ at) }
 {
-    if line.len() == 0 {
-        return Ok(from);
-    }
-    let letter = line[0];
-    match letter {
-        b'N' => {
-            return Ok(at);
-        }
-        b'S' => save(rt, good, &text[from..at])?,
-        b'0'..=b'9' => broken(rt, good, line)?,
+    match line {
+        [b'N', ..] => return Ok(at),
+        [b'S', ..] => save(rt, good, &text[from..at])?,
+        [b'0'..=b'9', ..] => broken(rt, good, line)?,
         _ => {}
     }
     Ok(from)

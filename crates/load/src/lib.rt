@@ -19,32 +19,19 @@ ghost use Rattle.load.specs.Link.ReadsBack.{ReadAs};
 ghost use Rattle.load.specs.Loading.{Answers};
 ghost use Rattle.load.specs.Finding.{finding_of, finding_numbers};
 
-use block::{BLOCK, PAYLOAD_AT, Test, VECTOR_AT};
+use block::{BLOCK, PAYLOAD_AT, VECTOR_AT};
 use clock::{Clock, PLACES};
 use image::{APPLIED_AT, CELLS_AT, COUNT_AT, DESKS_AT};
+use std::array;
 use table::{CELL, CELLS, Cell, Cells, Core, Desk, Found, OPEN, OPENS, Open, Opens, Table};
 
 // Fields --
-
-fn wide(x: u8) -> u16
-    ensures { (result ≡ x) × (result < 256) }
-{
-    x as u16
-}
-
-fn size(x: u8) -> usize
-    ensures { (result ≡ x) × (result < 256) }
-{
-    x as usize
-}
 
 fn word_at(b: &[u8], at: usize) -> u16
     requires { at + 2 ≤ length b.now }
     ensures { result ≡ word_at b.now at }
 {
-    let lo = wide(b[at]);
-    let hi = wide(b[at + 1]);
-    lo + 256 * hi
+    u16::from_le_bytes([b[at], b[at + 1]])
 }
 
 // A vector of p places, and p marks: zeros in the others.
@@ -52,39 +39,24 @@ fn words_at(b: &[u8], at: usize, p: usize) -> [u16; PLACES]
     requires { (p ≤ places) × (at + vector_bytes p ≤ length b.now) }
     ensures { result ≡ words_from p b.now at }
 {
-    let mut v = [0u16; PLACES];
-    let mut t = 0;
-    while t < p {
-        v[t] = word_at(b, at + 2 * t);
-        t += 1;
-    }
-    v
+    array::from_fn(|t| if t < p { word_at(b, at + 2 * t) } else { 0 })
 }
 
 fn bytes_at(b: &[u8], at: usize, p: usize) -> [u16; PLACES]
     requires { (p ≤ places) × (at + p ≤ length b.now) }
     ensures { result ≡ bytes_from p b.now at }
 {
-    let mut v = [0u16; PLACES];
-    let mut t = 0;
-    while t < p {
-        v[t] = wide(b[at + t]);
-        t += 1;
-    }
-    v
+    array::from_fn(|t| if t < p { u16::from(b[at + t]) } else { 0 })
 }
 
 fn read_cell(b: &[u8], at: usize, p: usize) -> Cell
     requires { (p ≤ places) × (at + cell_bytes p ≤ length b.now) }
     ensures { result ≡ cell_from p b.now at }
 {
-    let writer = wide(b[at]);
-    let status = wide(b[at + 1]);
-    let vector = words_at(b, at + VECTOR_AT, p);
     Cell {
-        writer: writer,
-        status: status,
-        vector: vector,
+        writer: u16::from(b[at]),
+        status: u16::from(b[at + 1]),
+        vector: words_at(b, at + VECTOR_AT, p),
     }
 }
 
@@ -92,16 +64,13 @@ fn read_open(b: &[u8], at: usize, p: usize) -> Open
     requires { (p ≤ places) × (at + open_bytes p ≤ length b.now) }
     ensures { result ≡ open_from p b.now at }
 {
-    let c = read_cell(b, at, p);
-    let vector = c.vector;
-    let cell = wide(b[at + 2]);
-    let marks = bytes_at(b, at + block::cell_bytes(p), p);
+    let Cell { writer, status, vector } = read_cell(b, at, p);
     Open {
-        writer: c.writer,
-        status: c.status,
-        cell: cell,
-        vector: vector,
-        marks: marks,
+        writer,
+        status,
+        cell: u16::from(b[at + 2]),
+        vector,
+        marks: bytes_at(b, at + block::cell_bytes(p), p),
     }
 }
 
@@ -111,12 +80,11 @@ fn read_desk(b: &[u8], i: usize, p: usize) -> Desk
     ensures { result ≡ desk_from p b.now i }
 {
     let at = BLOCK + (BLOCK * i + APPLIED_AT);
-    let applied = words_at(b, at, p);
-    let v = words_at(b, at + 2 * p, p);
-    let clock = Clock { at: v };
     Desk {
-        applied: applied,
-        clock: clock,
+        applied: words_at(b, at, p),
+        clock: Clock {
+            at: words_at(b, at + 2 * p, p),
+        },
     }
 }
 
@@ -129,16 +97,13 @@ fn sizes_fit(b: &[u8]) -> bool
     if b.len() < BLOCK {
         return false;
     }
-    let n = size(b[DESKS_AT]);
-    let m = size(b[CELLS_AT]);
-    let count = size(b[COUNT_AT]);
+    let n = usize::from(b[DESKS_AT]);
+    let m = usize::from(b[CELLS_AT]);
+    let count = usize::from(b[COUNT_AT]);
     if !table::begins(n, m) {
         return false;
     }
-    if OPENS < count {
-        return false;
-    }
-    b.len() == image::length_of(n, m, count)
+    count <= OPENS && b.len() == image::length_of(n, m, count)
 }
 
 fn desk_or(b: &[u8], p: usize, n: usize, i: usize) -> Desk
@@ -148,11 +113,9 @@ fn desk_or(b: &[u8], p: usize, n: usize, i: usize) -> Desk
     if i < n {
         return read_desk(b, i, p);
     }
-    let zero = [0u16; PLACES];
-    let clock = Clock { at: zero };
     Desk {
-        applied: zero,
-        clock: clock,
+        applied: [0; PLACES],
+        clock: Clock { at: [0; PLACES] },
     }
 }
 
@@ -160,15 +123,7 @@ fn read_desks(b: &[u8], p: usize, n: usize) -> [Desk; PLACES]
     requires { (p ≤ places) × ((n ≤ places) × (block_bytes + block_bytes * n ≤ length b.now)) }
     ensures { result ≡ tab places (desk_for p b.now n) }
 {
-    let first = desk_or(b, p, n, 0);
-    let mut desks = [first; PLACES];
-    let mut i = 0;
-    while i < PLACES {
-        let d = desk_or(b, p, n, i);
-        desks[i] = d;
-        i += 1;
-    }
-    desks
+    array::from_fn(|i| desk_or(b, p, n, i))
 }
 
 // Where a field stands: r of the payload of a block, the q-th after k blocks that follow the desks'.
@@ -202,11 +157,10 @@ fn cell_or(b: &[u8], z: Sizes, s: usize) -> Cell
         let at = field_place(z.n, z.c * i, x / room, w * (x % room));
         return read_cell(b, at, z.p);
     }
-    let zero = [0u16; PLACES];
     Cell {
         writer: 0,
         status: 0,
-        vector: zero,
+        vector: [0; PLACES],
     }
 }
 
@@ -215,12 +169,8 @@ fn read_cells(b: &[u8], z: Sizes, cells: &mut Cells)
     requires { SizesOf b.now z × (cells.old ≡ (fresh_table 0 0).cells) }
     ensures { CellsRead z.p b.now z.n z.m cells.new }
 {
-    let end = z.n * CELLS;
-    let mut s = 0;
-    while s < end {
-        let x = cell_or(b, z, s);
-        table::put_cell(cells, s, x);
-        s += 1;
+    for s in 0..z.n * CELLS {
+        table::put_cell(cells, s, cell_or(b, z, s));
     }
 }
 
@@ -237,15 +187,10 @@ fn open_of(b: &[u8], z: Sizes, j: usize) -> Open
 
 // The write's number, and 0 where its writer is no desk.
 fn number_of(o: Open) -> u16 {
-    let w = table::wide(o.writer);
-    let v = o.vector;
-    if w == 0 {
-        return 0;
+    match usize::from(o.writer) {
+        w @ 1..=PLACES => o.vector[w - 1],
+        _ => 0,
     }
-    if PLACES < w {
-        return 0;
-    }
-    v[w - 1]
 }
 
 // Each goes into the entry where a search for it begins, or a free one behind that (any free one would do).
@@ -253,16 +198,12 @@ fn read_opens(b: &[u8], z: Sizes, opens: &mut Opens)
     requires { SizesOf b.now z × (opens.old ≡ (fresh_table 0 0).opens) }
     ensures { OpensRead z.p b.now z.n z.m z.count opens.new }
 {
-    let count = z.count;
-    let mut j = 0;
-    while j < count {
+    for j in 0..z.count {
         let o = open_of(b, z, j);
-        let found = table::find_free(opens, table::wide(o.writer), number_of(o));
-        let Found::At(e) = found else {
+        let Found::At(e) = table::find_free(opens, usize::from(o.writer), number_of(o)) else {
             return;
         };
         table::put_open(opens, e, o);
-        j += 1;
     }
 }
 
@@ -271,17 +212,15 @@ fn sizes_of(b: &[u8]) -> Sizes
     requires { Fits (places_in b.now) b.now }
     ensures { SizesOf b.now result }
 {
-    let n = size(b[DESKS_AT]);
-    let m = size(b[CELLS_AT]);
-    let count = size(b[COUNT_AT]);
+    let n = usize::from(b[DESKS_AT]);
+    let m = usize::from(b[CELLS_AT]);
     let p = block::places_for(n);
-    let c = image::per_desk(p, m);
     Sizes {
-        p: p,
-        n: n,
-        m: m,
-        count: count,
-        c: c,
+        p,
+        n,
+        m,
+        count: usize::from(b[COUNT_AT]),
+        c: image::per_desk(p, m),
     }
 }
 
@@ -297,7 +236,7 @@ fn read_table(b: &[u8], cells: &mut Cells, opens: &mut Opens) -> Core
     Core {
         n: z.n,
         m: z.m,
-        desks: desks,
+        desks,
     }
 }
 
@@ -305,21 +244,7 @@ fn read_table(b: &[u8], cells: &mut Cells, opens: &mut Opens) -> Core
 fn saved_as(core: Core, cells: &Cells, opens: &Opens, b: &[u8]) -> bool
     ensures { Says result (SoundTable (table_with core cells.now opens.now) × (encode (model_of (table_with core cells.now opens.now)) ≡ b.now)) }
 {
-    if !rules::keeps_rules(core, cells, opens) {
-        return false;
-    }
-    image::is_image(core, cells, opens, b)
-}
-
-// Zeros again, after what was no table.
-fn clear(l: &mut [u16])
-    ensures { l.new ≡ replicate (length l.old) 0 }
-{
-    let mut i = 0;
-    while i < l.len() {
-        l[i] = 0;
-        i += 1;
-    }
+    rules::keeps_rules(core, cells, opens) && image::is_image(core, cells, opens, b)
 }
 
 // What load answers: a table, or nothing but zeros and a refusal: 15 (WrongLength), 12 (Damaged) with the place of the first block whose check is wrong,
@@ -365,11 +290,11 @@ pub fn load_into(b: &[u8], cells: &mut Cells, opens: &mut Opens) -> Taken
         return refused(Outcome::WrongLength);
     }
     let count = b.len() / BLOCK;
-    let wrong = block::first_not(b, Test::Check);
+    let wrong = block::first_not(b, |x, _| block::right(x));
     if wrong < count {
         return refused(Outcome::Damaged(wrong));
     }
-    let misplaced = block::first_not(b, Test::Place);
+    let misplaced = block::first_not(b, block::stands);
     if misplaced < count {
         return refused(Outcome::Broken(misplaced));
     }
@@ -383,8 +308,9 @@ pub fn load_into(b: &[u8], cells: &mut Cells, opens: &mut Opens) -> Taken
             core: core,
         };
     }
-    clear(cells);
-    clear(opens);
+    // Zeros again, after what was no table.
+    cells.fill(0);
+    opens.fill(0);
     refused(Outcome::Broken(misplaced))
 }
 

@@ -9,22 +9,14 @@ ghost use Rattle.table.specs.Value.{entries, open_at};
 ghost use Rattle.table.specs.EntryNames.{entry_number};
 ghost use Rattle.table.specs.Sound.{SoundTable};
 ghost use Rattle.table.specs.Model.{table_with};
-ghost use Rattle.rules.specs.Mirror.Test.{has, owns, gap_of, gaps, last_of, nought, ranges_test, due_test, used_test, entry_test, all_entries_test, live_test, counts_test, set_cell, blank_cell, cell_test, all_cells_test, waits_test, live_mark, all_desks_test, own_test};
-ghost use Rattle.rules.specs.Mirror.Parts.{mark_of, used_mark, used_marks, most_at, most_marks, limit_test, all_limits_test, zeros_test, used_desk, used_desks};
+ghost use Rattle.rules.specs.Mirror.Test.{has, owns, gap_of, gaps, last_of, ranges_test, due_test, used_test, entry_test, all_entries_test, live_test, counts_test, set_cell, blank_cell, cell_test, all_cells_test, waits_test, live_mark, all_desks_test, own_test};
+ghost use Rattle.rules.specs.Mirror.Parts.{mark_of, used_mark, used_marks, most_marks, limit_test, all_limits_test, zeros_test, used_desk, used_desks};
 
 use clock::PLACES;
 use std::array;
 use table::{
     CELL, CELLS, Cell, Cells, Core, DONE, Desk, HELD, MOST_STATUS, OPENS, Open, Opens, Table,
 };
-
-// (Two tests joined by `&` both run, without a branch.)
-
-fn zero(v: [u16; PLACES]) -> bool
-    ensures { result ≡ (nought v).passes }
-{
-    v == [0; PLACES]
-}
 
 // Each desk's count of its own writes.
 pub fn own_counts(desks: [Desk; PLACES]) -> [u16; PLACES]
@@ -63,6 +55,7 @@ fn last_of(opens: &Opens, u: usize, k: u16, e: usize) -> bool
     (e + 1..OPENS).all(|j| !table::holds(opens, j, u, k))
 }
 
+// (Tests joined by `&` all run, without a branch.)
 fn ranges_ok(n: usize, m: usize, o: Open) -> bool
     ensures { result ≡ (ranges_test n m o).passes }
 {
@@ -84,9 +77,10 @@ fn set_ok(m: usize, a: [u16; PLACES], x: usize, c: Cell) -> bool
 fn blank_ok(c: Cell) -> bool
     ensures { result ≡ (blank_cell c).passes }
 {
-    c.status == 0 && zero(c.vector)
+    c.status == 0 && c.vector == [0; PLACES]
 }
 
+#[tactic(auto, unfolding(crate::specs::Mirror::Test::cell_test))]
 fn cell_ok(m: usize, a: [u16; PLACES], x: usize, c: Cell) -> bool
     ensures { result ≡ (cell_test m a x c).passes }
 {
@@ -124,6 +118,7 @@ fn used_mark_ok(a: [u16; PLACES], i: usize, opens: &Opens, e: usize) -> bool
 }
 
 // (Of a free entry nothing but the writer is read.)
+#[tactic(auto, unfolding(crate::specs::Mirror::Parts::used_mark))]
 fn mark_ok(a: [u16; PLACES], i: usize, opens: &Opens, e: usize) -> bool
     requires { (i < places) × (e < entries) }
     ensures { result ≡ (used_mark a i (open_at opens.now e)).passes }
@@ -131,19 +126,14 @@ fn mark_ok(a: [u16; PLACES], i: usize, opens: &Opens, e: usize) -> bool
     table::open_at(opens, e).writer == 0 || used_mark_ok(a, i, opens, e)
 }
 
-// The largest mark at desk t, from 0: none past n.
-fn most_mark(n: usize, t: usize) -> u16
-    ensures { result ≡ most_at n t }
-{
-    if t < n { DONE } else { 0 }
-}
-
+// The largest mark at each desk, from 0: none past n.
 fn most_marks(n: usize) -> [u16; PLACES]
     ensures { result ≡ most_marks n }
 {
-    array::from_fn(|t| most_mark(n, t))
+    array::from_fn(|t| if t < n { DONE } else { 0 })
 }
 
+#[tactic(auto, unfolding(crate::specs::Mirror::Parts::limit_test))]
 fn limit_ok(most: [u16; PLACES], o: Open) -> bool
     ensures { result ≡ (limit_test most o).passes }
 {
@@ -166,12 +156,13 @@ struct Lent<'a> {
     gap: [u16; PLACES],
     cells: &'a Cells,
     opens: &'a Opens,
+    ghost n_le_places: { core.now.n ≤ places },
 }
 
 impl Lent<'_> {
     // Of entry e, whose write is o: its number is k.
     fn due_ok(&self, e: usize, o: Open, k: u16) -> bool
-        requires n_le_places { (self.now.core.now.n ≤ places) × (e < entries) }
+        requires entry_in { e < entries }
         requires o_value { (o ≡ open_at self.now.opens.now e) × (k ≡ entry_number o) }
         ensures { result ≡ (due_test self.now.core.now.n self.now.own o).passes }
     {
@@ -179,21 +170,21 @@ impl Lent<'_> {
             && (1 <= k) & !table::all_applied(self.opens, e, self.core.n)
     }
 
+    #[tactic(auto, unfolding(crate::specs::Mirror::Test::used_test))]
     fn used_ok(&self, e: usize, o: Open) -> bool
-        requires n_le_places { (self.now.core.now.n ≤ places) × (e < entries) }
+        requires entry_in { e < entries }
         requires o_value { (o ≡ open_at self.now.opens.now e) × (1 ≤ o.writer) }
         ensures { result ≡ (used_test self.now.core.now.n self.now.core.now.m self.now.own self.now.opens.now e o).passes }
     {
-        if !ranges_ok(self.core.n, self.core.m, o) {
-            return false;
-        }
         let u = usize::from(o.writer);
         let k = table::at_place(o.vector, u);
-        self.due_ok(e, o, k) & last_of(self.opens, u, k, e)
+        ranges_ok(self.core.n, self.core.m, o)
+            && self.due_ok(e, o, k) & last_of(self.opens, u, k, e)
     }
 
+    #[tactic(auto, unfolding(crate::specs::Mirror::Test::entry_test))]
     fn entry_ok(&self, e: usize) -> bool
-        requires { (self.now.core.now.n ≤ places) × (e < entries) }
+        requires { e < entries }
         ensures { result ≡ (entry_test self.now.core.now.n self.now.core.now.m self.now.own self.now.opens.now e).passes }
     {
         let o = table::open_at(self.opens, e);
@@ -201,7 +192,6 @@ impl Lent<'_> {
     }
 
     fn entries_ok(&self) -> bool
-        requires { self.now.core.now.n ≤ places }
         ensures { result ≡ (all_entries_test self.now.core.now.n self.now.core.now.m self.now.own self.now.opens.now).passes }
     {
         (0..OPENS).all(|e| self.entry_ok(e))
@@ -214,7 +204,7 @@ impl Lent<'_> {
         if i < self.core.n {
             clock::covers(a, self.gap)
         } else {
-            zero(a)
+            a == [0; PLACES]
         }
     }
 
@@ -270,7 +260,6 @@ impl Lent<'_> {
 
     // All desks. Past n the cells are one run of zeros, and no mark stands.
     fn desks_ok(&self) -> bool
-        requires { self.now.core.now.n ≤ places }
         ensures { result ≡ (all_desks_test self.now.core.now.n self.now.core.now.m self.now.own self.now.gap self.now.cells.now self.now.opens.now self.now.core.now.desks).passes }
     {
         let cells = self.cells;
@@ -279,6 +268,7 @@ impl Lent<'_> {
     }
 }
 
+#[tactic(auto, unfolding(crate::specs::Mirror::Test::own_test))]
 fn passes(core: &Core, own: [u16; PLACES], cells: &Cells, opens: &Opens) -> bool
     ensures { result ≡ (own_test core.now.n core.now.m own core.now.desks cells.now opens.now).passes }
 {

@@ -196,6 +196,7 @@ pub fn mark_at(opens: &Opens, e: usize, i: usize) -> u16
     opens[e * OPEN + (MARKS + i)]
 }
 
+#[tactic(auto, unfolding(crate::specs::Value::put_mark))]
 pub fn put_mark(opens: &mut Opens, e: usize, i: usize, k: u16)
     requires { (e < entries) × (i < places) }
     ensures { MarkPut opens.old e i k opens.new }
@@ -203,6 +204,7 @@ pub fn put_mark(opens: &mut Opens, e: usize, i: usize, k: u16)
     opens[e * OPEN + (MARKS + i)] = k;
 }
 
+#[tactic(auto, unfolding(crate::specs::Value::free_entry))]
 pub fn set_free(opens: &mut Opens, e: usize)
     requires { e < entries }
     ensures { Freed opens.old e opens.new }
@@ -275,6 +277,7 @@ pub fn find_free(opens: &Opens, u: usize, k: u16) -> Option<usize>
 }
 
 // Every desk's counts and clock at zero.
+#[tactic(auto, unfolding(crate::specs::Beginning::fresh_table))]
 pub fn fresh_core(n: usize, m: usize) -> Core
     ensures { result ≡ (fresh_table n m).core }
 {

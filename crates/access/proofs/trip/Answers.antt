@@ -1,16 +1,10 @@
-use Rattle.laws.specs.Kit.{refl, ap, not}
-use Rattle.rules.specs.Mirror.Test.{owns}
-use Rattle.access.specs.Met.{placed, met-stepped}
-use Rattle.steps.specs.Stepped.{Placed}
+use Rattle.std.proofs.Common.{rules}
+use Rattle.machine.specs.Steps.{Trip}
+use Rattle.access.specs.Acted.{met_looked, part_of_look}
 use Rattle.access.proofs.trip.Goals as goal
-use Rattle.access.proofs.trip.Goals.{After-acting-d}
 
-here : (c : goal.After-acting-d) → Placed c.args.t (owns c.args.t.core.desks) c.args.i c.acting-d.result
-here c =
-    placed c.table_keeps_rules.ensures (ap not c.if-not-table_keeps_rules.false) c.table_shape.ensures refl c.acting-d.ensures
-
-pub trip_at-turn-requires : goal.trip_at-turn-requires
-trip_at-turn-requires c = record { desks = _; opens = _; own = _; placed = here (goal.at.trip_at-turn-requires c).After-acting-d }
+pub acted-answer-requires : goal.acted-answer-requires
+acted-answer-requires c d p a b n ea eb en = search (rules, part_of_look)
 
 pub returns : goal.returns
-returns c = let p = here (goal.at.returns c).After-acting-d in rw c.together-next.ensures (met-stepped p (c.trip_at-turn.ensures _ _ _ p))
+returns c = met_looked c.acted-answer.ensures (Trip c.args.i c.args.list.now) (λ d turn cs os names y. let h = y.met in search rules)

@@ -16,12 +16,12 @@ ended : (b : List ℕ) (so_far of-sums : ℕ) → walk_back b 0 so_far of-sums �
 unfolding walk_back
 ended b so_far of-sums = refl
 
-pub loop-to_go-preserved : goal.loop-to_go-preserved
-loop-to_go-preserved c = let L = c.loop-to_go in let b = c.args.b.now in
-    let walk = one-back b L.to_go L.sum_so_far L.sum_of_sums (omega arith) ∙ L.invariant.1.1.1 in
-    (search rules, (search rules, (search rules, rw c.wide-sum_so_far.ensures.0 walk)))
+pub loop-j-preserved : goal.loop-j-preserved
+loop-j-preserved c = let L = c.loop-j in let b = c.args.b.now in
+    let walk = one-back b L.j L.sum_so_far L.sum_of_sums (omega arith) ∙ L.invariant.1.1 in
+    (search rules, (search rules, rw c.from-sum_so_far.ensures walk))
 
 pub returns : goal.returns
 unfolding handbook
-returns c = let L = c.loop-to_go in let b = c.args.b.now in let e : L.to_go ≡ 0 = omega arith in
-    ap (λ (x : ℕ). x + 1) (sym (ended b L.sum_so_far L.sum_of_sums) ∙ rw e at L.invariant.1.1.1) ∙ handbook_is_check b
+returns c = let L = c.loop-j in let b = c.args.b.now in let e : L.j ≡ 0 = omega arith in
+    ap (λ (x : ℕ). x + 1) (sym (ended b L.sum_so_far L.sum_of_sums) ∙ rw e at L.invariant.1.1) ∙ handbook_is_check b

@@ -1,10 +1,12 @@
-use Rattle.std.proofs.Common.{rules}
-use Rattle.laws.specs.Kit.{arith}
-use Rattle.block.specs.Link.BlockFill.{set_more}
+use Rattle.block.proofs.Puts.{put_mid-sets}
+use Rattle.std.specs.Prelude.{◌+◌, ◌-◌, ◌≡◌}
+use Rattle.laws.specs.Kit.{arith, ap, ◌∙◌, length, take, sets, length-take-le}
 use Rattle.block.proofs.copy.Goals as goal
 
-pub loop-j-preserved : goal.loop-j-preserved
-loop-j-preserved c =
-    let L = c.loop-j in
-    let a = c.args in
-    (search rules, (rw L.invariant.1.0 (set_more a.part.now a.out.now 0 a.at L.j (omega arith)), search rules))
+pub returns : goal.returns
+returns c =
+    let A = c.args in
+    let w = c.copy_from_slice in
+    let e : w.new.self ≡ take A.len A.part.now = w.ensures.after in
+    let z : length w.new.self ≡ A.at + A.len - A.at = ap length e ∙ length-take-le A.len A.part.now c.requires.0 ∙ omega arith in
+    put_mid-sets A.out.now w.new.self A.at (A.at + A.len - A.at) z (omega arith) ∙ ap (sets A.out.now A.at) e

@@ -1,20 +1,22 @@
-use Rattle.std.proofs.Common.{rules}
-use Rattle.block.specs.{Limits.{block_bytes}, Mirror.BlockTests.{PassesAt}}
-use Rattle.std.specs.Prelude.{◌≡◌, ◌+◌, ◌*◌, ◌-◌}
-use Rattle.laws.specs.{Cat.{part}, Says.{Says, apart}, Kit.{below_more, arith}}
+use Rattle.block.proofs.Puts.{get_or-first_chunks}
+use Rattle.std.specs.Prelude.{◌≡◌, ◌/◌, ◌<◌}
+use Rattle.laws.specs.Kit.{ℕ, arith, below_more, get_or, length, []}
+use Rattle.block.specs.{Limits.{block_bytes}, Damage.{block_in, blocks_in}}
+use Rattle.block.proofs.first_not.Given.{Over}
 use Rattle.block.proofs.first_not.Goals as goal
-use Rattle.block.proofs.first_not.Goals.{After-passes}
+use Rattle.block.proofs.first_not.Goals.{After-as_chunks}
 
--- the block that was looked at
-looked : (c : goal.After-passes)
-    → (let A = c.args in let k = c.loop-k.k in Says c.passes.result (PassesAt A.test A.b.now k))
-unfolding part
-looked c = let k = c.loop-k.k in let q : block_bytes * k + block_bytes - block_bytes * k ≡ block_bytes = omega arith in rw q at c.passes.ensures
+-- the block that is looked at
+block_at : (g : Over) (c : After-as_chunks g) (k : ℕ) → k < blocks_in c.args.b.now → get_or c.as_chunks.result.0.now k [] ≡ block_in c.args.b.now k
+block_at g c k h =
+    let b = c.args.b.now in rw c.as_chunks.ensures.front (get_or-first_chunks block_bytes (length b / block_bytes) b k [] h)
 
-pub returns-then-not-passes : goal.returns-then-not-passes
-returns-then-not-passes c =
-    let L = c.loop-k in
-    record { most = omega (arith, L.invariant.0); before = L.invariant.1; fails = λ _ p. apart c.passes.result ((looked (goal.at.returns-then-not-passes c).After-passes).from p) c.if-not-passes.true }
+pub returns-then-not-test : goal.returns-then-not-test
+returns-then-not-test g c = record {
+  most = omega arith;
+  before = c.loop-k.invariant;
+  fails = λ l. (record { shown = _; shows = block_at g (goal.at.returns-then-not-test g c).After-as_chunks _ l; says = rw c.if-not-test.true at c.test.ensures });
+}
 
 pub loop-k-preserved : goal.loop-k-preserved
-loop-k-preserved c = (search rules, below_more _ _ c.loop-k.invariant.1 ((looked (goal.at.loop-k-preserved c).After-passes).to c.if-not-passes.false))
+loop-k-preserved g c = below_more _ _ c.loop-k.invariant (record { shown = _; shows = block_at g (goal.at.loop-k-preserved g c).After-as_chunks _ (omega arith); says = rw c.if-not-test.false at c.test.ensures })

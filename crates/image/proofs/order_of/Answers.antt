@@ -1,4 +1,3 @@
-use Rattle.std.proofs.Common.{rules}
 use Rattle.table.specs.{Link.OpensModel.{found_none}, EntryNames.{named_at, found_at}}
 use Rattle.image.specs.Mirror.EntryOrder.{listed_none, listed_more}
 use Rattle.std.specs.Prelude.{◌+◌}
@@ -6,14 +5,14 @@ use Rattle.laws.specs.Kit.{arith}
 use Rattle.image.proofs.order_of.Goals as goal
 
 pub loop-k-init : goal.loop-k-init
-loop-k-init c = (search rules, (search rules, listed_none _ _ _ _ _))
+loop-k-init c = listed_none _ _ _ _ _
 
 pub returns-in_default : goal.returns-in_default
-returns-in_default c = let L = c.loop-k in let A = c.args in absurd (c.requires.by_index (L.k + 1) (omega arith) (omega arith) (found_none A.opens.now A.u (L.k + 1) c.find-found.result c.find-found.ensures c.in_default.is))
+returns-in_default c = let L = c.loop-k in let A = c.args in absurd (c.requires.open_numbers (L.k + 1) (omega arith) (omega arith) (found_none A.opens.now A.u (L.k + 1) c.find.result c.find.ensures c.in_default.is))
 
 pub loop-k-preserved : goal.loop-k-preserved
 loop-k-preserved c = let L = c.loop-k in let A = c.args in let e = c.in-At.e in
-    let f = found_at (named_at A.opens.now A.u (L.k + 1)) c.find-found.result e c.find-found.ensures c.in-At.is in
-    let b = L.invariant.1.1.behind in
-    let l = L.invariant.1.1.long in
-    (omega arith, (omega arith, listed_more A.opens.now A.u A.lo L.k A.p A.order.now L.order L.at e L.invariant.1.1 L.invariant.0 (omega arith) f))
+    let f = found_at (named_at A.opens.now A.u (L.k + 1)) c.find.result e c.find.ensures c.in-At.is in
+    let b = L.invariant.behind in
+    let l = L.invariant.long in
+    listed_more A.opens.now A.u A.lo L.k A.p A.order.now L.order L.at e L.invariant (omega arith) (omega arith) f

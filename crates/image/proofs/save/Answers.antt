@@ -9,11 +9,11 @@ returns-then-not-keeps_rules c = by_rule (λ s. apart c.keeps_rules.result (c.ke
 pub returns-then-out-image_length : goal.returns-then-out-image_length
 returns-then-out-image_length c = let S = c.keeps_rules.ensures.to c.if-not-keeps_rules.false in by_room S (omega (arith, length-is S, c.image_length.ensures, c.if-out-image_length.true)) refl
 
-pub save_parts-n-requires : goal.save_parts-n-requires
-save_parts-n-requires c = let S = c.keeps_rules.ensures.to c.if-not-keeps_rules.false in record {
-  sound_table = S;
-  opens_in_bounds = omega (arith, length-is S, c.image_length.ensures, c.if-out-image_length.false);
+pub save_parts-requires : goal.save_parts-requires
+save_parts-requires c = let S = c.keeps_rules.ensures.to c.if-not-keeps_rules.false in record {
+  sound = S;
+  room = omega (arith, length-is S, c.image_length.ensures, c.if-out-image_length.false);
 }
 
 pub returns : goal.returns
-returns c = let S = c.keeps_rules.ensures.to c.if-not-keeps_rules.false in as_image c.save_parts-n.result S (omega (arith, length-is S, c.image_length.ensures, c.if-out-image_length.false)) c.save_parts-n.ensures.stored c.save_parts-n.ensures.size
+returns c = let S = c.keeps_rules.ensures.to c.if-not-keeps_rules.false in as_image c.save_parts.result S (omega (arith, length-is S, c.image_length.ensures, c.if-out-image_length.false)) c.save_parts.ensures.stored c.save_parts.ensures.size

@@ -3,15 +3,14 @@ use Rattle.block.specs.Limits.{block_bytes}
 use Rattle.image.specs.Link.FieldPlaces.{block_at}
 use Rattle.image.proofs.FieldPlaces.{length_at}
 use Rattle.image.specs.Mirror.TableBytes.{one_more}
-use Rattle.image.specs.Link.SavedIsImage.{all_blocks}
-use Rattle.image.specs.Link.SavedIsImage.{planned_wide}
-use Rattle.laws.specs.{Cat.{cat}, Kit.{take_all, ◌∙◌, arith}}
+use Rattle.image.specs.Link.SavedIsImage.{all_blocks, planned_wide}
+use Rattle.laws.specs.{Cat.{cat}, Kit.{take_all, refl, ◌∙◌, arith}}
 use Rattle.table.specs.Model.{model_of, table_with}
 use Rattle.image.proofs.save_blocks.Goals as goal
 
 pub loop-k-init : goal.loop-k-init
 unfolding cat
-loop-k-init c = search rules
+loop-k-init c = (refl, refl)
 
 pub loop-k-preserved : goal.loop-k-preserved
 loop-k-preserved c =
@@ -20,11 +19,11 @@ loop-k-preserved c =
     let s = model_of (table_with A.core A.cells.now A.opens.now) in
     let b = c.block_at-b in
     let P = c.requires.0 in
-    (search rules, (one_more (block_at A.plan.p s) block_bytes (length_at A.plan.p (planned_wide P) s) A.out.now 0 L.k L.invariant.1.0 (omega arith) (take_all block_bytes b.result (search rules) ∙ b.ensures) c.copy.ensures, search rules))
+    (one_more (block_at A.plan.p s) block_bytes (length_at A.plan.p (planned_wide P) s) A.out.now 0 L.k L.invariant.0 (omega arith) (take_all block_bytes b.result (search rules) ∙ b.ensures) c.copy.ensures, search rules)
 
 pub returns : goal.returns
 returns c =
     let L = c.loop-k in
     let A = c.args in
     let P = c.requires.0 in
-    all_blocks P A.out.now L.invariant.1.0 (omega arith)
+    all_blocks P A.out.now L.invariant.0 (omega arith)

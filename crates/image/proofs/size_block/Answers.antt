@@ -1,13 +1,10 @@
 use Rattle.block.specs.{Mirror.Block.{made}, Limits.{payload_at, edition_of}}
 use Rattle.std.specs.Prelude.{◌∷◌}
-use Rattle.laws.specs.Kit.{[], sets, arith}
+use Rattle.laws.specs.Kit.{[], sets, arith, refl}
 use Rattle.image.proofs.size_block.Goals as goal
 
 pub returns : goal.returns
 returns c =
     let A = c.args in
-    let x = c.byte in
-    let y = c.byte-2 in
-    let z = c.byte-3 in
     let h = c.put_head in
-    made (edition_of A.p) 1 0 (A.n ∷ A.m ∷ A.count ∷ []) {b1 = sets h.new.b payload_at (x.result ∷ y.result ∷ z.result ∷ [])} (omega arith) h.ensures (rw (x.ensures, y.ensures, z.ensures)) c.seal.ensures
+    made (edition_of A.p) 1 0 (A.n ∷ A.m ∷ A.count ∷ []) {b1 = sets h.new.b payload_at (A.n ∷ A.m ∷ A.count ∷ [])} (omega arith) h.ensures refl c.seal.ensures

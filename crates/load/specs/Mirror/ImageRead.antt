@@ -1,7 +1,7 @@
 -- The fields of an image as the code reads them: the code's desk, cell and open write from a place on.
 use Rattle.std.specs.Prelude.{◌+◌, ◌*◌, ◌/◌, ◌%◌, ◌<◌, ◌≤◌, ◌-◌, ◌≡◌, ◌∷◌, ◌++◌}
 use Rattle.laws.specs.Kit.{ℕ, zero, suc, refl, sym, ap, ◌∙◌, false, List, [], arith}
-use Rattle.laws.specs.Kit.{dec_lt, ltb-true, le-ltb, ltb, mul-le-mul, mul-le-mul_left, mod-lt, length, get_or, take, drop, replicate}
+use Rattle.laws.specs.Kit.{dec_lt, ltb-true, lt-ltb, le-ltb, length-append, ltb, mul-le-mul, mul-le-mul_left, mod-lt, length, get_or, take, drop, replicate}
 use Rattle.laws.specs.Kit.{get_or-take, get_or-drop, take-take, drop-drop, get_or-append, get_or-append-add, ext_get_or, length-replicate}
 use Rattle.laws.specs.{Loop.{pick, cases}, Says.{Says, clash}, Update.{same_or}, FromOne.{from1-is}, Tab.{tab, get_or-tab, length-tab}}
 use Rattle.laws.specs.{Cat.{part}, Rows.{numbers_from, length_part, part_at}}
@@ -55,15 +55,30 @@ fill_zeros ps f h =
     let e : places ≡ ps + (places - ps) = omega arith in
     ap (λ (r : List ℕ). tab ps f ++ r) (ap (λ (k : ℕ). drop ps (replicate {A = ℕ} k 0)) e ∙ drop-replicate {A = ℕ} ps (places - ps) 0)
 
+-- the same of every place, zeros past the first ps
+abbrev pub up_to : ℕ → (ℕ → ℕ) → ℕ → ℕ
+up_to ps f t = pick (ltb t ps) (f t) 0
+
 padded-at : (ps : ℕ) (f : ℕ → ℕ) (t : ℕ) → t < ps → get_or (padded ps f) t 0 ≡ f t
 unfolding padded
 padded-at ps f t h = get_or-append (tab ps f) (replicate (places - ps) 0) 0 t (omega (arith, length-tab f ps)) ∙ get_or-tab f ps t 0 h
+
+length-padded : (ps : ℕ) (f : ℕ → ℕ) → ps ≤ places → length (padded ps f) ≡ places
+unfolding padded
+length-padded ps f h = simp (length-append, length-tab, length-replicate) (omega arith)
 
 padded_past : (ps : ℕ) (f : ℕ → ℕ) (t : ℕ) → ps ≤ t → get_or (padded ps f) t 0 ≡ 0
 unfolding padded
 padded_past ps f t h =
     let e : t ≡ length (tab ps f) + (t - ps) = omega (arith, length-tab f ps) in
     rw e (get_or-append-add (tab ps f) (replicate (places - ps) 0) (t - ps) 0 ∙ zeros-at (places - ps) (t - ps))
+
+pub padded_is : (ps : ℕ) (f : ℕ → ℕ) → ps ≤ places → tab places (up_to ps f) ≡ padded ps f
+padded_is ps f h = ext_get_or 0 (tab places (up_to ps f)) (padded ps f) (length-tab (up_to ps f) places ∙ sym (length-padded ps f h)) (λ t l. at t (dec_lt t ps) (rw (length-tab (up_to ps f) places) at l))
+  where
+    at : (t : ℕ) → Dec (t < ps) → t < places → get_or (tab places (up_to ps f)) t 0 ≡ get_or (padded ps f) t 0
+    at t (yes y) l = get_or-tab (up_to ps f) places t 0 l ∙ rw (lt-ltb t ps y, padded-at ps f t y)
+    at t (no y) l = let z : ps ≤ t = omega arith in get_or-tab (up_to ps f) places t 0 l ∙ rw (le-ltb t ps z, padded_past ps f t z)
 
 pub zeros-tab : (n : ℕ) → tab n (λ k. zero) ≡ replicate n 0
 zeros-tab n =
