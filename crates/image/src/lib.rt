@@ -27,7 +27,7 @@ use block::{
     BLOCK, BROAD, CELL_KIND, CHECK, DESK_KIND, OPEN_KIND, PAYLOAD_AT, SIZE_KIND, VECTOR_AT,
 };
 use clock::PLACES;
-use table::{CELLS, Cell, Cells, Core, Desk, Found, OPENS, Open, Opens, Table};
+use table::{CELLS, Cell, Cells, Core, Desk, OPENS, Open, Opens, Table};
 
 // What the payload of kind 1 begins with: desks, cells, open writes.
 pub const DESKS_AT: usize = PAYLOAD_AT;
@@ -260,7 +260,7 @@ fn order_of(opens: &Opens, u: usize, lo: u16, own: u16, order: &mut [usize], p: 
 {
     let mut at = p;
     for k in lo..own {
-        let Found::At(e) = table::find(opens, u, k + 1) else {
+        let Some(e) = table::find(opens, u, k + 1) else {
             return at;
         };
         order[at] = e;
@@ -365,23 +365,22 @@ pub fn is_image(core: Core, cells: &Cells, opens: &Opens, b: &[u8]) -> bool
     b.len() == BLOCK * plan.total && same_blocks(core, cells, opens, &order, plan, b)
 }
 
-// What save answers: the image's length, or refusal 13 (Broken) or 14 (Short).
-#[derive(Drop)]
-pub enum Saving {
-    Length(usize),
+// Why a table is not saved: refusal 13 or 14.
+#[derive(Clone, Copy, Debug, PartialEq, Eq)]
+pub enum Unsaved {
     Broken,
     Short,
 }
 
-// A table value saved into a lent buffer: the rules first, then the buffer's length.
-pub fn save(t: Table, out: &mut [u8]) -> Saving
+// A table value saved into a lent buffer: the rules first, then the buffer's length. The answer is the image's length.
+pub fn save(t: Table, out: &mut [u8]) -> Result<usize, Unsaved>
     ensures { Saves t out.old out.new (saving_of result) }
 {
     if !rules::keeps_rules(t.core, &t.cells, &t.opens) {
-        return Saving::Broken;
+        return Err(Unsaved::Broken);
     }
     if out.len() < image_length(t.core) {
-        return Saving::Short;
+        return Err(Unsaved::Short);
     }
-    Saving::Length(save_parts(t.core, &t.cells, &t.opens, out))
+    Ok(save_parts(t.core, &t.cells, &t.opens, out))
 }
