@@ -40,9 +40,8 @@ fn actor(s: Option<Line>) -> usize
     ensures { result ≡ line_actor s }
 {
     match s {
-        Some(
-            Line::Read(i, _) | Line::Write(i, _, _) | Line::Deliver(i, _, _) | Line::Trip(i, _),
-        ) => i,
+        Some(Line::Read(i, _) | Line::Write(i, _, _) | Line::Deliver(i, _, _) | Line::Trip(i, _)) =>
+            i,
         Some(Line::New(_, _)) | None => 0,
     }
 }
