@@ -62,25 +62,23 @@ fn due_of(a: [u16; PLACES], own: [u16; PLACES], opens: &Opens, i: usize, u: usiz
     clock::ready(a, table::vector_at(opens, e), u).then_some(e)
 }
 
-// Entry e, a ready write of desk u, applied at desk i where the counts are c, and then every held write that becomes ready,
+// An entry, a ready write of a writer, applied at desk i where the counts are these, and then every held write that becomes ready,
 // smallest writer first.
+// Kept: the loop is labelled and its search yields the entry by break, as the project has every cascade.
 fn cascade(
     n: usize,
-    c: [u16; PLACES],
+    mut counts: [u16; PLACES],
     own: [u16; PLACES],
     cells: &mut Cells,
     opens: &mut Opens,
     names: &mut [Name; APPLIED],
     i: usize,
-    u: usize,
-    e: usize,
+    mut writer: usize,
+    mut entry: usize,
 ) -> Applied
-    requires { CascadeStarts n i u e c own cells.old opens.old }
-    ensures { CascadeDoes n i u e c own cells.old opens.old names.old result.counts result.len cells.new opens.new names.new }
+    requires { CascadeStarts n i writer entry counts own cells.old opens.old }
+    ensures { CascadeDoes n i writer entry counts own cells.old opens.old names.old result.counts result.len cells.new opens.new names.new }
 {
-    let mut counts = c;
-    let mut writer = u;
-    let mut entry = e;
     let mut len = 0;
     'apply: loop {
         apply_at(cells, opens, n, i, entry);
@@ -99,11 +97,10 @@ fn cascade(
             }
             None
         };
-        let Some((t, x)) = found else {
+        let Some(due) = found else {
             break 'apply;
         };
-        writer = t;
-        entry = x;
+        (writer, entry) = due;
     }
     Applied { counts, len }
 }

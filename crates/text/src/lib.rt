@@ -21,12 +21,13 @@ pub fn digit_count(k: u16) -> usize
     }
 }
 
-// A number in decimal, from its last digit on. (The first is what is left: most numbers are one digit, and take no division.)
+// A number in decimal, from its last digit on. (Of one digit there is nothing to divide.)
 pub fn put_number(out: &mut [u8], at: usize, k: u16) -> usize
     requires { at + length (decimal k) ≤ length out.old }
     ensures { Stored out.old at (decimal k) out.new result }
 {
     let end = at + digit_count(k);
+    // Kept: `as`, since a digit fits, and TryFrom is for what may not fit.
     let mut left = k;
     for p in (at + 1..end).rev() {
         out[p] = b'0' + (left % 10) as u8;

@@ -1,7 +1,7 @@
--- The digits that are left, in place of those to come, make the whole number.
+-- What is left, in place of the digits to come, makes the whole number.
 use Rattle.std.specs.Prelude.{◌+◌, ◌≡◌}
-use Rattle.laws.specs.Kit.{length, sets}
-use Rattle.text.specs.Number.{decimal}
+use Rattle.laws.specs.{Kit.{length, sets}}
+use Rattle.text.specs.{Number.{decimal}}
 use Rattle.text.proofs.put_number.Given as goal
 
 abbrev pub invariant-loop-p : goal.invariant-loop-p
