@@ -207,6 +207,7 @@ fn one(rt: &impl Print, t: Two, line: &[u8], every: bool) -> io::Result<Two>
 fn run(rt: &impl Print, text: &[u8], every: bool) -> io::Result<()> {
     let mut t = nothing();
     let mut at = 0;
+    // Kept: a line tells where the next one begins, which no `for` counts.
     while at < text.len() {
         let line = schedule::line_at(text, at);
         let len = line.len();

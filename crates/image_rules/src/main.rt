@@ -202,6 +202,7 @@ fn run(rt: &impl Print, text: &[u8]) -> io::Result<()> {
     let mut good = image::room();
     let mut from = 0;
     let mut at = 0;
+    // Kept: a line tells where the next one begins, which no `for` counts.
     while at < text.len() {
         let line = schedule::line_at(text, at);
         let len = line.len();

@@ -140,57 +140,6 @@ fn field_place(n: usize, k: usize, q: usize, r: usize) -> usize
     BLOCK + (BLOCK * n + (BLOCK * k + (BLOCK * q + (PAYLOAD_AT + r))))
 }
 
-// What every field's place takes: the places of a vector, the sizes, and the blocks to a desk's cells.
-#[derive(Clone, Copy)]
-struct Layout {
-    p: usize,
-    n: usize,
-    m: usize,
-    count: usize,
-    c: usize,
-}
-
-// Row s of the cells, one of the n desks'.
-fn cell_or(b: &[u8], z: Layout, s: usize) -> Cell
-    requires { SizesOf b.now z × (s < z.n * desk_cells) }
-    ensures { result ≡ cell_for z.p b.now z.n z.m s }
-{
-    let i = s / CELLS;
-    let x = s % CELLS;
-    if x < z.m {
-        let w = block::cell_bytes(z.p);
-        let room = block::cells_in(z.p);
-        let at = field_place(z.n, z.c * i, x / room, w * (x % room));
-        return read_cell(b, at, z.p);
-    }
-    Cell {
-        writer: 0,
-        status: 0,
-        vector: [0; PLACES],
-    }
-}
-
-// Into zeros: the rows past the n desks' stay.
-fn read_cells(b: &[u8], z: Layout, cells: &mut Cells)
-    requires { SizesOf b.now z × (cells.old ≡ (fresh_table 0 0).cells) }
-    ensures { CellsRead z.p b.now z.n z.m cells.new }
-{
-    for s in 0..z.n * CELLS {
-        table::put_cell(cells, s, cell_or(b, z, s));
-    }
-}
-
-// Open write j of the image.
-fn open_of(b: &[u8], z: Layout, j: usize) -> Open
-    requires { SizesOf b.now z × (j < z.count) }
-    ensures { result ≡ open_from z.p b.now (open_place z.p z.n z.m j) }
-{
-    let w = block::open_bytes(z.p);
-    let room = block::opens_in(z.p);
-    let at = field_place(z.n, z.c * z.n, j / room, w * (j % room));
-    read_open(b, at, z.p)
-}
-
 // The write's number, and 0 where its writer is no desk.
 fn number_of(o: Open) -> u16 {
     match usize::from(o.writer) {
@@ -199,29 +148,84 @@ fn number_of(o: Open) -> u16 {
     }
 }
 
-// Each goes into the entry where a search for it begins, or a free one behind that (any free one would do).
-fn read_opens(b: &[u8], z: Layout, opens: &mut Opens)
-    requires { SizesOf b.now z × (opens.old ≡ (fresh_table 0 0).opens) }
-    ensures { OpensRead z.p b.now z.n z.m z.count opens.new }
-{
-    for j in 0..z.count {
-        let o = open_of(b, z, j);
-        let Some(e) = table::find_free(opens, usize::from(o.writer), number_of(o)) else {
-            return;
-        };
-        table::put_open(opens, e, o);
+// An image and what every field's place takes: the places of a vector, the sizes, and the blocks to a desk's cells.
+#[derive(Clone, Copy)]
+struct Layout<'a> {
+    b: &'a [u8],
+    p: usize,
+    n: usize,
+    m: usize,
+    count: usize,
+    c: usize,
+}
+
+impl Layout<'_> {
+    // Row s of the cells, one of the n desks'.
+    fn cell_or(&self, s: usize) -> Cell
+        requires { SizesOf self.now.b.now self.now × (s < self.now.n * desk_cells) }
+        ensures { result ≡ cell_for self.now.p self.now.b.now self.now.n self.now.m s }
+    {
+        let i = s / CELLS;
+        let x = s % CELLS;
+        if x < self.m {
+            let w = block::cell_bytes(self.p);
+            let room = block::cells_in(self.p);
+            let at = field_place(self.n, self.c * i, x / room, w * (x % room));
+            return read_cell(self.b, at, self.p);
+        }
+        Cell {
+            writer: 0,
+            status: 0,
+            vector: [0; PLACES],
+        }
+    }
+
+    // Into zeros: the rows past the n desks' stay.
+    fn read_cells(&self, cells: &mut Cells)
+        requires { SizesOf self.now.b.now self.now × (cells.old ≡ (fresh_table 0 0).cells) }
+        ensures { CellsRead self.now.p self.now.b.now self.now.n self.now.m cells.new }
+    {
+        for s in 0..self.n * CELLS {
+            table::put_cell(cells, s, self.cell_or(s));
+        }
+    }
+
+    // Open write j of the image.
+    fn open_of(&self, j: usize) -> Open
+        requires { SizesOf self.now.b.now self.now × (j < self.now.count) }
+        ensures { result ≡ open_from self.now.p self.now.b.now (open_place self.now.p self.now.n self.now.m j) }
+    {
+        let w = block::open_bytes(self.p);
+        let room = block::opens_in(self.p);
+        let at = field_place(self.n, self.c * self.n, j / room, w * (j % room));
+        read_open(self.b, at, self.p)
+    }
+
+    // Each goes into the entry where a search for it begins, or a free one behind that (any free one would do).
+    fn read_opens(&self, opens: &mut Opens)
+        requires { SizesOf self.now.b.now self.now × (opens.old ≡ (fresh_table 0 0).opens) }
+        ensures { OpensRead self.now.p self.now.b.now self.now.n self.now.m self.now.count opens.new }
+    {
+        for j in 0..self.count {
+            let o = self.open_of(j);
+            let Some(e) = table::find_free(opens, usize::from(o.writer), number_of(o)) else {
+                return;
+            };
+            table::put_open(opens, e, o);
+        }
     }
 }
 
 // The sizes that an image tells of itself.
-fn layout_of(b: &[u8]) -> Layout
+fn layout_of(b: &[u8]) -> Layout<'_>
     requires { Fits (places_in b.now) b.now }
-    ensures { SizesOf b.now result }
+    ensures { SizesOf b.now result × (result.b.now ≡ b.now) }
 {
     let n = usize::from(b[DESKS_AT]);
     let m = usize::from(b[CELLS_AT]);
     let p = block::places_for(n);
     Layout {
+        b,
         p,
         n,
         m,
@@ -237,8 +241,8 @@ fn read_table(b: &[u8], cells: &mut Cells, opens: &mut Opens) -> Core
 {
     let z = layout_of(b);
     let desks = read_desks(b, z.p, z.n);
-    read_cells(b, z, cells);
-    read_opens(b, z, opens);
+    z.read_cells(cells);
+    z.read_opens(opens);
     Core {
         n: z.n,
         m: z.m,

@@ -20,5 +20,5 @@ layout_of-z-requires c = let l = c.load_into.new in fits-found _ (table_with c.i
 pub returns : goal.returns
 returns c =
     let l = c.load_into.new in
-    let S = c.layout_of-z.ensures in
+    let S = c.layout_of-z.ensures.0 in
     sizes-found _ (table_with c.in_ok-load_into.field-0 l.cells l.opens) c.in_ok-load_into.ensures (rw (S.n_is, S.m_is, S.count_is))
