@@ -102,10 +102,6 @@ module _ {t : Table} {d d' : Desk} {cs' os' : List ℕ} (a : Step) (answer : Ans
       let e : answer_of answer names ≡ answer_of answer [] = beside answer names _ refl (ap is_applies h.answer_is ∙ quiet (model_of t) a q) in
       rw e (acted_step a h)
 
--- a line that is no step on a table
-abbrev pub no_step_of : Desk → DeskTurn
-no_step_of d = record { desk = d; answer = Refused NoStepAnswer }
-
 pub acted_none : {t : Table} {own : List ℕ} {d : Desk} (o : Option Said) → Placed t own 0 d
     → turn (some (model_of t)) o ≡ record { answer = machine.refused machine.no_step; session = some (model_of t) }
     → Acted t 0 d o d t.cells t.opens (machine.refused machine.no_step)
