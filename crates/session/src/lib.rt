@@ -5,14 +5,13 @@ ghost use Rattle.std.specs.Prelude.{◌≡◌, ◌+◌, ◌<◌, ◌≤◌, leng
 ghost use Rattle.std.proofs.Math.Option.{none};
 ghost use Rattle.laws.specs.Loop.{pick};
 ghost use Rattle.clock.specs.Vectors.{places};
-ghost use Rattle.machine.specs.Steps.{begins};
 ghost use Rattle.schedule.specs.Grammar.{line_of};
 ghost use Rattle.schedule.specs.LineValue.{most_listed, cell_count};
 ghost use Rattle.session.specs.Mirror.LineValue.{Means, line_actor, seat_of};
 ghost use Rattle.session.specs.Holds.{zero_core, SomeSession};
-ghost use Rattle.session.specs.Link.LineTurn.{Acting, LineActs, SomeSeat, Turns, next_of, first_begun, no_step_of, first_turn};
-ghost use Rattle.session.specs.Link.RunningTurn.{SomeRunning, TurnsOn};
-ghost use Rattle.reply.specs.declared.Answer.TheVariants.{Refused};
+ghost use Rattle.session.specs.Link.LineTurn.{Acting, LineActs, first_turn};
+ghost use Rattle.session.specs.Link.RunningTurn.{FirstOn, SomeRunning, TurnsOn};
+ghost use Rattle.table.specs.declared.Desk.{Desk};
 ghost use Rattle.answer.specs.Bytes.{answer_line, most_answer};
 ghost use Rattle.reply.specs.Meaning.{answer_of};
 ghost use Rattle.laws.specs.Stores.{Stored};
@@ -25,15 +24,6 @@ use reply::{APPLIED, Answer, Name, Refusal};
 use schedule::{LIST, Line};
 use steps::Turn;
 use table::{Cells, Core, Desk, Opens};
-
-// The size of the table after a line, 0 while there is none, the acting desk, and the answer.
-#[derive(Drop)]
-struct Next {
-    n: usize,
-    m: usize,
-    desk: Desk,
-    answer: Answer,
-}
 
 // The desk that a line names first; 0 where it names none.
 fn actor(s: Option<Line>) -> usize
@@ -53,53 +43,6 @@ fn seat(i: usize) -> usize
     if table::inside(PLACES, i) { i - 1 } else { 0 }
 }
 
-// Still no table.
-fn none_yet(desk: Desk, why: Refusal) -> Next
-    ensures { result ≡ next_of 0 0 desk (Refused why) }
-{
-    Next {
-        n: 0,
-        m: 0,
-        desk,
-        answer: Answer::Refused(why),
-    }
-}
-
-// N n m: every number of the table is 0 already.
-fn begun(desk: Desk, n: usize, m: usize) -> Next
-    ensures { result ≡ first_begun desk n m }
-{
-    if table::begins(n, m) {
-        Next {
-            n,
-            m,
-            desk,
-            answer: Answer::Begun,
-        }
-    } else {
-        none_yet(desk, Refusal::NoSize)
-    }
-}
-
-// A line before there is a table.
-fn first(d: Desk, s: Option<Line>) -> Next
-    ensures { result ≡ first_turn d s }
-{
-    match s {
-        Some(Line::New(n, m)) => begun(d, n, m),
-        _ => none_yet(d, Refusal::NoStep),
-    }
-}
-
-fn no_step(desk: Desk) -> Turn
-    ensures { result ≡ no_step_of desk }
-{
-    Turn {
-        desk,
-        answer: Answer::Refused(Refusal::NoStep),
-    }
-}
-
 // The table under way, n = 0 while there is none, and each desk's own count beside it. The two arrays are lent to each line.
 #[derive(Drop)]
 struct Running {
@@ -108,6 +51,24 @@ struct Running {
 }
 
 impl Running {
+    // A line before there is a table. For N n m every number of the table is 0 already.
+    fn first(&mut self, s: Option<Line>) -> Answer
+        requires { (self.old.core.n ≡ 0) × (self.old.core.m ≡ 0) }
+        ensures { (d : Desk) → FirstOn self.old (first_turn d s) result self.new }
+    {
+        match s {
+            Some(Line::New(n, m)) => {
+                if !table::begins(n, m) {
+                    return Answer::Refused(Refusal::NoSize);
+                }
+                self.core.n = n;
+                self.core.m = m;
+                Answer::Begun
+            }
+            _ => Answer::Refused(Refusal::NoStep),
+        }
+    }
+
     // A line on a table: d is the desk that it names first, list has the cells of a trip.
     fn act(
         &self,
@@ -129,32 +90,14 @@ impl Running {
             Some(Line::Read(i, x)) => steps::look::read_at(n, m, d, cells, i, x),
             Some(Line::Write(i, x, v)) => steps::write::write_at(n, m, d, cells, opens, i, x, v),
             Some(Line::Trip(i, count)) => steps::look::trip_at(n, m, d, cells, i, &list[..count]),
-            Some(Line::New(_, _)) | None => no_step(d),
+            Some(Line::New(_, _)) | None => Turn {
+                desk: d,
+                answer: Answer::Refused(Refusal::NoStep),
+            },
         }
     }
 
     // A line on what there is so far.
-    fn next(
-        &self,
-        d: Desk,
-        cells: &mut Cells,
-        opens: &mut Opens,
-        s: Option<Line>,
-        list: &[u16; LIST],
-        names: &mut [Name; APPLIED],
-    ) -> Next
-        requires { (cell_count s ≤ most_listed) × (SomeSeat self.now.core.n self.now.core.m cells.old opens.old self.now.own (line_actor s) d) }
-        ensures { Turns self.now.core.n self.now.core.m d self.now.own cells.old opens.old list.now s result cells.new opens.new names.new }
-    {
-        let Core { n, m, .. } = self.core;
-        if n == 0 {
-            return first(d, s);
-        }
-        let Turn { desk, answer } = self.act(d, cells, opens, s, list, names);
-        Next { n, m, desk, answer }
-    }
-
-    // The same, with the table and the count brought along.
     fn turn(
         &mut self,
         cells: &mut Cells,
@@ -166,15 +109,16 @@ impl Running {
         requires { (cell_count s ≤ most_listed) × (SomeRunning self.old cells.old opens.old) }
         ensures { TurnsOn self.old cells.old opens.old list.now s result self.new cells.new opens.new names.new }
     {
-        let p = seat(actor(s));
         // Kept: no other fact tells how long the arrays within the desks are.
         table::desks_shape(self.core.desks);
-        let next = self.next(self.core.desks[p], cells, opens, s, list, names);
-        self.core.n = next.n;
-        self.core.m = next.m;
-        self.core.desks[p] = next.desk;
-        self.own[p] = next.desk.applied[p];
-        next.answer
+        if self.core.n == 0 {
+            return self.first(s);
+        }
+        let p = seat(actor(s));
+        let Turn { desk, answer } = self.act(self.core.desks[p], cells, opens, s, list, names);
+        self.core.desks[p] = desk;
+        self.own[p] = desk.applied[p];
+        answer
     }
 }
 
@@ -235,7 +179,7 @@ pub fn run(
     let mut place = at;
     let mut len = 0;
     while place < text.len() && LONGEST_ANSWER <= out.len() - len {
-        // Kept: a Reader would look for the line's end three times, in `line`, `ended` and `after`.
+        // Kept: a Reader looks for the LF in each of `line`, `ended` and `after`: 2,000 lines of one desk take 1,223,544 instructions, so 1,016,174.
         let line = reader::first_line(text, place);
         let end = place + line.len();
         let s = said(line, end < text.len(), &mut list);

@@ -16,7 +16,7 @@ use Rattle.schedule.specs.declared.Line.TheVariants.{Trip}
 use Rattle.table.specs.{declared.Desk.{Desk}, declared.Table.{Table}, Value.{desk0, all_cells, cell_width, entries, open_width}}
 use Rattle.table.specs.{TypeShape.{DesksShape}, Model.{table_of, model_of}, Sound.{SoundTable}}
 use Rattle.steps.specs.{declared.Turn.{Turn as DeskTurn}, Stepped.{Placed, put_desk, Stepped, table_after}}
-use Rattle.session.specs.{declared.Next.{Next}, Session.{Session, Turn, turn}, Mirror.LineValue.{line_in, line_actor, seat_of}}
+use Rattle.session.specs.{Session.{Session, Turn, turn}, Mirror.LineValue.{line_in, line_actor, seat_of}}
 use Rattle.session.specs.Holds.{zero_table, Holds, begun-holds}
 use Rattle.rules.specs.{Mirror.Test.{owns, sizes_test}, Link.ArrayLimits.{own_is}}
 
@@ -102,10 +102,6 @@ module _ {t : Table} {d d' : Desk} {cs' os' : List ℕ} (a : Step) (answer : Ans
       let e : answer_of answer names ≡ answer_of answer [] = beside answer names _ refl (ap is_applies h.answer_is ∙ quiet (model_of t) a q) in
       rw e (acted_step a h)
 
--- a line that is no step on a table
-abbrev pub no_step_of : Desk → DeskTurn
-no_step_of d = record { desk = d; answer = Refused NoStepAnswer }
-
 pub acted_none : {t : Table} {own : List ℕ} {d : Desk} (o : Option Said) → Placed t own 0 d
     → turn (some (model_of t)) o ≡ record { answer = machine.refused machine.no_step; session = some (model_of t) }
     → Acted t 0 d o d t.cells t.opens (machine.refused machine.no_step)
@@ -127,11 +123,6 @@ pub record Seated (t : Table) (own : List ℕ) (i : ℕ) (d : Desk) (z : Session
   pub opens_size : length t.opens ≡ entries * open_width
   pub desk : get_or t.core.desks (seat_of i) desk0 ≡ d
 
-pub record SomeSeat (n m : ℕ) (cs os own : List ℕ) (i : ℕ) (d : Desk) : Type 0 where
-  pub desks : List Desk
-  pub session : Session
-  pub seated : Seated (table_of n m desks cs os) own i d session
-
 -- the turn k: its answer, and the table after it
 pub record LineTurned (t : Table) (answer : machine.Answer) (k : Turn) : Type 0 where
   pub answer_is : answer ≡ k.answer
@@ -141,11 +132,12 @@ pub record LineTurned (t : Table) (answer : machine.Answer) (k : Turn) : Type 0 
 abbrev pub table_seated : (n m : ℕ) (ds : List Desk) (i : ℕ) (d : Desk) (cs os : List ℕ) → Table
 table_seated n m ds i d cs os = table_of n m (set ds (seat_of i) d) cs os
 
--- whatever the other desks, and whatever session the values hold
-abbrev pub Turns : (n m : ℕ) (d : Desk) (own cs os list : List ℕ) (s : std.Option Line) (r : Next) (cs' os' : List ℕ) (names' : List Name) → Type 0
-Turns n m d own cs os list s r cs' os' names' =
-    (ds : List Desk) (z : Session) → Seated (table_of n m ds cs os) own (line_actor s) d z
-    → LineTurned (table_seated r.n r.m ds (line_actor s) r.desk cs' os') (answer_of r.answer names') (turn z (line_in s list))
+-- the size of the table after a line, 0 while there is none, the acting desk, and the answer
+pub record Next : Type 0 where
+  pub n : ℕ
+  pub m : ℕ
+  pub desk : Desk
+  pub answer : Answer
 
 abbrev pub next_of : ℕ → ℕ → Desk → Answer → Next
 next_of n m d a = record { n = n; m = m; desk = d; answer = a }
@@ -163,7 +155,7 @@ first_turn d (Some (Trip i n)) = next_of 0 0 d (Refused NoStepAnswer)
 first_turn d None = next_of 0 0 d (Refused NoStepAnswer)
 
 module _ {whole : Table} {own : List ℕ} {i : ℕ} {d : Desk} where
-  stays : {z : Session} → Seated whole own i d z → set whole.core.desks (seat_of i) d ≡ whole.core.desks
+  pub stays : {z : Session} → Seated whole own i d z → set whole.core.desks (seat_of i) d ≡ whole.core.desks
   stays h = rw (← h.desk) (set-get_or whole.core.desks (seat_of i) desk0)
 
   pub placed : {s : State} → Seated whole own i d (some s) → Placed whole own i d
@@ -205,7 +197,7 @@ module _ {whole : Table} {own : List ℕ} {i : ℕ} {d : Desk} where
   acting none ne h = absurd (ne (ap (λ (t : Table). t.core.n) h.holds))
   acting (some s) ne h = record { desks = whole.core.desks; placed = placed h }
 
-  zero_of : (z : Session) → whole.core.n ≡ 0 → Seated whole own i d z → (z ≡ none) × (whole ≡ zero_table)
+  pub zero_of : (z : Session) → whole.core.n ≡ 0 → Seated whole own i d z → (z ≡ none) × (whole ≡ zero_table)
   zero_of none e h = (refl, h.holds)
   zero_of (some s) e h = absurd (omega (arith, h.holds.sound.rules.frame.ranges.desks.0))
 
