@@ -1,9 +1,8 @@
 -- The frame of the four steps: 13 where the table breaks the rules, else what the step given makes of the table's parts.
-use Rattle.std.specs.Prelude.{◌≡◌}
-use Rattle.laws.specs.Kit.{ℕ, List, [], ◌⊎◌, inl, inr, sym, ◌∙◌}
-use denote.{Ref.{MutBor}, Param.Members.{Once}}
+use Rattle.std.specs.{Prelude.{◌≡◌, ◌⊎◌}, Borrow.{MutBor}, Fn.{Once}}
+use Rattle.laws.specs.Kit.{ℕ, List, [], inl, inr, sym, ◌∙◌}
 use Rattle.machine.specs.Steps.{Step}
-use Rattle.reply.specs.{declared.Answer.TheVariants.{Refused}, declared.Refusal.TheVariants.{Broken}, Meaning.{answer_of}}
+use Rattle.reply.specs.{declared.Name.{Name}, declared.Answer.TheVariants.{Refused}, declared.Refusal.TheVariants.{Broken}, Meaning.{answer_of}}
 use Rattle.table.specs.{declared.Core.{Core}, declared.Desk.{Desk}, declared.Table.{Table}, Sound.{SoundTable}}
 use Rattle.rules.specs.Mirror.Test.{owns}
 use Rattle.steps.specs.{declared.Turn.{Turn}, Stepped.{Placed, put_desk, table_after}, Mirror.Look.{SomeLook, Looks}}
@@ -17,24 +16,24 @@ core_after c i d = record { n = c.n; m = c.m; desks = put_desk c.n c.desks i d }
 -- the step given: its desk, and the cells, the open writes and the names lent to it --
 
 abbrev pub Lent : Type 0
-Lent = MutBor (List ℕ) × (MutBor (List ℕ) × (MutBor (List ℕ) × Unit {0}))
+Lent = MutBor (List ℕ) × (MutBor (List ℕ) × (MutBor (List Name) × Unit {0}))
 
 abbrev pub Given : Type 0 → Type 1
 Given F = Once F (Desk × Lent) (Turn × Lent)
 
 -- it may be called with desk d and the arrays of the table
 abbrev pub Takes : {F : Type 0} → Given F → F → Table → Desk → Type 0
-Takes g f t d = (a b c : MutBor (List ℕ)) → a.now ≡ t.cells → b.now ≡ t.opens → c.now ≡ no_names → g.pre f (d, (a, (b, (c, tt))))
+Takes g f t d = (a b : MutBor (List ℕ)) (c : MutBor (List Name)) → a.now ≡ t.cells → b.now ≡ t.opens → c.now ≡ no_names → g.pre f (d, (a, (b, (c, tt))))
 
 -- so called, it may give the turn and leave these in the arrays
-pub record Gives {F : Type 0} (g : Given F) (f : F) (t : Table) (d : Desk) (r : Turn) (cs os names : List ℕ) : Type 0 where
+pub record Gives {F : Type 0} (g : Given F) (f : F) (t : Table) (d : Desk) (r : Turn) (cs os : List ℕ) (names : List Name) : Type 0 where
   pub cells : MutBor (List ℕ)
   pub opens : MutBor (List ℕ)
-  pub beside : MutBor (List ℕ)
+  pub beside : MutBor (List Name)
   pub shows : (cells.now ≡ t.cells) × (opens.now ≡ t.opens) × (beside.now ≡ no_names)
   pub cells_left : MutBor (List ℕ)
   pub opens_left : MutBor (List ℕ)
-  pub beside_left : MutBor (List ℕ)
+  pub beside_left : MutBor (List Name)
   pub leaves : (cells_left.now ≡ cs) × (opens_left.now ≡ os) × (beside_left.now ≡ names)
   pub met : g.post f (d, (cells, (opens, (beside, tt)))) (r, (cells_left, (opens_left, (beside_left, tt))))
 
@@ -49,7 +48,7 @@ pub record Outcome {F : Type 0} (g : Given F) (f : F) (t : Table) (i : ℕ) (r :
   pub turn : Turn
   pub cells : List ℕ
   pub opens : List ℕ
-  pub names : List ℕ
+  pub names : List Name
   pub gives : Gives g f t desk turn cells opens names
   pub is : r ≡ record { table = table_after t.core i turn.desk cells opens; answer = turn.answer; names = names }
 
@@ -61,7 +60,7 @@ module _ {cs cs₀ os os₀ cs' cs₁ os' os₁ : List ℕ} {r z : Turn} (e : r 
   writes-same : {n m i : ℕ} {d : Desk} {a : Step} → cs' ≡ cs₁ → os' ≡ os₁ → Writes n m cs os i d a z cs' os' → Writes n m cs₀ os₀ i d a r cs₁ os₁
   writes-same c o w = rw (e, ← ca, ← oa, ← c, ← o) w
 
-  delivers-same : {n i u k : ℕ} {d : Desk} {own names names₀ names' names₁ : List ℕ} → names ≡ names₀ → cs' ≡ cs₁ → os' ≡ os₁ → names' ≡ names₁
+  delivers-same : {n i u k : ℕ} {d : Desk} {own : List ℕ} {names names₀ names' names₁ : List Name} → names ≡ names₀ → cs' ≡ cs₁ → os' ≡ os₁ → names' ≡ names₁
       → Delivers n d own cs os names i u k z cs' os' names' → Delivers n d own cs₀ os₀ names₀ i u k r cs₁ os₁ names₁
   delivers-same na c o b w = rw (e, ← ca, ← oa, ← na, ← c, ← o, ← b) w
 
@@ -69,7 +68,7 @@ module _ {cs cs₀ os os₀ cs' cs₁ os' os₁ : List ℕ} {r z : Turn} (e : r 
 
 module _ {F : Type 0} {g : Given F} {f : F} {t : Table} {i : ℕ} {r : Delivered} (o : Acted g f t i r) where
   pub met_looked : (a : Step)
-      → ((d : Desk) (turn : Turn) (cs os names : List ℕ) (y : Gives g f t d turn cs os names) → (z : Turn) × (turn ≡ z) × (y.cells_left.now ≡ y.cells.now) × (y.opens_left.now ≡ y.opens.now) × Looks t.core.n t.core.m y.cells.now i d a z)
+      → ((d : Desk) (turn : Turn) (cs os : List ℕ) (names : List Name) (y : Gives g f t d turn cs os names) → (z : Turn) × (turn ≡ z) × (y.cells_left.now ≡ y.cells.now) × (y.opens_left.now ≡ y.opens.now) × Looks t.core.n t.core.m y.cells.now i d a z)
       → Met t a r.table (answer_of r.answer [])
   met_looked a h = after o
     where
@@ -84,7 +83,7 @@ module _ {F : Type 0} {g : Given F} {f : F} {t : Table} {i : ℕ} {r : Delivered
           rw (x.is, c, p) (met-stepped x.placed (k t.core.desks t.opens _ x.placed))
 
   pub met_written : (a : Step)
-      → ((d : Desk) (turn : Turn) (cs os names : List ℕ) (y : Gives g f t d turn cs os names) → (z : Turn) × (turn ≡ z) × (cs' os' : List ℕ) × (y.cells_left.now ≡ cs') × (y.opens_left.now ≡ os') × Writes t.core.n t.core.m y.cells.now y.opens.now i d a z cs' os')
+      → ((d : Desk) (turn : Turn) (cs os : List ℕ) (names : List Name) (y : Gives g f t d turn cs os names) → (z : Turn) × (turn ≡ z) × (cs' os' : List ℕ) × (y.cells_left.now ≡ cs') × (y.opens_left.now ≡ os') × Writes t.core.n t.core.m y.cells.now y.opens.now i d a z cs' os')
       → Met t a r.table (answer_of r.answer [])
   met_written a h = after o
     where
@@ -97,7 +96,7 @@ module _ {F : Type 0} {g : Given F} {f : F} {t : Table} {i : ℕ} {r : Delivered
           rw x.is (met-stepped x.placed (k t.core.desks _ x.placed))
 
   pub brought_acted : {u k : ℕ}
-      → ((d : Desk) (turn : Turn) (cs os names : List ℕ) (y : Gives g f t d turn cs os names) → (z : Turn) × (turn ≡ z) × (cs' os' names' : List ℕ) × (y.cells_left.now ≡ cs') × (y.opens_left.now ≡ os') × (y.beside_left.now ≡ names') × Delivers t.core.n d (owns t.core.desks) y.cells.now y.opens.now y.beside.now i u k z cs' os' names')
+      → ((d : Desk) (turn : Turn) (cs os : List ℕ) (names : List Name) (y : Gives g f t d turn cs os names) → (z : Turn) × (turn ≡ z) × (cs' os' : List ℕ) × (names' : List Name) × (y.cells_left.now ≡ cs') × (y.opens_left.now ≡ os') × (y.beside_left.now ≡ names') × Delivers t.core.n d (owns t.core.desks) y.cells.now y.opens.now y.beside.now i u k z cs' os' names')
       → Brought t i u k r.table r.answer r.names
   brought_acted {u} {k} h = after o
     where

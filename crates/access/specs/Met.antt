@@ -1,11 +1,11 @@
 -- What a step on a table value promises: the machine's step where the value keeps the rules, and 13 where it breaks them.
-use Rattle.std.specs.Prelude.{◌-◌, ◌*◌, ◌≤◌, ◌≡◌}
+use Rattle.std.specs.Prelude.{◌-◌, ◌≤◌, ◌≡◌}
 use Rattle.laws.specs.Kit.{ℕ, refl, sym, ap, ◌∙◌, List, Bool, true, false, not, arith, get_or, replicate, sets}
 use Rattle.laws.specs.Says.{Says, clash}
 use Rattle.clock.specs.Vectors.{places}
 use Rattle.machine.specs.Answer as machine
 use Rattle.machine.specs.{Rules.{In}, Steps.{Step, Deliver, step}}
-use Rattle.reply.specs.{declared.Answer.{Answer}, declared.Answer.TheVariants.{Refused}, declared.Refusal.TheVariants.{Broken}}
+use Rattle.reply.specs.{declared.Name.{Name}, declared.Answer.{Answer}, declared.Answer.TheVariants.{Refused}, declared.Refusal.TheVariants.{Broken}}
 use Rattle.reply.specs.Meaning.{answer_of, Counted}
 use Rattle.table.specs.{declared.Desk.{Desk}, declared.Table.{Table}, Value.{desk0, entries}, TypeShape.{Shaped}, Model.{model_of}}
 use Rattle.table.specs.Sound.{SoundTable}
@@ -31,11 +31,11 @@ pub record Met (t : Table) (a : Step) (r : Table) (answer : machine.Answer) : Ty
   pub refuses : (x : machine.Refusal) → answer ≡ machine.refused x → r ≡ t
   pub broken : (SoundTable t → ⊥) → Turned t r answer
 
-abbrev pub no_names : List ℕ
-no_names = replicate (2 * entries) 0
+abbrev pub no_names : List Name
+no_names = replicate entries record { writer = 0; number = 0 }
 
 -- of a delivery also the array beside: the names applied, as many as are counted, then zeros
-pub record Brought (t : Table) (i u k : ℕ) (r : Table) (answer : Answer) (names : List ℕ) : Type 0 where
+pub record Brought (t : Table) (i u k : ℕ) (r : Table) (answer : Answer) (names : List Name) : Type 0 where
   pub met : Met t (Deliver i u k) r (answer_of answer names)
   pub names_are : names ≡ sets no_names 0 (names_beside (answer_of answer names))
   pub counted : Counted answer
@@ -92,7 +92,7 @@ module _ {t : Table} where
           opens = eo j;
         }
 
-    pub brought : {u k : ℕ} {r : Turn} {cs os names : List ℕ} → Meets t d no_names i u k r cs os names
+    pub brought : {u k : ℕ} {r : Turn} {cs os : List ℕ} {names : List Name} → Meets t d no_names i u k r cs os names
         → Brought t i u k (table_after t.core i r.desk cs os) r.answer names
     brought w = record {
       met = met-stepped w.stepped;

@@ -5,7 +5,7 @@ use Rattle.laws.specs.{Kit.{ℕ, refl, sym, ap, ◌∙◌, List, [], inl, inr, a
 use Rattle.machine.specs.{Table.{State}, Steps.{Step, Read, Write, Deliver, Trip, step, answers}, Refusals.{Row, rows_of, FirstFails}}
 use Rattle.machine.proofs.Refusals.{refusal-exactly}
 use Rattle.machine.specs.Answer as machine
-use Rattle.reply.specs.{declared.Answer.{Answer}, declared.Answer.TheVariants.{Refused}, declared.Refusal.{Refusal}}
+use Rattle.reply.specs.{declared.Name.{Name}, declared.Answer.{Answer}, declared.Answer.TheVariants.{Refused}, declared.Refusal.{Refusal}}
 use Rattle.reply.specs.{Meaning.{refusal_of, answer_of, Counted}, Unique.{answer_is, Silent, silent_counted}}
 use Rattle.table.specs.{declared.Table.{Table}, TypeShape.{DesksShape, Shaped}, Model.{model_of}, SameTable.{Same}, Sound.{SoundTable}}
 use Rattle.table.specs.Unique.{StandsIn, same-core, same-opens}
@@ -65,7 +65,7 @@ pub record OneTable (r r' : Table) (a a' : Answer) : Type 0 where
   pub refused : (f : Refusal) → a ≡ Refused f → r ≡ r'
 
 module _ {t : Table} (sh : DesksShape t.core.desks) (fit : Fit t.core.desks) where
-  outcome : {c : Step} {r r' : Table} {a a' : Answer} (names names' : List ℕ) (p : Met t c r (answer_of a names)) (q : Met t c r' (answer_of a' names'))
+  outcome : {c : Step} {r r' : Table} {a a' : Answer} (names names' : List Name) (p : Met t c r (answer_of a names)) (q : Met t c r' (answer_of a' names'))
       → Counted a → Counted a' → Shaped r → Shaped r' → OneTable r r' a a'
   outcome {a = a} {a' = a'} names names' p q n n' h h' = record {
     answer = answer_is a names n (one_answer sh fit p q) ∙ sym (answer_is a' names' n' refl);

@@ -15,7 +15,7 @@ ghost use Rattle.steps.specs.declared.Turn.{Turn};
 ghost use Rattle.table.specs.declared.Desk.{Desk};
 
 use clock::PLACES;
-use reply::{Answer, NAMES, Refusal};
+use reply::{APPLIED, Answer, Name, Refusal};
 use steps::Turn;
 use table::{Cells, Core, Desk, Opens, Table};
 
@@ -25,12 +25,12 @@ pub struct Done {
     pub answer: Answer,
 }
 
-// The names of an answer that applies writes: writer and number by turns, then zeros.
+// The names of an answer that applies writes, then zeros.
 #[derive(Drop)]
 pub struct Delivered {
     pub table: Table,
     pub answer: Answer,
-    pub names: [u16; NAMES],
+    pub names: [Name; APPLIED],
 }
 
 // Desk i, or any where there is none.
@@ -55,7 +55,7 @@ fn put_desk(core: &mut Core, i: usize, d: Desk)
 }
 
 // One step of desk i: 13 where the table breaks the rules; else the step is given the desk and the arrays, and its desk goes back.
-fn acted<F: FnOnce(Desk, &mut Cells, &mut Opens, &mut [u16; NAMES]) -> Turn>(
+fn acted<F: FnOnce(Desk, &mut Cells, &mut Opens, &mut [Name; APPLIED]) -> Turn>(
     mut t: Table,
     i: usize,
     step: F,
@@ -63,7 +63,11 @@ fn acted<F: FnOnce(Desk, &mut Cells, &mut Opens, &mut [u16; NAMES]) -> Turn>(
     requires { (d : Desk) → Placed t (owns t.core.desks) i d → Takes F.FnOnce step t d }
     ensures { Acted F.FnOnce step t i result }
 {
-    let mut names = [0; NAMES];
+    let none = Name {
+        writer: 0,
+        number: 0,
+    };
+    let mut names = [none; APPLIED];
     table::table_shape(t);
     if !rules::keeps_rules(t.core, &t.cells, &t.opens) {
         return Delivered {

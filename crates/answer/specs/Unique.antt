@@ -1,17 +1,15 @@
 -- One value only stands for what writing a line comes to.
-use Rattle.std.specs.Prelude.{◌≡◌}
-use Rattle.laws.specs.Kit.{refl, sym, ap, ◌∙◌}
-use Rattle.answer.specs.{declared.Written.{Written}, declared.Written.TheVariants.{Upto}, Outcome.{PutAnswer, upto, refused}}
-use Rattle.answer.specs.Outcome.{written_of}
-use Rattle.answer.specs.declared.Written.TheVariants as written
+use Rattle.std.specs.Prelude.{◌≡◌, Option, Some, None}
+use Rattle.laws.specs.Kit.{ℕ, refl, sym, ap, ◌∙◌}
+use Rattle.answer.specs.Outcome.{PutAnswer, upto, refused, written_of}
 
-abbrev pub written_for : PutAnswer → Written
-written_for (upto p) = Upto p
-written_for (refused r) = written.Short
+abbrev pub written_for : PutAnswer → Option ℕ
+written_for (upto p) = Some p
+written_for (refused r) = None
 
-written_back : (w : Written) → written_for (written_of w) ≡ w
-written_back (Upto p) = refl
-written_back written.Short = refl
+written_back : (w : Option ℕ) → written_for (written_of w) ≡ w
+written_back (Some p) = refl
+written_back None = refl
 
-pub written_is : (w : Written) {x : PutAnswer} → written_of w ≡ x → w ≡ written_for x
+pub written_is : (w : Option ℕ) {x : PutAnswer} → written_of w ≡ x → w ≡ written_for x
 written_is w e = sym (written_back w) ∙ ap written_for e

@@ -2,7 +2,7 @@
 use Rattle.std.specs.Prelude.{◌+◌, ◌<◌, ◌≤◌, ◌≡◌}
 use Rattle.std.specs.Fn.{Mut, Called}
 use Rattle.std.specs.Array.{IsFromFnResult, IsFromFnResultFrom}
-use Rattle.laws.specs.Kit.{ℕ, zero, suc, refl, sym, ◌∙◌, List, arith, dec_le, length, get_or, ext_get_or}
+use Rattle.laws.specs.Kit.{ℕ, zero, suc, refl, sym, ◌∙◌, List, arith, dec_le, get_or, ext_get_or}
 use Rattle.laws.specs.Tab.{tab, length-tab, get_or-tab}
 
 -- a closure that changes nothing and gives h i at each index i below n

@@ -2,14 +2,13 @@
 #![tactic(auto)]
 
 use access::{Delivered, Done};
-use answer::Written;
-use reply::{Answer, NAMES, Refusal};
+use reply::{APPLIED, Answer, Name, Refusal};
 use std::io;
-use table::{Begun, Table};
+use table::Table;
 
-fn say_named(rt: &impl Print, a: Answer, names: &[u16; NAMES]) -> io::Result<()> {
+fn say_named(rt: &impl Print, a: Answer, names: &[Name; APPLIED]) -> io::Result<()> {
     let mut out = [0; 800];
-    if let Written::Upto(len) = answer::put(&mut out, 0, a, names)
+    if let Some(len) = answer::put(&mut out, 0, a, names)
         && len <= out.len()
     {
         rt.write_all(&out[..len])?;
@@ -18,19 +17,21 @@ fn say_named(rt: &impl Print, a: Answer, names: &[u16; NAMES]) -> io::Result<()>
 }
 
 fn say(rt: &impl Print, a: Answer) -> io::Result<()> {
-    say_named(rt, a, &[0; NAMES])
+    let none = Name {
+        writer: 0,
+        number: 0,
+    };
+    say_named(rt, a, &[none; APPLIED])
 }
 
 // N n m
 fn begin(rt: &impl Print, n: usize, m: usize) -> io::Result<Table> {
-    let Begun { begun, table } = table::begin(n, m);
-    let a = if begun {
-        Answer::Begun
-    } else {
-        Answer::Refused(Refusal::NoSize)
+    let Some(t) = table::begin(n, m) else {
+        say(rt, Answer::Refused(Refusal::NoSize))?;
+        return Ok(table::fresh(0, 0));
     };
-    say(rt, a)?;
-    Ok(table)
+    say(rt, Answer::Begun)?;
+    Ok(t)
 }
 
 // The answer is said, and the table goes on.

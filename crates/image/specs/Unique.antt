@@ -1,10 +1,10 @@
 -- A save comes to one answer and one buffer.
-use Rattle.std.specs.Prelude.{◌≡◌}
+use Rattle.std.specs.Prelude.{◌≡◌, Result, Ok, Err}
 use Rattle.laws.specs.Kit.{ℕ, refl, sym, ap, ◌∙◌, Bool, true, false, List, le-leb, lt-leb, eqb, leb, length, sets}
 use Rattle.laws.specs.{Loop.{pick, cases}, Says.{Says, clash}}
 use Rattle.machine.specs.Answer.{broken, short, number_of}
 use Rattle.table.specs.{declared.Table.{Table}, Model.{model_of}, Sound.{SoundTable}}
-use Rattle.image.specs.{declared.Saving.{Saving}, declared.Saving.TheVariants.{Length, Broken, Short}, Encode.{encode}}
+use Rattle.image.specs.{declared.Unsaved.{Unsaved}, declared.Unsaved.TheVariants.{Broken, Short}, Encode.{encode}}
 use Rattle.image.specs.Saving.{SaveAnswer, long, refused, saving_of, Saves, by_rule, by_room, as_image}
 
 -- the answer and the buffer, by whether the value keeps the rules
@@ -32,19 +32,19 @@ one_save t b a c x y p q =
     (ap (λ (r : SaveAnswer × List ℕ). r.0) e, ap (λ (r : SaveAnswer × List ℕ). r.1) e)
 
 -- the code's value
-abbrev pub saving_for : SaveAnswer → Saving
-saving_for (long n) = Length n
-saving_for (refused r) = pick (eqb (number_of r) (number_of broken)) Broken Short
+abbrev pub saving_for : SaveAnswer → Result ℕ Unsaved
+saving_for (long n) = Ok n
+saving_for (refused r) = Err (pick (eqb (number_of r) (number_of broken)) Broken Short)
 
-saving_back : (r : Saving) → saving_for (saving_of r) ≡ r
-saving_back (Length n) = refl
-saving_back Broken = refl
-saving_back Short = refl
+saving_back : (r : Result ℕ Unsaved) → saving_for (saving_of r) ≡ r
+saving_back (Ok n) = refl
+saving_back (Err Broken) = refl
+saving_back (Err Short) = refl
 
-pub saving_is : (r : Saving) {x : SaveAnswer} → saving_of r ≡ x → r ≡ saving_for x
+pub saving_is : (r : Result ℕ Unsaved) {x : SaveAnswer} → saving_of r ≡ x → r ≡ saving_for x
 saving_is r e = sym (saving_back r) ∙ ap saving_for e
 
-pub one_saving : (t : Table) (before a c : List ℕ) (r r' : Saving) → Saves t before a (saving_of r) → Saves t before c (saving_of r') → (r ≡ r') × (a ≡ c)
+pub one_saving : (t : Table) (before a c : List ℕ) (r r' : Result ℕ Unsaved) → Saves t before a (saving_of r) → Saves t before c (saving_of r') → (r ≡ r') × (a ≡ c)
 one_saving t before a c r r' p q =
     let e = one_save t before a c (saving_of r) (saving_of r') p q in
     (saving_is r e.0 ∙ sym (saving_is r' refl), e.1)

@@ -27,7 +27,7 @@ use block::{
     BLOCK, BROAD, CELL_KIND, CHECK, DESK_KIND, OPEN_KIND, PAYLOAD_AT, SIZE_KIND, VECTOR_AT,
 };
 use clock::PLACES;
-use table::{CELLS, Cell, Cells, Core, Desk, Found, OPENS, Open, Opens, Table};
+use table::{CELLS, Cell, Cells, Core, Desk, OPENS, Open, Opens, Table};
 
 // What the payload of kind 1 begins with: desks, cells, open writes.
 pub const DESKS_AT: usize = PAYLOAD_AT;
@@ -157,65 +157,60 @@ struct Plan {
     total: usize,
 }
 
-// The block at place k: the sizes, the desks, then their cells, and then the open writes.
-fn block_at(
-    core: Core,
-    cells: &Cells,
-    opens: &Opens,
-    order: &[usize; OPENS],
+// The parts of a table as they are saved: the entries of its open writes in their order, and how its blocks stand.
+#[derive(Clone, Copy)]
+struct Lent<'a> {
+    core: &'a Core,
+    cells: &'a Cells,
+    opens: &'a Opens,
+    order: &'a [usize; OPENS],
     plan: Plan,
-    k: usize,
-) -> [u8; BLOCK]
-    requires { Planned (table_with core cells.now opens.now) order.now plan × (k < plan.total) }
-    ensures { result ≡ block_at plan.p (model_of (table_with core cells.now opens.now)) k }
-{
-    if k == 0 {
-        return size_block(plan.p, core.n as u16, core.m as u16, plan.count as u16);
-    }
-    if k <= core.n {
-        return desk_block(plan.p, k as u16, core.desks[k - 1]);
-    }
-    if k < plan.ahead {
-        let q = k - (1 + core.n);
-        return cell_block(plan.p, k as u16, cells, q / plan.row, q % plan.row);
-    }
-    open_block(plan.p, k as u16, opens, order, plan.count, k - plan.ahead)
 }
 
-fn save_blocks(
-    core: Core,
-    cells: &Cells,
-    opens: &Opens,
-    order: &[usize; OPENS],
-    plan: Plan,
-    out: &mut [u8],
-)
-    requires { Planned (table_with core cells.now opens.now) order.now plan × (block_bytes * plan.total ≤ length out.old) }
-    ensures { out.new ≡ sets out.old 0 (encode (model_of (table_with core cells.now opens.now))) }
-{
-    for k in 0..plan.total {
-        let b = block_at(core, cells, opens, order, plan, k);
-        block::copy(&b, BLOCK, out, BLOCK * k);
-    }
-}
-
-// Are the blocks of a table those of b, which is as long?
-fn same_blocks(
-    core: Core,
-    cells: &Cells,
-    opens: &Opens,
-    order: &[usize; OPENS],
-    plan: Plan,
-    b: &[u8],
-) -> bool
-    requires { Planned (table_with core cells.now opens.now) order.now plan × (length b.now ≡ block_bytes * plan.total) }
-    ensures { Says result (encode (model_of (table_with core cells.now opens.now)) ≡ b.now) }
-{
-    plan.total
-        == block::first_not(
-            b,
-            |x, k| block::same(x, &block_at(core, cells, opens, order, plan, k)),
+impl Lent<'_> {
+    // The block at place k: the sizes, the desks, then their cells, and then the open writes.
+    fn block_at(&self, k: usize) -> [u8; BLOCK]
+        requires { Planned (table_with self.now.core.now self.now.cells.now self.now.opens.now) self.now.order.now self.now.plan × (k < self.now.plan.total) }
+        ensures { result ≡ block_at self.now.plan.p (model_of (table_with self.now.core.now self.now.cells.now self.now.opens.now)) k }
+    {
+        let plan = self.plan;
+        let n = self.core.n;
+        if k == 0 {
+            return size_block(plan.p, n as u16, self.core.m as u16, plan.count as u16);
+        }
+        if k <= n {
+            return desk_block(plan.p, k as u16, self.core.desks[k - 1]);
+        }
+        if k < plan.ahead {
+            let q = k - (1 + n);
+            return cell_block(plan.p, k as u16, self.cells, q / plan.row, q % plan.row);
+        }
+        open_block(
+            plan.p,
+            k as u16,
+            self.opens,
+            self.order,
+            plan.count,
+            k - plan.ahead,
         )
+    }
+
+    fn save(&self, out: &mut [u8])
+        requires { Planned (table_with self.now.core.now self.now.cells.now self.now.opens.now) self.now.order.now self.now.plan × (block_bytes * self.now.plan.total ≤ length out.old) }
+        ensures { out.new ≡ sets out.old 0 (encode (model_of (table_with self.now.core.now self.now.cells.now self.now.opens.now))) }
+    {
+        for k in 0..self.plan.total {
+            block::copy(&self.block_at(k), BLOCK, out, BLOCK * k);
+        }
+    }
+
+    // Are its blocks those of b, which is as long?
+    fn same(&self, b: &[u8]) -> bool
+        requires { Planned (table_with self.now.core.now self.now.cells.now self.now.opens.now) self.now.order.now self.now.plan × (length b.now ≡ block_bytes * self.now.plan.total) }
+        ensures { Says result (encode (model_of (table_with self.now.core.now self.now.cells.now self.now.opens.now)) ≡ b.now) }
+    {
+        self.plan.total == block::first_not(b, |x, k| block::same(x, &self.block_at(k)))
+    }
 }
 
 // The open writes, by writer then number --
@@ -260,7 +255,7 @@ fn order_of(opens: &Opens, u: usize, lo: u16, own: u16, order: &mut [usize], p: 
 {
     let mut at = p;
     for k in lo..own {
-        let Found::At(e) = table::find(opens, u, k + 1) else {
+        let Some(e) = table::find(opens, u, k + 1) else {
             return at;
         };
         order[at] = e;
@@ -351,7 +346,14 @@ pub fn save_parts(core: Core, cells: &Cells, opens: &Opens, out: &mut [u8]) -> u
 {
     let mut order = [0usize; OPENS];
     let plan = planned(core, cells, opens, &mut order);
-    save_blocks(core, cells, opens, &order, plan, out);
+    let lent = Lent {
+        core: &core,
+        cells,
+        opens,
+        order: &order,
+        plan,
+    };
+    lent.save(out);
     BLOCK * plan.total
 }
 
@@ -362,26 +364,32 @@ pub fn is_image(core: Core, cells: &Cells, opens: &Opens, b: &[u8]) -> bool
 {
     let mut order = [0usize; OPENS];
     let plan = planned(core, cells, opens, &mut order);
-    b.len() == BLOCK * plan.total && same_blocks(core, cells, opens, &order, plan, b)
+    let lent = Lent {
+        core: &core,
+        cells,
+        opens,
+        order: &order,
+        plan,
+    };
+    b.len() == BLOCK * plan.total && lent.same(b)
 }
 
-// What save answers: the image's length, or refusal 13 (Broken) or 14 (Short).
-#[derive(Drop)]
-pub enum Saving {
-    Length(usize),
+// Why a table is not saved: refusal 13 or 14.
+#[derive(Clone, Copy, Debug, PartialEq, Eq)]
+pub enum Unsaved {
     Broken,
     Short,
 }
 
-// A table value saved into a lent buffer: the rules first, then the buffer's length.
-pub fn save(t: Table, out: &mut [u8]) -> Saving
+// A table value saved into a lent buffer: the rules first, then the buffer's length. The answer is the image's length.
+pub fn save(t: Table, out: &mut [u8]) -> Result<usize, Unsaved>
     ensures { Saves t out.old out.new (saving_of result) }
 {
     if !rules::keeps_rules(t.core, &t.cells, &t.opens) {
-        return Saving::Broken;
+        return Err(Unsaved::Broken);
     }
     if out.len() < image_length(t.core) {
-        return Saving::Short;
+        return Err(Unsaved::Short);
     }
-    Saving::Length(save_parts(t.core, &t.cells, &t.opens, out))
+    Ok(save_parts(t.core, &t.cells, &t.opens, out))
 }

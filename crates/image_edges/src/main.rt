@@ -3,8 +3,8 @@
 
 use block::{BLOCK, CHECK, PAYLOAD_AT};
 use clock::{Clock, PLACES};
-use image::Saving;
-use load::Outcome;
+use image::Unsaved;
+use load::Fault;
 use std::io;
 use table::{CELL, CELLS, Core, Desk, OPEN, OPENS, Table};
 
@@ -12,12 +12,12 @@ fn say(rt: &impl Print, line: &[u8]) -> io::Result<()> {
     rt.write_all(line)
 }
 
-fn saving(rt: &impl Print, s: Saving) -> io::Result<()> {
+fn saving(rt: &impl Print, s: Result<usize, Unsaved>) -> io::Result<()> {
     match s {
-        Saving::Length(3072) => say(rt, b"3072 bytes\n"),
-        Saving::Length(_) => say(rt, b"another length\n"),
-        Saving::Broken => say(rt, b"13\n"),
-        Saving::Short => say(rt, b"14\n"),
+        Ok(3072) => say(rt, b"3072 bytes\n"),
+        Ok(_) => say(rt, b"another length\n"),
+        Err(Unsaved::Broken) => say(rt, b"13\n"),
+        Err(Unsaved::Short) => say(rt, b"14\n"),
     }
 }
 
@@ -27,12 +27,12 @@ fn say_place(rt: &impl Print, number: &[u8], place: usize) -> io::Result<()> {
     rt.println(place)
 }
 
-fn loading(rt: &impl Print, o: Outcome) -> io::Result<()> {
+fn loading(rt: &impl Print, o: Result<Table, Fault>) -> io::Result<()> {
     match o {
-        Outcome::Accepted => say(rt, b"loaded\n"),
-        Outcome::WrongLength => say(rt, b"15\n"),
-        Outcome::Damaged(k) => say_place(rt, b"12", k),
-        Outcome::Broken(k) => say_place(rt, b"13", k),
+        Ok(_) => say(rt, b"loaded\n"),
+        Err(Fault::WrongLength) => say(rt, b"15\n"),
+        Err(Fault::Damaged(k)) => say_place(rt, b"12", k),
+        Err(Fault::Broken(k)) => say_place(rt, b"13", k),
     }
 }
 
@@ -82,7 +82,7 @@ fn save_into(rt: &impl Print, t: Table, out: &mut [u8], n: usize) -> io::Result<
 // Load the first n bytes.
 fn load_from(rt: &impl Print, b: &[u8], n: usize) -> io::Result<()> {
     if n <= b.len() {
-        loading(rt, load::load(&b[..n]).answer)?;
+        loading(rt, load::load(&b[..n]))?;
     }
     Ok(())
 }
@@ -105,7 +105,8 @@ fn same_upto(rt: &impl Print, a: &[u8], b: &[u8], n: usize) -> io::Result<()> {
 // Load the first n bytes, and save what was loaded.
 fn reload(rt: &impl Print, b: &[u8], n: usize, out: &mut [u8]) -> io::Result<()> {
     if n <= b.len() {
-        saving(rt, image::save(load::load(&b[..n]).table, out))?;
+        let t = load::load(&b[..n]).unwrap_or(table::fresh(0, 0));
+        saving(rt, image::save(t, out))?;
     }
     Ok(())
 }

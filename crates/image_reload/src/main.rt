@@ -9,8 +9,8 @@ ghost use Rattle.std.specs.Prelude.{IfOk};
 ghost use Rattle.std.specs.Io.{ReadsAtMost};
 ghost use Rattle.image_reload.specs.Live.{Live};
 
-use image::{IMAGE, Saving};
-use load::Outcome;
+use image::IMAGE;
+use load::Fault;
 use std::io;
 use std::io::Read;
 use table::Table;
@@ -85,7 +85,7 @@ fn step(t: Table, line: &[u8]) -> Said
 // A table saved; no bytes where that is refused.
 fn saved(t: Table) -> Image {
     let mut bytes = image::room();
-    let Saving::Length(len) = image::save(t, &mut bytes) else {
+    let Ok(len) = image::save(t, &mut bytes) else {
         return Image { bytes, len: 0 };
     };
     Image { bytes, len }
@@ -98,22 +98,25 @@ fn same_image(a: Table, b: Table) -> bool {
     x.len != 0 && x.len == y.len && x.bytes == y.bytes
 }
 
-fn say_outcome(rt: &impl Print, o: Outcome) -> io::Result<()> {
-    match o {
-        Outcome::Accepted => say(rt, b" | reloaded"),
-        Outcome::WrongLength => say(rt, b" | NOT RELOADED: 15"),
-        Outcome::Damaged(_place) => say(rt, b" | NOT RELOADED: 12"),
-        Outcome::Broken(_place) => say(rt, b" | NOT RELOADED: 13"),
-    }
+fn say_fault(rt: &impl Print, f: Fault) -> io::Result<()> {
+    say(rt, b" | NOT RELOADED: ")?;
+    rt.print(f.number())
 }
 
 // The table of an image; none where it is refused.
 fn loaded(rt: &impl Print, b: &[u8]) -> io::Result<Table>
     ensures { IfOk result (λ t. Live t) }
 {
-    let l = load::load(b);
-    say_outcome(rt, l.answer)?;
-    Ok(l.table)
+    match load::load(b) {
+        Ok(t) => {
+            say(rt, b" | reloaded")?;
+            Ok(t)
+        }
+        Err(f) => {
+            say_fault(rt, f)?;
+            Ok(table::fresh(0, 0))
+        }
+    }
 }
 
 fn load_first(rt: &impl Print, b: &[u8], len: usize) -> io::Result<Table>
@@ -170,7 +173,7 @@ fn compare(rt: &impl Print, t: Two) -> io::Result<()> {
 fn nothing() -> Two
     ensures { Live result.kept × Live result.reloaded }
 {
-    let none = table::begin(0, 0).table;
+    let none = table::fresh(0, 0);
     Two {
         kept: none,
         reloaded: none,

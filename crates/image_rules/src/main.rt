@@ -14,8 +14,8 @@ ghost use Rattle.block.specs.Limits.{block_bytes};
 
 use block::BLOCK;
 use clock::PLACES;
-use image::{IMAGE, Saving};
-use load::Outcome;
+use image::IMAGE;
+use load::Fault;
 use std::io;
 use std::io::Read;
 use table::{CELL, CELLS, OPEN, OPENS, Table};
@@ -62,17 +62,17 @@ fn say_place(rt: &impl Print, number: &[u8], place: usize) -> io::Result<()> {
     rt.print(place)
 }
 
-fn say_outcome(rt: &impl Print, o: Outcome) -> io::Result<()> {
+fn say_outcome(rt: &impl Print, o: Result<Table, Fault>) -> io::Result<()> {
     match o {
-        Outcome::Accepted => say(rt, b" loaded"),
-        Outcome::WrongLength => say(rt, b" 15"),
-        Outcome::Damaged(k) => say_place(rt, b" 12", k),
-        Outcome::Broken(k) => say_place(rt, b" 13", k),
+        Ok(_) => say(rt, b" loaded"),
+        Err(Fault::WrongLength) => say(rt, b" 15"),
+        Err(Fault::Damaged(k)) => say_place(rt, b" 12", k),
+        Err(Fault::Broken(k)) => say_place(rt, b" 13", k),
     }
 }
 
 fn loaded(rt: &impl Print, b: &[u8]) -> io::Result<()> {
-    say_outcome(rt, load::load(b).answer)
+    say_outcome(rt, load::load(b))
 }
 
 fn load_first(rt: &impl Print, b: &[u8], len: usize) -> io::Result<()> {
@@ -166,7 +166,7 @@ fn replay(rt: &impl Print, text: &[u8]) -> io::Result<Table> {
 fn save(rt: &impl Print, good: &mut [u8; IMAGE], schedule: &[u8]) -> io::Result<()> {
     let t = replay(rt, schedule)?;
     let mut b = image::room();
-    let Saving::Length(len) = image::save(t, &mut b) else {
+    let Ok(len) = image::save(t, &mut b) else {
         return say(rt, b"not saved\n");
     };
     rt.print(len)?;

@@ -1,14 +1,15 @@
 -- Document 02, T-01: what there is to tell of an image, as five numbers.
-use Rattle.std.specs.Prelude.{◌≡◌, ◌∷◌}
-use Rattle.laws.specs.Kit.{ℕ, refl, sym, ap, ◌∙◌, List, [], map, Option, none, some, arith, eqb, get_or}
+use Rattle.std.specs.Prelude.{◌≡◌, ◌∷◌, Result, Ok, Err}
+use Rattle.laws.specs.Kit.{ℕ, refl, ap, ◌∙◌, List, [], map, Option, none, some, arith, eqb, get_or}
 use Rattle.laws.specs.{Loop.{pick, scan, turns}, All.{all}, Sum.{sum}, Update.{upd, upd2}}
 use Rattle.machine.specs.{Table.{fresh}, Answer.{wrong_length, damaged, number_of}, Steps.{open_count, everywhere, write}}
 use Rattle.table.specs.{declared.Table.{Table}, Model.{model_of}}
 use Rattle.block.specs.Limits.{places_for}
 use Rattle.image.specs.{Decode.{n_in, m_in, count_in, places_in, n-back, m-back, count-back}, Load.{Fault, length_fault, check_fault}}
 use Rattle.image.specs.Load.{rule_fault, fault_refusal, fault_place, Loaded, refused, loaded, load}
-use Rattle.load.specs.{declared.Outcome.{Outcome}, declared.Outcome.TheVariants.{Accepted}}
-use Rattle.load.specs.{declared.Finding.{Finding}, Loading.{loaded_of, Answers}, Unique.{loaded-is}, Link.ReadsBack.{fits_so}}
+use Rattle.load.specs.declared.Fault as code
+use Rattle.load.specs.{declared.Sizes.{Sizes}, Loading.{fault_of, loaded_of, Answers}, Unique.{loaded-is}, Link.ReadsBack.{fits_so}}
+use Rattle.image.specs.Encode.{encode}
 use Rattle.load.specs.Mirror.ImageRead.{Fits}
 
 -- "its place (0 where there is none)"
@@ -42,17 +43,18 @@ unfolding open_count sum upd upd2 everywhere all scan turns
 finding-told = refl
 
 -- the code's value
-abbrev pub finding_numbers : Finding → List ℕ
-finding_numbers f = f.number ∷ f.place ∷ f.n ∷ f.m ∷ f.open ∷ []
+abbrev pub finding_numbers : Result Sizes code.Fault → List ℕ
+finding_numbers (Ok z) = 0 ∷ 0 ∷ z.n ∷ z.m ∷ z.open ∷ []
+finding_numbers (Err f) = finding_of (refused (fault_of f))
 
 -- of what load answers, whichever case it is
-pub found_as : (b : List ℕ) (o : Outcome) (t : Table) {l : List ℕ} → Answers b o t → (x : Outcome) → o ≡ x → l ≡ finding_of (loaded_of x t) → l ≡ finding_of (load b)
-found_as b o t h x q e = e ∙ ap (λ (y : Outcome). finding_of (loaded_of y t)) (sym q) ∙ ap finding_of (loaded-is b o t h)
+pub found_as : (b : List ℕ) (r : Result Table code.Fault) → Answers b r → finding_of (loaded_of r) ≡ finding_of (load b)
+found_as b r h = ap finding_of (loaded-is b r h)
 
 -- an image that is loaded tells its table's sizes
-module _ (b : List ℕ) (t : Table) (h : Answers b Accepted t) where
+module _ (b : List ℕ) (t : Table) (h : Answers b (Ok t)) where
   pub fits-found : Fits (places_in b) b
   fits-found = fits_so b (model_of t) h.0.rules h.1
 
   pub sizes-found : {l : List ℕ} → l ≡ 0 ∷ 0 ∷ n_in b ∷ m_in b ∷ count_in b ∷ [] → l ≡ finding_of (load b)
-  sizes-found e = let p = places_for t.core.n in found_as b Accepted t h Accepted refl (e ∙ rw (← h.1, n-back p (model_of t), m-back p (model_of t), count-back p (model_of t)))
+  sizes-found e = let p = places_for t.core.n in e ∙ rw (← h.1, n-back p (model_of t), m-back p (model_of t), count-back p (model_of t)) (found_as (encode (model_of t)) (Ok t) (h.0, refl))

@@ -1,38 +1,45 @@
 -- The answer to a load: document 01's number and values for every case of it.
-use Rattle.std.specs.Prelude.{◌+◌, ◌*◌, ◌<◌, ◌≤◌, ◌≡◌}
+use Rattle.std.specs.Prelude.{◌+◌, ◌*◌, ◌<◌, ◌≤◌, ◌≡◌, Result, Ok, Err}
 use Rattle.laws.specs.Kit.{ℕ, ap, ◌∙◌, List, arith, zero-add, length, replicate, take, drop, sets, sets-eq}
 use Rattle.laws.specs.{Kit.{take-append_seam}, FirstNot.{FirstNot}}
 use Rattle.table.specs.{declared.Core.{Core}, declared.Table.{Table}, Beginning.{fresh_table}, Model.{model_of, table_with}}
 use Rattle.table.specs.{Sound.{SoundTable}, Value.{all_cells, cell_width, entries, open_width}}
 use Rattle.block.specs.{Damage.{blocks_in, RightAt, WholeBlocks, Undamaged}, Stands.{StandsAt}}
-use Rattle.image.specs.{Encode.{encode}, Load.{length_fault, check_fault, rule_fault, Loaded, refused, loaded, NoImage, Loads, by_length}}
+use Rattle.image.specs.{Encode.{encode}, Load.{Fault, length_fault, check_fault, rule_fault, Loaded, refused, loaded, NoImage, Loads, by_length}}
 use Rattle.image.specs.Load.{by_check, by_rule, as_saved}
-use Rattle.load.specs.{declared.Outcome.{Outcome}, Link.ReadsBack.{ReadsRight}}
-use Rattle.load.specs.declared.Outcome.TheVariants as outcome
+use Rattle.load.specs.Link.ReadsBack.{ReadsRight}
+use Rattle.load.specs.declared.Fault as code
+use Rattle.load.specs.declared.Fault.TheVariants as fault
+
+-- what is wrong, as the code says it: 15, 12, 13
+abbrev pub fault_of : code.Fault → Fault
+fault_of fault.WrongLength = length_fault
+fault_of (fault.Damaged k) = check_fault k
+fault_of (fault.Broken k) = rule_fault k
 
 -- the table, or a refusal
-abbrev pub loaded_of : Outcome → Table → Loaded
-loaded_of outcome.Accepted t = loaded (model_of t)
--- 15
-loaded_of outcome.WrongLength t = refused length_fault
--- 12
-loaded_of (outcome.Damaged k) t = refused (check_fault k)
--- 13
-loaded_of (outcome.Broken k) t = refused (rule_fault k)
+abbrev pub loaded_of : Result Table code.Fault → Loaded
+loaded_of (Ok t) = loaded (model_of t)
+loaded_of (Err f) = refused (fault_of f)
 
--- Load: 15, 12, 13. A table is accepted exactly if it keeps the rules and its image is the bytes; a refusal hands back zeros.
-abbrev pub Answers : List ℕ → Outcome → Table → Type 0
-Answers b outcome.Accepted t = SoundTable t × (encode (model_of t) ≡ b)
-Answers b outcome.WrongLength t = (WholeBlocks b → ⊥) × (t ≡ fresh_table 0 0)
-Answers b (outcome.Damaged k) t = (WholeBlocks b × (k < blocks_in b) × FirstNot (RightAt b) (blocks_in b) k) × (t ≡ fresh_table 0 0)
-Answers b (outcome.Broken k) t = (Undamaged b × NoImage b × FirstNot (StandsAt b) (blocks_in b) k) × (t ≡ fresh_table 0 0)
+-- Load: 15, 12, 13. A table is accepted exactly if it keeps the rules and its image is the bytes.
+abbrev pub Answers : List ℕ → Result Table code.Fault → Type 0
+Answers b (Ok t) = SoundTable t × (encode (model_of t) ≡ b)
+Answers b (Err fault.WrongLength) = WholeBlocks b → ⊥
+Answers b (Err (fault.Damaged k)) = WholeBlocks b × (k < blocks_in b) × FirstNot (RightAt b) (blocks_in b) k
+Answers b (Err (fault.Broken k)) = Undamaged b × NoImage b × FirstNot (StandsAt b) (blocks_in b) k
+
+-- where the arrays are lent: the parts together are the table, and a refusal hands back zeros
+abbrev pub AnswersInto : List ℕ → Result Core code.Fault → List ℕ → List ℕ → Type 0
+AnswersInto b (Ok c) cells opens = Answers b (Ok (table_with c cells opens))
+AnswersInto b (Err f) cells opens = Answers b (Err f) × (cells ≡ (fresh_table 0 0).cells) × (opens ≡ (fresh_table 0 0).opens)
 
 -- that is what loading comes to, so it comes to one thing only (one-load)
-pub answers_loads : (b : List ℕ) (o : Outcome) (t : Table) → Answers b o t → Loads b (loaded_of o t)
-answers_loads b outcome.Accepted t h = as_saved (model_of t) h.0.rules h.1
-answers_loads b outcome.WrongLength t h = by_length h.0
-answers_loads b (outcome.Damaged k) t h = by_check k h.0.0 h.0.1 h.0.2
-answers_loads b (outcome.Broken k) t h = by_rule k h.0.0 h.0.1 h.0.2
+pub answers_loads : (b : List ℕ) (r : Result Table code.Fault) → Answers b r → Loads b (loaded_of r)
+answers_loads b (Ok t) h = as_saved (model_of t) h.0.rules h.1
+answers_loads b (Err fault.WrongLength) h = by_length h
+answers_loads b (Err (fault.Damaged k)) h = by_check k h.0 h.1 h.2
+answers_loads b (Err (fault.Broken k)) h = by_rule k h.0 h.1 h.2
 
 -- what was read breaks the rules, or its image is another
 pub not-held : (b : List ℕ) (t : Table) → ReadsRight b t → ((SoundTable t × (encode (model_of t) ≡ b)) → ⊥) → NoImage b
@@ -54,18 +61,6 @@ cleared_cells l e h = e ∙ ap (λ (n : ℕ). replicate {A = ℕ} n 0) h
 pub cleared_opens : (l : List ℕ) {r : List ℕ} → r ≡ replicate (length l) 0 → length l ≡ entries * open_width → r ≡ (fresh_table 0 0).opens
 unfolding fresh_table
 cleared_opens l e h = e ∙ ap (λ (n : ℕ). replicate {A = ℕ} n 0) h
-
--- the answers, by the code's tests
-pub length_so : (b : List ℕ) (o : Outcome) (t : Table) → o ≡ outcome.WrongLength → t ≡ fresh_table 0 0 → (WholeBlocks b → ⊥) → Answers b o t
-length_so b o t eo et f = rw eo (f, et)
-
-pub damaged_so : (b : List ℕ) (o : Outcome) (t : Table) (k : ℕ) → o ≡ outcome.Damaged k → t ≡ fresh_table 0 0 → WholeBlocks b → k < blocks_in b
-    → FirstNot (RightAt b) (blocks_in b) k → Answers b o t
-damaged_so b o t k eo et w h f = rw eo ((w, h, f), et)
-
-pub broken_so : (b : List ℕ) (o : Outcome) (t : Table) (k : ℕ) → o ≡ outcome.Broken k → t ≡ fresh_table 0 0 → Undamaged b → NoImage b
-    → FirstNot (StandsAt b) (blocks_in b) k → Answers b o t
-broken_so b o t k eo et u f h = rw eo ((u, f, h), et)
 
 -- no check was found wrong
 pub all_right : (b : List ℕ) (k : ℕ) → WholeBlocks b → blocks_in b ≤ k → FirstNot (RightAt b) (blocks_in b) k → Undamaged b

@@ -1,7 +1,7 @@
 // A table read from its saved image (document 01, "Saved image").
 #![tactic(auto)]
 
-ghost use Rattle.std.specs.Prelude.{◌≡◌, [], ◌∷◌, ◌+◌, ◌*◌, ◌/◌, ◌<◌, ◌≤◌, length, replicate};
+ghost use Rattle.std.specs.Prelude.{◌≡◌, ◌+◌, ◌*◌, ◌/◌, ◌<◌, ◌≤◌, length, MatchResult};
 ghost use Rattle.laws.specs.Says.{Says};
 ghost use Rattle.laws.specs.Tab.{tab};
 ghost use Rattle.clock.specs.Vectors.{places};
@@ -11,19 +11,21 @@ ghost use Rattle.table.specs.Sound.{SoundTable};
 ghost use Rattle.table.specs.Beginning.{fresh_table};
 ghost use Rattle.block.specs.Limits.{block_bytes, payload_at, payload_bytes, vector_bytes, cell_bytes, open_bytes};
 ghost use Rattle.image.specs.Encode.{encode};
-ghost use Rattle.image.specs.Decode.{n_in, m_in, count_in, places_in, open_place};
-ghost use Rattle.image.specs.Load.{load};
+ghost use Rattle.image.specs.Decode.{places_in, open_place};
+ghost use Rattle.image.specs.Load.{fault_refusal, fault_place, load};
+ghost use Rattle.machine.specs.Answer.{number_of};
+ghost use Rattle.block.specs.Damage.{Undamaged};
 ghost use Rattle.load.specs.Mirror.ImageRead.{word_at, words_from, bytes_from, cell_from, open_from, desk_from, desk_for, cell_for, Fits, SizesOf, CellsRead};
 ghost use Rattle.load.specs.Link.EntryEach.{OpensRead};
 ghost use Rattle.load.specs.Link.ReadsBack.{ReadAs};
-ghost use Rattle.load.specs.Loading.{Answers};
-ghost use Rattle.load.specs.Finding.{finding_of, finding_numbers};
+ghost use Rattle.load.specs.Loading.{fault_of, Answers, AnswersInto};
+ghost use Rattle.load.specs.Finding.{or_zero, finding_of, finding_numbers};
 
 use block::{BLOCK, PAYLOAD_AT, VECTOR_AT};
 use clock::{Clock, PLACES};
 use image::{APPLIED_AT, CELLS_AT, COUNT_AT, DESKS_AT};
 use std::array;
-use table::{CELL, CELLS, Cell, Cells, Core, Desk, Found, OPEN, OPENS, Open, Opens, Table};
+use table::{CELL, CELLS, Cell, Cells, Core, Desk, OPEN, OPENS, Open, Opens, Table};
 
 // Fields --
 
@@ -64,7 +66,11 @@ fn read_open(b: &[u8], at: usize, p: usize) -> Open
     requires { (p ≤ places) × (at + open_bytes p ≤ length b.now) }
     ensures { result ≡ open_from p b.now at }
 {
-    let Cell { writer, status, vector } = read_cell(b, at, p);
+    let Cell {
+        writer,
+        status,
+        vector,
+    } = read_cell(b, at, p);
     Open {
         writer,
         status,
@@ -136,7 +142,7 @@ fn field_place(n: usize, k: usize, q: usize, r: usize) -> usize
 
 // What every field's place takes: the places of a vector, the sizes, and the blocks to a desk's cells.
 #[derive(Clone, Copy)]
-struct Sizes {
+struct Layout {
     p: usize,
     n: usize,
     m: usize,
@@ -145,7 +151,7 @@ struct Sizes {
 }
 
 // Row s of the cells, one of the n desks'.
-fn cell_or(b: &[u8], z: Sizes, s: usize) -> Cell
+fn cell_or(b: &[u8], z: Layout, s: usize) -> Cell
     requires { SizesOf b.now z × (s < z.n * desk_cells) }
     ensures { result ≡ cell_for z.p b.now z.n z.m s }
 {
@@ -165,7 +171,7 @@ fn cell_or(b: &[u8], z: Sizes, s: usize) -> Cell
 }
 
 // Into zeros: the rows past the n desks' stay.
-fn read_cells(b: &[u8], z: Sizes, cells: &mut Cells)
+fn read_cells(b: &[u8], z: Layout, cells: &mut Cells)
     requires { SizesOf b.now z × (cells.old ≡ (fresh_table 0 0).cells) }
     ensures { CellsRead z.p b.now z.n z.m cells.new }
 {
@@ -175,7 +181,7 @@ fn read_cells(b: &[u8], z: Sizes, cells: &mut Cells)
 }
 
 // Open write j of the image.
-fn open_of(b: &[u8], z: Sizes, j: usize) -> Open
+fn open_of(b: &[u8], z: Layout, j: usize) -> Open
     requires { SizesOf b.now z × (j < z.count) }
     ensures { result ≡ open_from z.p b.now (open_place z.p z.n z.m j) }
 {
@@ -194,13 +200,13 @@ fn number_of(o: Open) -> u16 {
 }
 
 // Each goes into the entry where a search for it begins, or a free one behind that (any free one would do).
-fn read_opens(b: &[u8], z: Sizes, opens: &mut Opens)
+fn read_opens(b: &[u8], z: Layout, opens: &mut Opens)
     requires { SizesOf b.now z × (opens.old ≡ (fresh_table 0 0).opens) }
     ensures { OpensRead z.p b.now z.n z.m z.count opens.new }
 {
     for j in 0..z.count {
         let o = open_of(b, z, j);
-        let Found::At(e) = table::find_free(opens, usize::from(o.writer), number_of(o)) else {
+        let Some(e) = table::find_free(opens, usize::from(o.writer), number_of(o)) else {
             return;
         };
         table::put_open(opens, e, o);
@@ -208,14 +214,14 @@ fn read_opens(b: &[u8], z: Sizes, opens: &mut Opens)
 }
 
 // The sizes that an image tells of itself.
-fn sizes_of(b: &[u8]) -> Sizes
+fn layout_of(b: &[u8]) -> Layout
     requires { Fits (places_in b.now) b.now }
     ensures { SizesOf b.now result }
 {
     let n = usize::from(b[DESKS_AT]);
     let m = usize::from(b[CELLS_AT]);
     let p = block::places_for(n);
-    Sizes {
+    Layout {
         p,
         n,
         m,
@@ -229,7 +235,7 @@ fn read_table(b: &[u8], cells: &mut Cells, opens: &mut Opens) -> Core
     requires { Fits (places_in b.now) b.now × ((cells.old ≡ (fresh_table 0 0).cells) × (opens.old ≡ (fresh_table 0 0).opens)) }
     ensures { ReadAs (places_in b.now) b.now (table_with result cells.new opens.new) }
 {
-    let z = sizes_of(b);
+    let z = layout_of(b);
     let desks = read_desks(b, z.p, z.n);
     read_cells(b, z, cells);
     read_opens(b, z, opens);
@@ -247,141 +253,105 @@ fn saved_as(core: Core, cells: &Cells, opens: &Opens, b: &[u8]) -> bool
     rules::keeps_rules(core, cells, opens) && image::is_image(core, cells, opens, b)
 }
 
-// What load answers: a table, or nothing but zeros and a refusal: 15 (WrongLength), 12 (Damaged) with the place of the first block whose check is wrong,
-// or 13 (Broken) with that of the first block that cannot stand where it is, or the block count.
-#[derive(Drop)]
-pub enum Outcome {
-    Accepted,
+// Why an image is refused: 15, 12 with the place of the first block whose check is wrong, or 13 with that of the first block that cannot stand where it
+// is, or the block count.
+#[derive(Clone, Copy, Debug, PartialEq, Eq)]
+pub enum Fault {
     WrongLength,
     Damaged(usize),
     Broken(usize),
 }
 
-// The same where the arrays are lent.
-#[derive(Drop)]
-pub struct Taken {
-    pub answer: Outcome,
-    pub core: Core,
-}
-
-#[derive(Drop)]
-pub struct Loading {
-    pub answer: Outcome,
-    pub table: Table,
-}
-
-fn refused(o: Outcome) -> Taken
-    ensures { (result.answer ≡ o) × (result.core ≡ (fresh_table 0 0).core) }
-{
-    let core = table::fresh_core(0, 0);
-    Taken {
-        answer: o,
-        core: core,
+impl Fault {
+    // The number of the refusal.
+    pub fn number(self) -> u8
+        ensures { result ≡ number_of (fault_refusal (fault_of self)) }
+    {
+        match self {
+            Fault::WrongLength => 15,
+            Fault::Damaged(_) => 12,
+            Fault::Broken(_) => 13,
+        }
     }
+
+    // Its place, and 0 where there is none.
+    pub fn place(self) -> usize
+        ensures { result ≡ or_zero (fault_place (fault_of self)) }
+    {
+        match self {
+            Fault::WrongLength => 0,
+            Fault::Damaged(k) | Fault::Broken(k) => k,
+        }
+    }
+}
+
+// The length, and then the checks.
+fn undamaged(b: &[u8]) -> Result<(), Fault>
+    ensures { MatchResult result (λ _. Undamaged b.now) (λ f. Answers b.now (Err f)) }
+{
+    if !block::whole_blocks(b) {
+        return Err(Fault::WrongLength);
+    }
+    let wrong = block::first_not(b, |x, _| block::right(x));
+    if wrong < b.len() / BLOCK {
+        return Err(Fault::Damaged(wrong));
+    }
+    Ok(())
 }
 
 // The length, then the checks, then where each block stands; then the fields are read, the rules tested, and the image of what was read compared. The arrays come as zeros,
 // and a refusal leaves them so.
-pub fn load_into(b: &[u8], cells: &mut Cells, opens: &mut Opens) -> Taken
+pub fn load_into(b: &[u8], cells: &mut Cells, opens: &mut Opens) -> Result<Core, Fault>
     requires { (cells.old ≡ (fresh_table 0 0).cells) × (opens.old ≡ (fresh_table 0 0).opens) }
-    ensures { Answers b.now result.answer (table_with result.core cells.new opens.new) }
+    ensures { AnswersInto b.now result cells.new opens.new }
 {
-    if !block::whole_blocks(b) {
-        return refused(Outcome::WrongLength);
-    }
-    let count = b.len() / BLOCK;
-    let wrong = block::first_not(b, |x, _| block::right(x));
-    if wrong < count {
-        return refused(Outcome::Damaged(wrong));
-    }
+    undamaged(b)?;
     let misplaced = block::first_not(b, block::stands);
-    if misplaced < count {
-        return refused(Outcome::Broken(misplaced));
+    if misplaced < b.len() / BLOCK {
+        return Err(Fault::Broken(misplaced));
     }
     if !sizes_fit(b) {
-        return refused(Outcome::Broken(misplaced));
+        return Err(Fault::Broken(misplaced));
     }
     let core = read_table(b, cells, opens);
     if saved_as(core, cells, opens, b) {
-        return Taken {
-            answer: Outcome::Accepted,
-            core: core,
-        };
+        return Ok(core);
     }
     // Zeros again, after what was no table.
     cells.fill(0);
     opens.fill(0);
-    refused(Outcome::Broken(misplaced))
+    Err(Fault::Broken(misplaced))
 }
 
 // The same with the table by value.
-pub fn load(b: &[u8]) -> Loading
-    ensures { Answers b.now result.answer result.table }
+pub fn load(b: &[u8]) -> Result<Table, Fault>
+    ensures { Answers b.now result }
 {
     let mut cells = [0u16; PLACES * CELLS * CELL];
     let mut opens = [0u16; OPENS * OPEN];
-    let l = load_into(b, &mut cells, &mut opens);
-    let answer = l.answer;
-    let core = l.core;
-    let table = Table {
-        core: core,
-        cells: cells,
-        opens: opens,
-    };
-    Loading {
-        answer: answer,
-        table: table,
-    }
+    let core = load_into(b, &mut cells, &mut opens)?;
+    Ok(Table { core, cells, opens })
 }
 
-// What there is to tell of an image: the number and place of its refusal (0 where there is none), and the sizes of its table (0 where it is refused).
-#[derive(Drop)]
-pub struct Finding {
-    pub number: usize,
-    pub place: usize,
+// The sizes of a table: desks, cells, open writes.
+#[derive(Clone, Copy, Debug, PartialEq, Eq)]
+pub struct Sizes {
     pub n: usize,
     pub m: usize,
     pub open: usize,
 }
 
-fn fault(number: usize, place: usize) -> Finding
-    ensures { finding_numbers result ≡ number ∷ place ∷ 0 ∷ 0 ∷ 0 ∷ [] }
-{
-    Finding {
-        number: number,
-        place: place,
-        n: 0,
-        m: 0,
-        open: 0,
-    }
-}
-
-// The sizes that an image tells of itself: those of its table.
-fn found(b: &[u8]) -> Finding
-    requires { Fits (places_in b.now) b.now }
-    ensures { finding_numbers result ≡ 0 ∷ 0 ∷ n_in b.now ∷ m_in b.now ∷ count_in b.now ∷ [] }
-{
-    let z = sizes_of(b);
-    Finding {
-        number: 0,
-        place: 0,
-        n: z.n,
-        m: z.m,
-        open: z.count,
-    }
-}
-
-pub fn inspect(b: &[u8]) -> Finding
+// What there is to tell of an image: the sizes of its table, or why it is refused.
+pub fn inspect(b: &[u8]) -> Result<Sizes, Fault>
     ensures { finding_numbers result ≡ finding_of (load b.now) }
 {
     let mut cells = [0u16; PLACES * CELLS * CELL];
     let mut opens = [0u16; OPENS * OPEN];
-    let l = load_into(b, &mut cells, &mut opens);
-    let o = l.answer;
-    match o {
-        Outcome::WrongLength => fault(15, 0),
-        Outcome::Damaged(k) => fault(12, k),
-        Outcome::Broken(k) => fault(13, k),
-        Outcome::Accepted => found(b),
-    }
+    load_into(b, &mut cells, &mut opens)?;
+    let z = layout_of(b);
+    Ok(Sizes {
+        n: z.n,
+        m: z.m,
+        open: z.count,
+    })
 }

@@ -1,6 +1,7 @@
 -- What a step on a desk by value and the two lent arrays must do: the machine's step.
 use Rattle.std.specs.Prelude.{◌≡◌, ◌-◌, ◌*◌}
-use Rattle.laws.specs.{Kit.{List, [], ℕ, length, get_or, set, set-get_or}, Loop.{pick, cases}}
+use Rattle.reply.specs.{declared.Name.{Name}, Unique.{name_for}}
+use Rattle.laws.specs.{Kit.{List, [], map, ℕ, length, get_or, set, set-get_or}, Loop.{pick, cases}}
 use Rattle.clock.specs.Vectors.{places, place}
 use Rattle.machine.specs.Answer as machine
 use Rattle.machine.specs.{Steps.{Step, within, step}, Rules.{In}, Within.{says-within}}
@@ -31,13 +32,13 @@ put_back n ds i d e =
     (λ a. rw (a, ← e ((says-within n i).to a)) (set-get_or ds (i - 1) desk0))
     (λ a. rw a)
 
--- the numbers that the answer's names take in the array beside it
-abbrev pub names_beside : machine.Answer → List ℕ
+-- the answer's names, as they stand in the array beside it
+abbrev pub names_beside : machine.Answer → List Name
 names_beside machine.began = []
 names_beside (machine.shows v) = []
 names_beside (machine.wrote w) = []
 names_beside (machine.holds w) = []
-names_beside (machine.applies l) = machine.name_values l
+names_beside (machine.applies l) = map name_for l
 names_beside (machine.judged v) = []
 names_beside (machine.refused r) = []
 

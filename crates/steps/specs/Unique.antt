@@ -6,7 +6,7 @@ use Rattle.laws.specs.{Kit.{get_or-set_other}, Loop.{cases}, Says.{apart}, Updat
 use Rattle.machine.specs.Answer as machine
 use Rattle.machine.specs.{Table.{State}, Rules.{In}, Steps.{Step, Read, Write, Deliver, Trip, within, step}, Paper.{actor}}
 use Rattle.machine.proofs.Refusals.{says-within, refusal-exactly, step_cases}
-use Rattle.reply.specs.{declared.Answer.{Answer}, declared.Answer.TheVariants.{Refused}, declared.Refusal.{Refusal}}
+use Rattle.reply.specs.{declared.Name.{Name}, declared.Answer.{Answer}, declared.Answer.TheVariants.{Refused}, declared.Refusal.{Refusal}}
 use Rattle.reply.specs.{Meaning.{answer_of, refusal_of, Counted}, Unique.{answer_is, Silent, silent_counted}}
 use Rattle.table.specs.{declared.Core.{Core}, declared.Desk.{Desk}, declared.Table.{Table}, Value.{desk0, all_cells, cell_width, entries}}
 use Rattle.table.specs.{Value.{open_width}, TypeShape.{DeskShape, DesksShape, Shaped}, Model.{model_of, table_of}, Unique.{StandsIn}}
@@ -93,7 +93,7 @@ module _ {whole : Table} {own : List ℕ} {i : ℕ} {d : Desk} (p : Placed whole
   one-entries r e = f.refused_opens r e ∙ sym (g.refused_opens r (g.answer_is ∙ sym f.answer_is ∙ e))
 
 -- the code's answer is the one that stands for the machine's
-turn_is : {r r' : Turn} (names names' : List ℕ) {x : machine.Answer} → r.desk ≡ r'.desk → Counted r.answer → Counted r'.answer
+turn_is : {r r' : Turn} (names names' : List Name) {x : machine.Answer} → r.desk ≡ r'.desk → Counted r.answer → Counted r'.answer
     → answer_of r.answer names ≡ x → answer_of r'.answer names' ≡ x → r ≡ r'
 turn_is {r} {r'} names names' e c c' f g =
     let a : r.answer ≡ r'.answer = answer_is r.answer names c f ∙ sym (answer_is r'.answer names' c' g) in
@@ -126,7 +126,7 @@ pub record OneOutcome (r r' : Turn) (cs cs' os os' : List ℕ) : Type 0 where
   pub refused : (x : Refusal) → r.answer ≡ Refused x → os ≡ os'
 
 one-outcome : {t : Table} {own : List ℕ} {i : ℕ} {d : Desk} (p : Placed t own i d) {a : Step}
-    (who : actor a ≡ i) {r r' : Turn} {cs' cs'' os' os'' : List ℕ} (names names' : List ℕ)
+    (who : actor a ≡ i) {r r' : Turn} {cs' cs'' os' os'' : List ℕ} (names names' : List Name)
     → LeftShape r.desk cs' os' → LeftShape r'.desk cs'' os'' → Counted r.answer → Counted r'.answer
     → Stepped t i d a r.desk cs' os' (answer_of r.answer names) → Stepped t i d a r'.desk cs'' os'' (answer_of r'.answer names')
     → OneOutcome r r' cs' cs'' os' os''
@@ -148,11 +148,11 @@ one-write {n} {m} {cs} {os} {i} {d} {x} {v} {r} {r'} w hf hg f g =
     (silent_counted r'.answer [] q b.answer_is) a b
 
 -- and the names beside the answer
-pub record OneDelivery (r r' : Turn) (cs cs' os os' names names' : List ℕ) : Type 0 where
+pub record OneDelivery (r r' : Turn) (cs cs' os os' : List ℕ) (names names' : List Name) : Type 0 where
   pub outcome : OneOutcome r r' cs cs' os os'
   pub beside : names ≡ names'
 
-pub one_deliver : {n : ℕ} {d : Desk} {own cs os names : List ℕ} {i u k : ℕ} {r r' : Turn} {cs' cs'' os' os'' names' names'' : List ℕ} → Part n d own cs os i
+pub one_deliver : {n : ℕ} {d : Desk} {own cs os : List ℕ} {names : List Name} {i u k : ℕ} {r r' : Turn} {cs' cs'' os' os'' : List ℕ} {names' names'' : List Name} → Part n d own cs os i
     → LeftShape r.desk cs' os' → LeftShape r'.desk cs'' os''
     → Delivers n d own cs os names i u k r cs' os' names' → Delivers n d own cs os names i u k r' cs'' os'' names'' → OneDelivery r r' cs' cs'' os' os'' names' names''
 one_deliver {names' = names'} {names'' = names''} w hf hg f g =

@@ -1,20 +1,19 @@
 // Deliver: a write is held or applied, and then every held write that becomes ready.
-ghost use Rattle.std.specs.Prelude.{◌≡◌, false, ◌<◌, ◌≤◌};
-ghost use Rattle.clock.specs.Vectors.{places, place};
-ghost use Rattle.clock.specs.Readiness.{ready_at};
+ghost use Rattle.std.specs.Prelude.{◌<◌, ◌≤◌};
+ghost use Rattle.clock.specs.Vectors.{places};
 ghost use Rattle.machine.specs.Rules.{In};
 ghost use Rattle.table.specs.Value.{desk_cells, entries, open_at};
 ghost use Rattle.table.specs.Link.OpensModel.{Unique};
-ghost use Rattle.steps.specs.Link.Cascade.{AppliedAt, DueSays, NamePut, CascadeStarts, CascadeDoes};
-ghost use Rattle.steps.specs.Link.DeliverReceive.{Arriving, ReceivedAs, Waits};
+ghost use Rattle.steps.specs.Link.Cascade.{AppliedAt, DueSays, CascadeStarts, CascadeDoes};
+ghost use Rattle.steps.specs.Link.DeliverReceive.{Arriving, ReceivedAs};
 ghost use Rattle.steps.specs.Mirror.Look.{turn_of};
 ghost use Rattle.steps.specs.Link.Deliver.{Part, Delivers, Tested};
 
 use crate::Turn;
 use crate::common::{answered, need};
-use clock::{PLACES, Wait};
-use reply::{Answer, NAMES, Refusal};
-use table::{Cell, Cells, DONE, Desk, Found, HELD, Open, Opens};
+use clock::PLACES;
+use reply::{APPLIED, Answer, Name, Refusal};
+use table::{Cell, Cells, DONE, Desk, HELD, Open, Opens};
 
 // The counts after a cascade, and how many names it listed.
 #[derive(Drop)]
@@ -56,49 +55,39 @@ fn due_of(a: [u16; PLACES], own: [u16; PLACES], opens: &Opens, i: usize, u: usiz
     if own[u - 1] <= k {
         return None;
     }
-    let Found::At(e) = table::find(opens, u, k + 1) else {
-        return None;
-    };
+    let e = table::find(opens, u, k + 1)?;
     if table::mark_at(opens, e, i - 1) != HELD {
         return None;
     }
     clock::ready(a, table::vector_at(opens, e), u).then_some(e)
 }
 
-// Name j of the answer.
-fn put_name(names: &mut [u16; NAMES], j: usize, u: u16, k: u16)
-    requires { j < entries }
-    ensures { NamePut names.old j u k names.new }
-{
-    names[2 * j] = u;
-    names[2 * j + 1] = k;
-}
-
-// Entry e, a ready write of desk u, applied at desk i where the counts are c, and then every held write that becomes ready,
+// An entry, a ready write of a writer, applied at desk i where the counts are these, and then every held write that becomes ready,
 // smallest writer first.
+// Kept: the loop is labelled and its search yields the entry by break, as the project has every cascade.
 fn cascade(
     n: usize,
-    c: [u16; PLACES],
+    mut counts: [u16; PLACES],
     own: [u16; PLACES],
     cells: &mut Cells,
     opens: &mut Opens,
-    names: &mut [u16; NAMES],
+    names: &mut [Name; APPLIED],
     i: usize,
-    u: usize,
-    e: usize,
+    mut writer: usize,
+    mut entry: usize,
 ) -> Applied
-    requires { CascadeStarts n i u e c own cells.old opens.old }
-    ensures { CascadeDoes n i u e c own cells.old opens.old names.old result.counts result.len cells.new opens.new names.new }
+    requires { CascadeStarts n i writer entry counts own cells.old opens.old }
+    ensures { CascadeDoes n i writer entry counts own cells.old opens.old names.old result.counts result.len cells.new opens.new names.new }
 {
-    let mut counts = c;
-    let mut writer = u;
-    let mut entry = e;
     let mut len = 0;
     'apply: loop {
         apply_at(cells, opens, n, i, entry);
-        let k = counts[writer - 1] + 1;
-        counts[writer - 1] = k;
-        put_name(names, len, writer as u16, k);
+        let number = counts[writer - 1] + 1;
+        counts[writer - 1] = number;
+        names[len] = Name {
+            writer: writer as u16,
+            number,
+        };
         len += 1;
         let found = 'search: {
             for t in 1..=n {
@@ -108,24 +97,12 @@ fn cascade(
             }
             None
         };
-        let Some((t, x)) = found else {
+        let Some(due) = found else {
             break 'apply;
         };
-        writer = t;
-        entry = x;
+        (writer, entry) = due;
     }
     Applied { counts, len }
-}
-
-// The answer to a write that is not ready, and not applied: what it waits for.
-fn waits_for(a: [u16; PLACES], v: [u16; PLACES], u: usize) -> Answer
-    requires { (ready_at a v u ≡ false) × (place a u < place v u) }
-    ensures { Waits a v u result }
-{
-    match clock::readiness(a, v, u) {
-        Wait::Fails(t, j) => Answer::Held(t as u16, j as u16),
-        Wait::Ready => Answer::Held(0, 0),
-    }
 }
 
 // Entry e, a write of desk u that desk i has not received: held or applied.
@@ -135,7 +112,7 @@ fn receive(
     own: [u16; PLACES],
     cells: &mut Cells,
     opens: &mut Opens,
-    names: &mut [u16; NAMES],
+    names: &mut [Name; APPLIED],
     i: usize,
     u: usize,
     e: usize,
@@ -144,20 +121,27 @@ fn receive(
     ensures { ReceivedAs n i u e d own cells.old opens.old names.old result cells.new opens.new names.new }
 {
     let v = table::vector_at(opens, e);
-    if clock::ready(d.applied, v, u) {
-        let Applied { counts, len } = cascade(n, d.applied, own, cells, opens, names, i, u, e);
+    // (That it is ready is told sooner than that nothing is missing.)
+    if !clock::ready(d.applied, v, u)
+        && let Some(missing) = clock::readiness(d.applied, v, u)
+    {
+        table::put_mark(opens, e, i - 1, HELD);
+        let name = Name {
+            writer: missing.desk as u16,
+            number: missing.number as u16,
+        };
         return Turn {
-            desk: Desk {
-                applied: counts,
-                ..d
-            },
-            answer: Answer::Applied(len),
+            desk: d,
+            answer: Answer::Held(name),
         };
     }
-    table::put_mark(opens, e, i - 1, HELD);
+    let Applied { counts, len } = cascade(n, d.applied, own, cells, opens, names, i, u, e);
     Turn {
-        desk: d,
-        answer: waits_for(d.applied, v, u),
+        desk: Desk {
+            applied: counts,
+            ..d
+        },
+        answer: Answer::Applied(len),
     }
 }
 
@@ -185,7 +169,7 @@ fn deliver(
     own: [u16; PLACES],
     cells: &mut Cells,
     opens: &mut Opens,
-    names: &mut [u16; NAMES],
+    names: &mut [Name; APPLIED],
     i: usize,
     u: usize,
     k: usize,
@@ -194,9 +178,7 @@ fn deliver(
     ensures { Delivers n d own cells.old opens.old names.old i u k (turn_of d result) cells.new opens.new names.new }
 {
     tests(n, d.applied, own, i, u, k)?;
-    let Found::At(e) = table::find(opens, u, k as u16) else {
-        return Err(Refusal::Received);
-    };
+    let e = table::find(opens, u, k as u16).ok_or(Refusal::Received)?;
     need(table::mark_at(opens, e, i - 1) == 0, Refusal::Received)?;
     Ok(receive(n, d, own, cells, opens, names, i, u, e))
 }
@@ -208,7 +190,7 @@ pub fn deliver_at(
     own: [u16; PLACES],
     cells: &mut Cells,
     opens: &mut Opens,
-    names: &mut [u16; NAMES],
+    names: &mut [Name; APPLIED],
     i: usize,
     u: usize,
     k: usize,

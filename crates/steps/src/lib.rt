@@ -1,4 +1,5 @@
 // The four steps.
+// Kept: what a step is lent goes one by one. In a struct that holds the `&mut`, each contract would have to say that each of them stays.
 #![tactic(auto)]
 
 use reply::Answer;

@@ -12,7 +12,7 @@ ghost use Rattle.steps.specs.Mirror.Trip.{seen_nothing, see_cell, see_all, verdi
 use crate::Turn;
 use crate::common::{answered, need};
 use clock::Clock;
-use reply::{Answer, Refusal};
+use reply::{Answer, Name, Refusal};
 use table::{Cell, Cells, Desk};
 
 // The most cells of a trip.
@@ -24,11 +24,11 @@ fn shown(c: Cell) -> Answer
     if c.writer == 0 {
         return Answer::Unset;
     }
-    Answer::Shown(
-        c.status,
-        c.writer,
-        table::at_place(c.vector, usize::from(c.writer)),
-    )
+    let name = Name {
+        writer: c.writer,
+        number: table::at_place(c.vector, usize::from(c.writer)),
+    };
+    Answer::Shown(c.status, name)
 }
 
 fn with_clock(d: Desk, clock: Clock, answer: Answer) -> Turn

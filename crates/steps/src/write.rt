@@ -11,8 +11,8 @@ ghost use Rattle.steps.specs.Mirror.Write.{new_marks, Spotted, SpotIn, enter_at,
 use crate::Turn;
 use crate::common::{answered, need};
 use clock::{MOST_WRITES, PLACES};
-use reply::{Answer, Refusal};
-use table::{Cell, Cells, DONE, Desk, Found, MOST_STATUS, Open, Opens};
+use reply::{Answer, Name, Refusal};
+use table::{Cell, Cells, DONE, Desk, MOST_STATUS, Open, Opens};
 
 // The entry for write k of desk i; none where there is no other desk to hold it for.
 fn spot_for(n: usize, opens: &Opens, i: usize, k: u16) -> Result<Option<usize>, Refusal>
@@ -21,10 +21,7 @@ fn spot_for(n: usize, opens: &Opens, i: usize, k: u16) -> Result<Option<usize>, 
     if n == 1 {
         return Ok(None);
     }
-    match table::find_free(opens, i, k) {
-        Found::At(e) => Ok(Some(e)),
-        Found::Nothing => Err(Refusal::Full),
-    }
+    table::find_free(opens, i, k).map(Some).ok_or(Refusal::Full)
 }
 
 // Not received anywhere, and applied at its writer.
@@ -62,8 +59,8 @@ fn written(
 {
     let writer = i as u16;
     let mut applied = d.applied;
-    let k = applied[i - 1] + 1;
-    applied[i - 1] = k;
+    let number = applied[i - 1] + 1;
+    applied[i - 1] = number;
     let clock = d.clock.raise(i);
     let vector = clock.at;
     let cell = Cell {
@@ -82,7 +79,7 @@ fn written(
     enter(opens, spot, open);
     Turn {
         desk: Desk { applied, clock },
-        answer: Answer::Wrote(writer, k),
+        answer: Answer::Wrote(Name { writer, number }),
     }
 }
 

@@ -155,10 +155,9 @@ pub fn all_applied(opens: &Opens, e: usize, n: usize) -> bool
 pub fn at_place(v: [u16; PLACES], u: usize) -> u16
     ensures { result ≡ place v u }
 {
-    if (1..=PLACES).contains(&u) {
-        v[u - 1]
-    } else {
-        0
+    match u {
+        1..=PLACES => v[u - 1],
+        _ => 0,
     }
 }
 

@@ -4,5 +4,5 @@ use Rattle.laws.specs.Kit.{length}
 use Rattle.answer.specs.Link.NameLengths.{names_left}
 use Rattle.answer.proofs.names_length.Given as goal
 
-abbrev pub invariant-loop-j : goal.invariant-loop-j
-invariant-loop-j l = (l.sum ≤ 12 * l.j) × (l.sum + length (names_left l.j-end l.names l.j) ≡ length (names_left l.j-end l.names 0))
+abbrev pub invariant-loop-w : goal.invariant-loop-w
+invariant-loop-w l = (l.sum ≤ 12 * l.w-index) × (l.sum + length (names_left (length l.w-items) l.w-items l.w-index) ≡ length (names_left (length l.w-items) l.w-items 0))

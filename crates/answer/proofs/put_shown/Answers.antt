@@ -4,4 +4,4 @@ use Rattle.answer.proofs.put_shown.Goals as goal
 
 pub returns : goal.returns
 returns c = let a = c.args in left-last c.put_name.ensures
-    (left_put (stored_one refl) (left_put c.put_field-p.ensures (left-from (shown_parts a.v a.u a.k))))
+    (left_put (stored_one refl) (left_put c.put_field-p.ensures (left-from (shown_parts a.v a.w.writer a.w.number))))

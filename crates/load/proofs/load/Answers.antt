@@ -2,6 +2,6 @@ use Rattle.table.specs.Beginning.{fresh_table}
 use Rattle.laws.specs.Kit.{refl}
 use Rattle.load.proofs.load.Goals as goal
 
-pub load_into-l-requires : goal.load_into-l-requires
+pub load_into-requires : goal.load_into-requires
 unfolding fresh_table
-load_into-l-requires c = (refl, refl)
+load_into-requires c = (refl, refl)

@@ -20,6 +20,6 @@ pub loop-j-preserved : goal.loop-j-preserved
 loop-j-preserved c =
     let L = c.loop-j in
     let A = c.args in
-    let e = c.in-At.e in
-    let f = found_at (free_at L.opens) c.find_free.result e c.find_free.ensures c.in-At.is in
+    let e = c.in-Some.e in
+    let f = found_at (free_at L.opens) c.find_free.result e c.find_free.ensures c.in-Some.is in
     λ w. spread_more A.z.p A.b.now A.z.n A.z.m L.j L.opens w (L.invariant (λ q h. w q (omega arith))) e _ _ f.0 f.1 c.put_open.ensures c.open_of-o.ensures

@@ -3,7 +3,7 @@ use Rattle.load.proofs.read_table.Goals as goal
 
 pub returns : goal.returns
 returns c =
-    let S = c.sizes_of-z.ensures in
+    let S = c.layout_of-z.ensures in
     record {
       n_is = S.n_is;
       m_is = S.m_is;

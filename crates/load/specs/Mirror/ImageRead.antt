@@ -8,7 +8,7 @@ use Rattle.laws.specs.{Cat.{part}, Rows.{numbers_from, length_part, part_at}}
 use Rattle.table.specs.{Beginning.{zeros-at}, declared.Cell.{Cell}, declared.Desk.{Desk}, declared.Open.{Open}, Value.{desk_cells}}
 use Rattle.table.specs.{Value.{all_cells, cell_at, cell_at_put, cell_at-other, cell_of, cell_width, entries, CellPut}, Model.{cell_m, open_m}}
 use Rattle.clock.specs.Vectors.{places, place, clock_of}
-use Rattle.load.specs.declared.Sizes.{Sizes}
+use Rattle.load.specs.declared.Layout.{Layout}
 use Rattle.block.specs.{Link.BlockFill.{drop-replicate}, Limits.{Wide, wide, fit, some-cells, some-opens, block_of_lem, few_for, block_bytes}}
 use Rattle.block.specs.Limits.{payload_at, payload_bytes, vector_at, vector_bytes, after_vector, cell_bytes, open_bytes, cells_in, opens_in}
 use Rattle.block.specs.Limits.{blocks_for}
@@ -255,7 +255,7 @@ module _ (ps : ℕ) where
       rw (place-words b (p + vector_at), place-bytes b (p + after_vector ps), get_d_part b p (open_bytes ps) 1 (omega arith), get_d_part b p (open_bytes ps) 2 (omega arith), part_of_part b p vector_at (vector_bytes ps) (open_bytes ps) (omega arith), part_of_part b p (after_vector ps) ps (open_bytes ps) (omega arith))
 
 -- the sizes that the code goes by are those of the image
-pub record SizesOf (b : List ℕ) (z : Sizes) : Type 0 where
+pub record SizesOf (b : List ℕ) (z : Layout) : Type 0 where
   pub p_is : z.p ≡ places_in b
   pub most : z.p ≤ places
   pub fits : Fits z.p b

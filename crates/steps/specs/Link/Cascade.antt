@@ -2,19 +2,20 @@
 use Rattle.std.specs.Prelude.{◌+◌, ◌-◌, ◌*◌, ◌<◌, ◌≤◌, ◌≡◌, ◌∷◌, ◌++◌, ◌&&◌}
 use Rattle.std.specs.Prelude as std
 use Rattle.laws.specs.Kit.{ℕ, zero, suc, refl, sym, ap, subst, ◌∙◌, List, [], append_assoc}
-use Rattle.laws.specs.Kit.{append-nil, Bool, true, false, Option, none, some, arith, add-one, lt-ltb, le-ltb, ne_eqb, length, get_or}
+use Rattle.laws.specs.Kit.{append-nil, map, Bool, true, false, Option, none, some, arith, add-one, lt-ltb, le-ltb, ne_eqb, length, length-map, get_or}
 use Rattle.laws.specs.{Kit.{set, length-set, ltb, eqb, sets}, Loop.{pick, cases, scan, scan-same}, Stores.{sets_append}, Update.{upd, upd2}}
 use Rattle.laws.specs.Update.{upd_same, upd_other, upd2-is, same_or}
 use Rattle.clock.specs.{Vectors.{places, place, place_at, raised, place-raised}, Readiness.{ready_at, ready-narrow}}
 use Rattle.machine.specs.Table as machine
-use Rattle.machine.specs.{Table.{Vec, State, most_open, most_writes, done, held, Name, name, written}, Answer.{name_values}, Steps.{ready}}
+use Rattle.machine.specs.{Table.{Vec, State, most_open, most_writes, done, held, Name as MachineName, name, written}, Steps.{ready}}
 use Rattle.machine.specs.Steps.{everywhere, still_open, mark, apply, due_open, due, first_due, Settled, apply_next, settle_by, settle}
 use Rattle.machine.specs.Rules.{In, Flat}
 use Rattle.machine.proofs.Apply.{to_be_open, apply-written}
 use Rattle.machine.proofs.RulesKept.{Midway, ReadyAt, ready-next}
 use Rattle.machine.proofs.RulesKept.{apply_midway, left_to_apply, apply-left, left-few}
 use Rattle.machine.proofs.Ready.{option_all}
-use Rattle.reply.specs.{Meaning.{names_of}, Names.{length-names, names-none, names_more}}
+use Rattle.reply.specs.{declared.Name.{Name}, Meaning.{names_of}, Names.{length-names, names-none, names_more}, Unique.{name_for}}
+use Rattle.std.proofs.lemmas.List.{map-append}
 use Rattle.table.specs.{declared.Cell.{Cell}, declared.Open.{Open}}
 use Rattle.table.specs.Value.{desk_cells, all_cells, cell_width, entries, open_width, cell_at, put_cell, cell_at_put, cell_at-other}
 use Rattle.table.specs.Value.{length-put_cell, FullCell, open_at, put_mark, free_entry, full-open_at, length-put_mark, length-free_entry}
@@ -265,41 +266,33 @@ module _ {b : State} {n i : ℕ} {a own cs os : List ℕ} (r : Running b n i a o
 -- the names so far --
 
 -- name j of the array beside the answer
-pub record NamePut (names : List ℕ) (j u k : ℕ) (names' : List ℕ) : Type 0 where
-  pub is : names' ≡ set (set names (2 * j) u) (2 * j + 1) k
-  pub size : length names ≡ 2 * most_open
-
-values_more : (l : List Name) (u k : ℕ) → name_values (l ++ (name u k ∷ [])) ≡ name_values l ++ (u ∷ k ∷ [])
-values_more [] u k = refl
-values_more (x ∷ l) u k = rw (values_more l u k)
-
-length_values : (l : List Name) → length (name_values l) ≡ 2 * length l
-length_values [] = refl
-length_values (x ∷ l) = omega (arith, length_values l)
+pub record NamePut (names : List Name) (j u k : ℕ) (names' : List Name) : Type 0 where
+  pub is : names' ≡ set names j record { writer = u; number = k }
+  pub size : length names ≡ most_open
 
 -- the array holds the names so far and is else as it came
-abbrev pub NamesSoFar : List ℕ → ℕ → List ℕ → Type 0
-NamesSoFar names₀ j names = names ≡ sets names₀ 0 (name_values (names_of j names))
+abbrev pub NamesSoFar : List Name → ℕ → List Name → Type 0
+NamesSoFar names₀ j names = names ≡ sets names₀ 0 (map name_for (names_of j names))
 
-pub holds-none : (names : List ℕ) → NamesSoFar names 0 names
+pub holds-none : (names : List Name) → NamesSoFar names 0 names
 holds-none names = rw (names-none names)
 
-module _ {names names' : List ℕ} {j u k : ℕ} (h : j < most_open) (p : NamePut names j u k names') where
+module _ {names names' : List Name} {j u k : ℕ} (h : j < most_open) (p : NamePut names j u k names') where
   pub more-names : names_of (j + 1) names' ≡ names_of j names ++ (name u k ∷ [])
-  more-names = rw p.is (names_more names j u k h (omega (arith, p.size)))
+  more-names = rw p.is (names_more names j record { writer = u; number = k } h (omega (arith, p.size)))
 
-  pub holds_more : (names₀ : List ℕ) → NamesSoFar names₀ j names → NamesSoFar names₀ (j + 1) names'
+  pub holds_more : (names₀ : List Name) → NamesSoFar names₀ j names → NamesSoFar names₀ (j + 1) names'
   holds_more names₀ q =
-      let l = name_values (names_of j names) in
-      let z : 0 + length l ≡ 2 * j = omega (arith, length_values (names_of j names), length-names j names (omega arith)) in
-      sym (rw more-names (ap (sets names₀ 0) (values_more (names_of j names) u k)
-      ∙ sets_append l (u ∷ k ∷ []) names₀ 0
-      ∙ rw (z, ← q) (rw (p.is, add-one (2 * j)))))
+      let l = map name_for (names_of j names) in
+      let z : 0 + length l ≡ j = omega (arith, length-map (names_of j names) name_for, length-names j names (omega arith)) in
+      sym (rw more-names (ap (sets names₀ 0) (map-append name_for (names_of j names) (name u k ∷ []))
+      ∙ sets_append l (name_for (name u k) ∷ []) names₀ 0
+      ∙ rw (z, ← q) (rw p.is)))
 
 -- the cascade --
 
 -- the machine's cascade from here on, behind the names so far
-abbrev pub behind : List Name → Settled → Settled
+abbrev pub behind : List MachineName → Settled → Settled
 behind l r = record { names = l ++ r.names; state = r.state }
 
 -- u's next write w is applied, and then all that becomes ready, in at most f turns
@@ -317,7 +310,7 @@ unfolding settle
 settle-some f s i u w e o = rw (e, settle_by, o)
 
 -- what all turns give, whole, is the names so far and what follows here: entry e, a write of u, is applied next
-pub record CascadeGoing (whole : Settled) (b : State) (n i : ℕ) (a own cs os names₀ names : List ℕ) (len u e : ℕ) : Type 0 where
+pub record CascadeGoing (whole : Settled) (b : State) (n i : ℕ) (a own cs os : List ℕ) (names₀ names : List Name) (len u e : ℕ) : Type 0 where
   pub now : Running b n i a own cs os
   pub next : NextReady n a os u e
   pub room : len + left_to_apply (midst b i a cs os) i ≤ most_open
@@ -335,20 +328,20 @@ pub record Safe (n i : ℕ) (a os : List ℕ) (len u e : ℕ) : Type 0 where
   pub size : length a ≡ places
 
 -- the same once it is applied, before the search
-pub record Gone (whole : Settled) (b : State) (n i : ℕ) (a own cs os names₀ names : List ℕ) (len : ℕ) : Type 0 where
+pub record Gone (whole : Settled) (b : State) (n i : ℕ) (a own cs os : List ℕ) (names₀ names : List Name) (len : ℕ) : Type 0 where
   pub now : Running b n i a own cs os
   pub room : len + left_to_apply (midst b i a cs os) i ≤ most_open
   pub holds : NamesSoFar names₀ len names
   pub same : whole ≡ behind (names_of len names) (settle (suc (most_open - len)) (midst b i a cs os) i)
 
 -- the end
-pub record Ended (whole : Settled) (b : State) (n i : ℕ) (a own cs os names₀ names : List ℕ) (len : ℕ) : Type 0 where
+pub record Ended (whole : Settled) (b : State) (n i : ℕ) (a own cs os : List ℕ) (names₀ names : List Name) (len : ℕ) : Type 0 where
   pub now : Running b n i a own cs os
   pub few : len ≤ most_open
   pub holds : NamesSoFar names₀ len names
   pub same : whole ≡ record { names = names_of len names; state = midst b i a cs os }
 
-pub going-starts : {b : State} {n i : ℕ} {a own cs os : List ℕ} {u e : ℕ} (names : List ℕ) → Running b n i a own cs os → NextReady n a os u e
+pub going-starts : {b : State} {n i : ℕ} {a own cs os : List ℕ} {u e : ℕ} (names : List Name) → Running b n i a own cs os → NextReady n a os u e
     → CascadeGoing (from most_open (midst b i a cs os) i u (open_m (open_at os e))) b n i a own cs os names names 0 u e
 going-starts {b} {n} {i} {a} {own} {cs} {os} names r d = record {
   now = r;
@@ -358,7 +351,7 @@ going-starts {b} {n} {i} {a} {own} {cs} {os} names r d = record {
   same = rw (names-none names);
 }
 
-module _ {whole : Settled} {b : State} {n i : ℕ} {a own cs os names₀ names : List ℕ} {len u e : ℕ}
+module _ {whole : Settled} {b : State} {n i : ℕ} {a own cs os : List ℕ} {names₀ names : List Name} {len u e : ℕ}
     (g : CascadeGoing whole b n i a own cs os names₀ names len u e) where
   going-room : len < most_open
   going-room = omega (arith, g.room, apply-left g.now.mid.frame (ready_at_lem g.now g.next))
@@ -388,7 +381,7 @@ module _ {whole : Settled} {b : State} {n i : ℕ} {a own cs os names₀ names :
       }
 
   -- a turn
-  pub going-applied : {cs' os' names' : List ℕ} → AppliedAt n i e cs os cs' os' → NamePut names len u (place a u + 1) names'
+  pub going-applied : {cs' os' : List ℕ} {names' : List Name} → AppliedAt n i e cs os cs' os' → NamePut names len u (place a u + 1) names'
       → Gone whole b n i (raised a u) own cs' os' names₀ names' (len + 1)
   going-applied {cs'} {os'} {names'} t p =
       let is = apply-is g.now g.next t in
@@ -404,13 +397,13 @@ module _ {whole : Settled} {b : State} {n i : ℕ} {a own cs os names₀ names :
       }
 
   -- as the code stores the count
-  pub going-turn : {cs' os' names' : List ℕ} {v : ℕ} → v ≡ u → AppliedAt n i e cs os cs' os' → NamePut names len v (get_or a (u - 1) 0 + 1) names'
+  pub going-turn : {cs' os' : List ℕ} {names' : List Name} {v : ℕ} → v ≡ u → AppliedAt n i e cs os cs' os' → NamePut names len v (get_or a (u - 1) 0 + 1) names'
       → Gone whole b n i (set a (u - 1) (get_or a (u - 1) 0 + 1)) own cs' os' names₀ names' (len + 1)
   going-turn {cs'} {os'} {names'} {v} q t p =
       subst (λ (x : ℕ). NamePut names len u (x + 1) names' → Gone whole b n i (set a (u - 1) (x + 1)) own cs' os' names₀ names' (len + 1))
       (place_at a u going-writer.0) (going-applied t) (rw q at p)
 
-module _ {whole : Settled} {b : State} {n i : ℕ} {a own cs os names₀ names : List ℕ} {len : ℕ}
+module _ {whole : Settled} {b : State} {n i : ℕ} {a own cs os : List ℕ} {names₀ names : List Name} {len : ℕ}
     (g : Gone whole b n i a own cs os names₀ names len) where
   -- nothing is due
   pub gone_ends : scan (due_in a own os i) some none n 1 ≡ none → Ended whole b n i a own cs os names₀ names len
@@ -447,7 +440,7 @@ module _ {whole : Settled} {b : State} {n i : ℕ} {a own cs os names₀ names :
 abbrev pub CascadeStarts : (n i u e : ℕ) (a own cs os : List ℕ) → Type 0
 CascadeStarts n i u e a own cs os = (b : State) × Running b n i a own cs os × NextReady n a os u e
 
-abbrev pub CascadeDoes : (n i u e : ℕ) (a own cs os names a' : List ℕ) (len : ℕ) (cs' os' names' : List ℕ) → Type 0
+abbrev pub CascadeDoes : (n i u e : ℕ) (a own cs os : List ℕ) (names : List Name) (a' : List ℕ) (len : ℕ) (cs' os' : List ℕ) (names' : List Name) → Type 0
 CascadeDoes n i u e a own cs os names a' len cs' os' names' =
     (b : State) → Running b n i a own cs os → NextReady n a os u e
     → Ended (from most_open (midst b i a cs os) i u (open_m (open_at os e))) b n i a' own cs' os' names names' len

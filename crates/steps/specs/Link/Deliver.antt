@@ -10,7 +10,7 @@ use Rattle.machine.specs.{Steps.{Out, Deliver, step}, Rules.{In}, Refusals.{Row,
 use Rattle.machine.proofs.RulesKept.{done-counted}
 use Rattle.machine.proofs.Refusals.{refusal-exactly, accepted-effect, effect_of, deliver_effect}
 use Rattle.machine.specs.Answer as machineAnswer
-use Rattle.reply.specs.{declared.Refusal.{Refusal}, Meaning.{refusal_of, answer_of, Counted}}
+use Rattle.reply.specs.{declared.Name.{Name}, declared.Refusal.{Refusal}, Meaning.{refusal_of, answer_of, Counted}}
 use Rattle.table.specs.{declared.Desk.{Desk}, declared.Table.{Table}, Value.{entries, open_at}, EntryNames.{named_at}, Model.{applied_m}}
 use Rattle.table.specs.{Model.{open_m, cells_m, opens_m, applied_put, clock_keep, model_of, table_of}, Link.OpensModel.{opens_at}}
 use Rattle.steps.specs.declared.Turn.{Turn}
@@ -23,13 +23,13 @@ abbrev pub Part : (n : ℕ) (d : Desk) (own cs os : List ℕ) (i : ℕ) → Type
 Part n d own cs os i = (m : ℕ) × (ds : List Desk) × Placed (table_of n m ds cs os) own i d
 
 -- the machine's delivery, and the names in the array beside the answer: all else in it stays
-pub record Meets (t : Table) (d : Desk) (names : List ℕ) (i u k : ℕ) (r : Turn) (cs' os' names' : List ℕ) : Type 0 where
+pub record Meets (t : Table) (d : Desk) (names : List Name) (i u k : ℕ) (r : Turn) (cs' os' : List ℕ) (names' : List Name) : Type 0 where
   pub stepped : Stepped t i d (Deliver i u k) r.desk cs' os' (answer_of r.answer names')
   pub names_are : names' ≡ sets names 0 (names_beside (step (model_of t) (Deliver i u k)).answer)
   pub counted : Counted r.answer
 
 -- for every table that these are a part of
-abbrev pub Delivers : (n : ℕ) (d : Desk) (own cs os names : List ℕ) (i u k : ℕ) (r : Turn) (cs' os' names' : List ℕ) → Type 0
+abbrev pub Delivers : (n : ℕ) (d : Desk) (own cs os : List ℕ) (names : List Name) (i u k : ℕ) (r : Turn) (cs' os' : List ℕ) (names' : List Name) → Type 0
 Delivers n d own cs os names i u k r cs' os' names' =
     (m : ℕ) (ds : List Desk) → Placed (table_of n m ds cs os) own i d → Meets (table_of n m ds cs os) d names i u k r cs' os' names'
 
@@ -65,7 +65,7 @@ module _ {whole : Table} {own : List ℕ} {i : ℕ} {d : Desk} (p : Placed whole
   few-desks = p.sound.rules.frame.ranges.desks.1
 
   -- a refusal leaves all as it came
-  pub meets_refused : (u k : ℕ) (r : Refusal) (names : List ℕ) → FirstFails (rows_of s (Deliver i u k)) (refusal_of r)
+  pub meets_refused : (u k : ℕ) (r : Refusal) (names : List Name) → FirstFails (rows_of s (Deliver i u k)) (refusal_of r)
       → Meets whole d names i u k (refused_turn d r) cs os names
   meets_refused u k r names f = record {
     stepped = refused-stepped p (Deliver i u k) (refusal_of r) f;
@@ -74,7 +74,7 @@ module _ {whole : Table} {own : List ℕ} {i : ℕ} {d : Desk} (p : Placed whole
   }
 
   -- a refusal handed on by `?`
-  pub meets_refused_on : (u k : ℕ) (r : Refusal) {y : Refusal} (names : List ℕ) (made : Result Turn Refusal) → IsErrAnd made (λ x. x ≡ y) → y ≡ r
+  pub meets_refused_on : (u k : ℕ) (r : Refusal) {y : Refusal} (names : List Name) (made : Result Turn Refusal) → IsErrAnd made (λ x. x ≡ y) → y ≡ r
       → FirstFails (rows_of s (Deliver i u k)) (refusal_of r) → Meets whole d names i u k (turn_of d made) cs os names
   meets_refused_on u k r names made h e f =
       let q = err_from_is_err_and made h in
@@ -163,7 +163,7 @@ module _ {whole : Table} {own : List ℕ} {i : ℕ} {d : Desk} (p : Placed whole
             is_away = q;
           }
 
-          pub meets_received : {r : Turn} {names cs' os' names' : List ℕ} → ReceivesAs s n i u k e d cs os names r cs' os' names'
+          pub meets_received : {r : Turn} {names : List Name} {cs' os' : List ℕ} {names' : List Name} → ReceivesAs s n i u k e d cs os names r cs' os' names'
               → Meets whole d names i u k r cs' os' names'
           meets_received {r} {names} {cs'} {os'} x =
               let w = open_m (open_at os e) in

@@ -1,16 +1,15 @@
 -- A write is received: held or applied, on the values as in the machine.
 use Rattle.std.specs.Prelude.{◌-◌, ◌<◌, ◌≡◌}
-use Rattle.laws.specs.{Kit.{ℕ, suc, refl, sym, ap, subst, ◌∙◌, List, true, Option, some, arith, sets}, Update.{upd_same}}
+use Rattle.laws.specs.{Kit.{ℕ, suc, refl, sym, ap, subst, ◌∙◌, List, map, true, Option, some, arith, sets}, Update.{upd_same}}
 use Rattle.clock.specs.{Vectors.{places, place}, Readiness.{ready_at, failing-narrow}}
 use Rattle.machine.specs.Table as machine
-use Rattle.machine.specs.{Table.{State, Name, most_open, away, held}, Answer.{holds, applies}, Steps.{Out, Settled, failing, hold}}
+use Rattle.machine.specs.{Table.{State, Name as MachineName, most_open, away, held}, Answer.{applies}, Steps.{Out, Settled, failing, hold}}
 use Rattle.machine.specs.Steps.{deliver_by, with_opens}
 use Rattle.machine.specs.Rules.{In}
 use Rattle.machine.proofs.Ready.{is-none, not-applied}
 use Rattle.machine.proofs.RulesKept.{ReadyAt, ready-next}
 use Rattle.machine.proofs.Apply.{to_be_open}
-use Rattle.machine.specs.Answer as machineAnswer
-use Rattle.reply.specs.{declared.Answer.{Answer}, declared.Answer.TheVariants.{Held, Applied}, Meaning.{answer_of, Counted}}
+use Rattle.reply.specs.{declared.Name.{Name}, Unique.{name_for}, declared.Answer.{Answer}, declared.Answer.TheVariants.{Held, Applied}, Meaning.{answer_of, Counted}}
 use Rattle.table.specs.{declared.Desk.{Desk}, Value.{all_cells, cell_at, entries, open_at, put_mark}, EntryNames.{named_at}}
 use Rattle.table.specs.{Model.{open_m, opens_m}, Link.OpensModel.{Unique, opens_at, opens-mark, unique-mark}, Sound.{AllZero}}
 use Rattle.steps.specs.{declared.Turn.{Turn}, Stepped.{names_beside}, Link.Cascade.{midst, Running, NextReady, CascadeDoes, from}}
@@ -25,15 +24,15 @@ pub record Arrival (b : State) (n i u k e : ℕ) (a own cs os : List ℕ) : Type
 
 -- the answer to a write that is not ready: the name that `failing` gives
 pub record Waits (a v : List ℕ) (u : ℕ) (r : Answer) : Type 0 where
-  pub what : Name
+  pub what : MachineName
   pub named : failing places (place a) u (place v) ≡ some what
-  pub is : r ≡ Held what.writer what.number
+  pub is : r ≡ Held (name_for what)
 
 -- what the machine does with it
 abbrev pub effect : State → ℕ → ℕ → ℕ → machine.Open → Out
 effect s i u k w = deliver_by s i u k w (failing s.setup.desks (s.applied i) u w.vector)
 
-pub record ReceivesAs (b : State) (n i u k e : ℕ) (d : Desk) (cs os names : List ℕ) (r : Turn) (cs' os' names' : List ℕ) : Type 0 where
+pub record ReceivesAs (b : State) (n i u k e : ℕ) (d : Desk) (cs os : List ℕ) (names : List Name) (r : Turn) (cs' os' : List ℕ) (names' : List Name) : Type 0 where
   pub answer_is : answer_of r.answer names' ≡ (effect (midst b i d.applied cs os) i u k (open_m (open_at os e))).answer
   pub state_is : midst b i r.desk.applied cs' os' ≡ (effect (midst b i d.applied cs os) i u k (open_m (open_at os e))).state
   pub clock_is : r.desk.clock ≡ d.clock
@@ -45,7 +44,7 @@ pub record ReceivesAs (b : State) (n i u k e : ℕ) (d : Desk) (cs os names : Li
 abbrev pub Arriving : (n i u e : ℕ) (a own cs os : List ℕ) → Type 0
 Arriving n i u e a own cs os = (b : State) × (k : ℕ) × Arrival b n i u k e a own cs os
 
-abbrev pub ReceivedAs : (n i u e : ℕ) (d : Desk) (own cs os names : List ℕ) (r : Turn) (cs' os' names' : List ℕ) → Type 0
+abbrev pub ReceivedAs : (n i u e : ℕ) (d : Desk) (own cs os : List ℕ) (names : List Name) (r : Turn) (cs' os' : List ℕ) (names' : List Name) → Type 0
 ReceivedAs n i u e d own cs os names r cs' os' names' =
     (b : State) (k : ℕ) → Arrival b n i u k e d.applied own cs os → ReceivesAs b n i u k e d cs os names r cs' os' names'
 
@@ -95,14 +94,14 @@ module _ {b : State} {n i u k e : ℕ} {a own cs os : List ℕ} (r : Arrival b n
   pub late_here : place a u < place (open_at os e).vector u
   late_here = rw (upd_same b.applied i (place a)) at (not-applied (r.running.mid.frame.open-write u k w stands_open) i (rw r.running.count r.running.desk) (λ d. omega (arith, r.is_away)))
 
-  failing-here : (z : Name) → failing places (place a) u (place (open_at os e).vector) ≡ some z
+  failing-here : (z : MachineName) → failing places (place a) u (place (open_at os e).vector) ≡ some z
       → failing b.setup.desks (s.applied i) u w.vector ≡ some z
   failing-here z f =
       rw (r.running.count, upd_same b.applied i (place a))
       (sym (failing-narrow n places (place a) u w.vector (flat r.running u k w stands_open) writer_in.1 (small_n r.running)) ∙ f)
 
 -- it is applied, and the cascade runs
-pub received-ready : {b : State} {n i u k e : ℕ} {own cs os : List ℕ} {names a' cs' os' names' : List ℕ} {len : ℕ} (d : Desk) → Arrival b n i u k e d.applied own cs os
+pub received-ready : {b : State} {n i u k e : ℕ} {own cs os : List ℕ} {names : List Name} {a' cs' os' : List ℕ} {names' : List Name} {len : ℕ} (d : Desk) → Arrival b n i u k e d.applied own cs os
     → ready_at d.applied (open_at os e).vector u ≡ true → CascadeDoes n i u e d.applied own cs os names a' len cs' os' names'
     → ReceivesAs b n i u k e d cs os names (record { desk = with_counts d a'; answer = Applied len }) cs' os' names'
 received-ready {b} {n} {i} {u} {k} {e} {own} {cs} {os} {names} {len = len} d r h f =
@@ -115,12 +114,12 @@ received-ready {b} {n} {i} {u} {k} {e} {own} {cs} {os} {names} {len = len} d r h
       clock_is = refl;
       blanks = t.now.blanks;
       unique = t.now.unique;
-      names_are = t.holds ∙ sym (ap (λ (o : Out). sets names 0 (names_beside o.answer)) x ∙ ap (λ (z : Settled). sets names 0 (machineAnswer.name_values z.names)) q);
+      names_are = t.holds ∙ sym (ap (λ (o : Out). sets names 0 (names_beside o.answer)) x ∙ ap (λ (z : Settled). sets names 0 (map name_for z.names)) q);
       counted = λ c y. let z : len ≡ c = cc in omega (arith, t.few);
     }
 
 -- it is held
-pub received-held : {b : State} {n i u k e : ℕ} {own cs os : List ℕ} {os' : List ℕ} (names : List ℕ) {x : Answer} (d : Desk) → Arrival b n i u k e d.applied own cs os
+pub received-held : {b : State} {n i u k e : ℕ} {own cs os : List ℕ} {os' : List ℕ} (names : List Name) {x : Answer} (d : Desk) → Arrival b n i u k e d.applied own cs os
     → Waits d.applied (open_at os e).vector u x → os' ≡ put_mark os e (i - 1) held
     → ReceivesAs b n i u k e d cs os names (record { desk = d; answer = x }) cs os' names
 received-held {b} {n} {i} {u} {k} {e} {own} {cs} {os} {os'} names {x} d r f p =
@@ -131,7 +130,7 @@ received-held {b} {n} {i} {u} {k} {e} {own} {cs} {os} {os'} names {x} d r f p =
       blanks = g.blanks;
       unique = rw p (unique-mark os e u k r.small g.opens_size g.unique r.named i held (in_places g i g.desk));
       names_are = rw z;
-      counted = λ c y. let q : Held f.what.writer f.what.number ≡ Applied c = sym f.is ∙ y in let w : ◌≡◌ {A = ℕ} 0 1 = cc in absurd (omega arith);
+      counted = λ c y. let q : Held (name_for f.what) ≡ Applied c = sym f.is ∙ y in let w : ◌≡◌ {A = ℕ} 0 1 = cc in absurd (omega arith);
     }
   where
     g : Running b n i d.applied own cs os

@@ -24,7 +24,7 @@ abbrev pub clock_turn : Desk → Clock → Answer → Turn
 clock_turn d k a = record { desk = with_desk_clock d k; answer = a }
 
 unfoldable pub shown_cell : Cell → Answer
-shown_cell c = pick (eqb c.writer 0) Unset (Shown c.status c.writer (place c.vector c.writer))
+shown_cell c = pick (eqb c.writer 0) Unset (Shown c.status record { writer = c.writer; number = place c.vector c.writer })
 
 abbrev pub look_turn : Desk → Cell → Turn
 look_turn d c = clock_turn d (join_clock d.clock c.vector) (shown_cell c)

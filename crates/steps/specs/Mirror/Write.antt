@@ -38,7 +38,7 @@ abbrev pub wrote_open : Desk → ℕ → ℕ → ℕ → Open
 wrote_open d i x v = record { writer = i; status = v; cell = x; vector = (raise_clock d.clock i).at; marks = new_marks i }
 
 abbrev pub wrote_turn : Desk → ℕ → Turn
-wrote_turn d i = record { desk = wrote_desk d i; answer = WroteAnswer i (place d.applied i + 1) }
+wrote_turn d i = record { desk = wrote_desk d i; answer = WroteAnswer record { writer = i; number = place d.applied i + 1 } }
 
 pub record Wrote (d : Desk) (cs os : List ℕ) (i x v : ℕ) (s : Option ℕ) (r : Turn) (cs' os' : List ℕ) : Type 0 where
   pub turn : r ≡ wrote_turn d i

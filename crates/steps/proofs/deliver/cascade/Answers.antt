@@ -1,23 +1,23 @@
 use Rattle.std.specs.Prelude.{◌+◌, ◌-◌}
-use Rattle.laws.specs.{Kit.{refl, sym, ◌∙◌, none, some, arith, get_or, set}, Loop.{scan_end, scan-here, scan-next}}
+use Rattle.laws.specs.{Kit.{refl, sym, ◌∙◌, none, some, arith, get_or, set, length-set}, Loop.{scan_end, scan-here, scan-next}}
 use Rattle.machine.specs.Table.{State, most_open}
 use Rattle.table.specs.{Value.{open_at}, Model.{open_m}}
 use Rattle.steps.specs.Link.Cascade.{midst, from, due-at, due-not, Running, NextReady, Gone, going-starts}
 use Rattle.steps.specs.{Link.Cascade.{going_safe, going-turn, gone_ends, gone_on}, Link.CascadeSearch.{Yields, scan-whole, yields_at}}
 use Rattle.steps.specs.Link.CascadeSearch.{yields_none}
 use Rattle.steps.proofs.deliver.cascade.Goals as goal
-use Rattle.steps.proofs.deliver.cascade.Goals.{After-put_name, Left-loop-t}
+use Rattle.steps.proofs.deliver.cascade.Goals.{After-apply_at, Left-loop-t}
 use Rattle.steps.proofs.deliver.cascade.Goals.{then-loop-t-test+in-Some, else-loop-t-test, then-loop-t-test+in_default+else-t-n}
 
 -- a turn, for every state that the values are a part of
-gone : (c : goal.After-put_name)
+gone : (c : goal.After-apply_at)
     → (let A = c.apply in
     let g = c.args in
-    (b : State) → Running b g.n g.i g.c g.own g.cells.now g.opens.now → NextReady g.n g.c g.opens.now g.u g.e
-    → Gone (from most_open (midst b g.i g.c g.cells.now g.opens.now) g.i g.u (open_m (open_at g.opens.now g.e)))
+    (b : State) → Running b g.n g.i g.counts g.own g.cells.now g.opens.now → NextReady g.n g.counts g.opens.now g.writer g.entry
+    → Gone (from most_open (midst b g.i g.counts g.cells.now g.opens.now) g.i g.writer (open_m (open_at g.opens.now g.entry)))
     b g.n g.i (set A.counts (A.writer - 1) (get_or A.counts (A.writer - 1) 0 + 1)) g.own c.apply_at.new.cells c.apply_at.new.opens
-    g.names.now c.put_name.new.names (A.len + 1))
-gone c b r d = going-turn (c.apply.invariant.1 b r d) refl c.apply_at.ensures c.put_name.ensures
+    g.names.now (set A.names A.len record { writer = A.writer; number = get_or A.counts (A.writer - 1) 0 + 1 }) (A.len + 1))
+gone c b r d = going-turn (c.apply.invariant.2 b r d) refl c.apply_at.ensures (record { is = refl; size = c.apply.invariant.1 })
 
 -- what the search yields: the first writer with a write that is due, and its entry
 yields : (c : goal.Left-loop-t)
@@ -38,7 +38,7 @@ yields c =
 
 pub apply-init : goal.apply-init
 apply-init c =
-    let p = c.requires in (going_safe (going-starts c.args.names.now p.1 p.2), λ b r d. going-starts c.args.names.now r d)
+    let p = c.requires in (going_safe (going-starts c.args.names.now p.1 p.2), c.told-names, λ b r d. going-starts c.args.names.now r d)
 
 pub loop-t-init : goal.loop-t-init
 loop-t-init c = scan-whole _ _
@@ -47,7 +47,7 @@ pub due_of-requires : goal.due_of-requires
 due_of-requires c =
     let p = c.requires in
     let h = c.apply.invariant.0 in
-    (h.desk, ((omega arith, omega (arith, c.loop-t-test.true, h.count)), (gone (goal.at.due_of-requires c).After-put_name p.0 p.1 p.2).now.unique))
+    (h.desk, ((omega arith, omega (arith, c.loop-t-test.true, h.count)), (gone (goal.at.due_of-requires c).After-apply_at p.0 p.1 p.2).now.unique))
 
 pub loop-t-preserved : goal.loop-t-preserved
 loop-t-preserved c =
@@ -60,9 +60,9 @@ pub apply-preserved : goal.apply-preserved
 apply-preserved c =
     let y = yields_at _ _ _ _ _ c.loop-t-test.found (yields (goal.at.apply-preserved c).Left-loop-t) c.in-Some-found.is in
     let p = c.requires in
-    let s = going_safe (gone_on (gone (goal.at.apply-preserved c).After-put_name p.0 p.1 p.2) (y.0, y.1) y.2 y.3) in
-    (s, λ b r d. gone_on (gone (goal.at.apply-preserved c).After-put_name b r d) (y.0, y.1) y.2 y.3)
+    let s = going_safe (gone_on (gone (goal.at.apply-preserved c).After-apply_at p.0 p.1 p.2) (y.0, y.1) y.2 y.3) in
+    (s, rw length-set c.apply.invariant.1, λ b r d. gone_on (gone (goal.at.apply-preserved c).After-apply_at b r d) (y.0, y.1) y.2 y.3)
 
 pub returns : goal.returns
 returns c b r d =
-    gone_ends (gone (goal.at.returns c).After-put_name b r d) (yields_none _ _ _ _ _ c.loop-t-test.found (yields (goal.at.returns c).Left-loop-t) c.in_default-found.is)
+    gone_ends (gone (goal.at.returns c).After-apply_at b r d) (yields_none _ _ _ _ _ c.loop-t-test.found (yields (goal.at.returns c).Left-loop-t) c.in_default-found.is)
