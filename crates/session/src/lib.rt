@@ -167,8 +167,10 @@ impl Running {
         ensures { TurnsOn self.old cells.old opens.old list.now s result self.new cells.new opens.new names.new }
     {
         let p = seat(actor(s));
-        // Kept: no other fact tells how long the arrays within the desks are.
+        // Kept: no other fact tells how long the arrays within the desks, the cells and the entries are.
         table::desks_shape(self.core.desks);
+        table::cells_shape(cells);
+        table::opens_shape(opens);
         let next = self.next(self.core.desks[p], cells, opens, s, list, names);
         self.core.n = next.n;
         self.core.m = next.m;

@@ -1,7 +1,7 @@
 -- A line against the code's values: what it asks of them, and that it is the session's turn.
 use Rattle.std.specs.Prelude.{◌≡◌, ◌-◌, ◌*◌, Some, None}
 use Rattle.std.specs.Prelude as std
-use Rattle.laws.specs.Kit.{refl, sym, ap, subst, ◌∙◌, List, [], Option, none, some, Bool, true, false, ℕ, arith, length}
+use Rattle.laws.specs.Kit.{refl, sym, ap, subst, ◌∙◌, List, [], Option, none, some, Bool, true, false, ℕ, arith}
 use Rattle.laws.specs.{Kit.{get_or, set, set-get_or}, Loop.{pick, cases}, Says.{apart}}
 use Rattle.clock.specs.Vectors.{places}
 use Rattle.machine.specs.{Table.{State, fresh}, Rules.{In}, Steps.{Step, within, step, begin, begins}}
@@ -13,7 +13,8 @@ use Rattle.reply.specs.{declared.Answer.TheVariants.{Unknown, Refused}, declared
 use Rattle.reply.specs.{declared.Name.{Name}, Meaning.{answer_of}}
 use Rattle.schedule.specs.{Grammar.{Line as Said, step_line}, declared.Line.{Line}, declared.Line.TheVariants.{New, Read, Write, Deliver}}
 use Rattle.schedule.specs.declared.Line.TheVariants.{Trip}
-use Rattle.table.specs.{declared.Desk.{Desk}, declared.Table.{Table}, Value.{desk0, all_cells, cell_width, entries, open_width}}
+use Rattle.table.specs.{declared.Cell.{Cell}, declared.Open.{Open}}
+use Rattle.table.specs.{declared.Desk.{Desk}, declared.Table.{Table}, Value.{desk0, CellsShape, OpensShape}}
 use Rattle.table.specs.{TypeShape.{DesksShape}, Model.{table_of, model_of}, Sound.{SoundTable}}
 use Rattle.steps.specs.{declared.Turn.{Turn as DeskTurn}, Stepped.{Placed, put_desk, Stepped, table_after}}
 use Rattle.session.specs.{declared.Next.{Next}, Session.{Session, Turn, turn}, Mirror.LineValue.{line_in, line_actor, seat_of}}
@@ -29,18 +30,18 @@ desk_of (steps.Deliver i u k) = i
 desk_of (steps.Trip i xs) = i
 
 -- there is a table of which these are a part
-pub record Acting (n m : ℕ) (cs os own : List ℕ) (i : ℕ) (d : Desk) : Type 0 where
+pub record Acting (n m : ℕ) (cs : List Cell) (os : List Open) (own : List ℕ) (i : ℕ) (d : Desk) : Type 0 where
   pub desks : List Desk
   pub placed : Placed (table_of n m desks cs os) own i d
 
 -- the turn of the line o
-pub record Acted (t : Table) (i : ℕ) (d : Desk) (o : Option Said) (d' : Desk) (cs' os' : List ℕ) (answer : machine.Answer) : Type 0 where
+pub record Acted (t : Table) (i : ℕ) (d : Desk) (o : Option Said) (d' : Desk) (cs' : List Cell) (os' : List Open) (answer : machine.Answer) : Type 0 where
   pub answer_is : answer ≡ (turn (some (model_of t)) o).answer
   pub session_is : some (model_of (table_after t.core i d' cs' os')) ≡ (turn (some (model_of t)) o).session
   pub sound : SoundTable (table_after t.core i d' cs' os')
   pub outside : within t.core.n i ≡ false → d' ≡ d
 
-abbrev pub LineActs : (n m : ℕ) (d : Desk) (own cs os list : List ℕ) (s : std.Option Line) (r : DeskTurn) (cs' os' : List ℕ) (names' : List Name) → Type 0
+abbrev pub LineActs : (n m : ℕ) (d : Desk) (own : List ℕ) (cs : List Cell) (os : List Open) (list : List ℕ) (s : std.Option Line) (r : DeskTurn) (cs' : List Cell) (os' : List Open) (names' : List Name) → Type 0
 LineActs n m d own cs os list s r cs' os' names' =
     (ds : List Desk) → Placed (table_of n m ds cs os) own (line_actor s) d → Acted (table_of n m ds cs os) (line_actor s) d (line_in s list) r.desk cs' os' (answer_of r.answer names')
 
@@ -51,7 +52,7 @@ outside-refused s (steps.Write i x v) e = rw e
 outside-refused s (steps.Deliver i u k) e = rw e
 outside-refused s (steps.Trip i xs) e = rw e
 
-module _ {t : Table} {d d' : Desk} {cs' os' : List ℕ} {answer : machine.Answer} (a : Step) where
+module _ {t : Table} {d d' : Desk} {cs' : List Cell} {os' : List Open} {answer : machine.Answer} (a : Step) where
   pub acted_step : Stepped t (desk_of a) d a d' cs' os' answer → Acted t (desk_of a) d (some (step_line a)) d' cs' os' answer
   acted_step h = record {
     answer_is = h.answer_is;
@@ -95,7 +96,7 @@ quiet s (steps.Write i x v) e = step_cases s (steps.Write i x v) (λ o. is_appli
 quiet s (steps.Deliver i u k) e = apart true refl e
 quiet s (steps.Trip i xs) e = step_cases s (steps.Trip i xs) (λ o. is_applies o.answer ≡ false) (λ r. refl) (λ h. refl)
 
-module _ {t : Table} {d d' : Desk} {cs' os' : List ℕ} (a : Step) (answer : Answer) (names : List Name) where
+module _ {t : Table} {d d' : Desk} {cs' : List Cell} {os' : List Open} (a : Step) (answer : Answer) (names : List Name) where
   pub acted_quiet : Delivery a ≡ false → Stepped t (desk_of a) d a d' cs' os' (answer_of answer [])
       → Acted t (desk_of a) d (some (step_line a)) d' cs' os' (answer_of answer names)
   acted_quiet q h =
@@ -123,11 +124,11 @@ pub record Seated (t : Table) (own : List ℕ) (i : ℕ) (d : Desk) (z : Session
   pub holds : Holds t z
   pub own_is : own ≡ owns t.core.desks
   pub shape : DesksShape t.core.desks
-  pub cells_size : length t.cells ≡ all_cells * cell_width
-  pub opens_size : length t.opens ≡ entries * open_width
+  pub cells_shape : CellsShape t.cells
+  pub opens_shape : OpensShape t.opens
   pub desk : get_or t.core.desks (seat_of i) desk0 ≡ d
 
-pub record SomeSeat (n m : ℕ) (cs os own : List ℕ) (i : ℕ) (d : Desk) : Type 0 where
+pub record SomeSeat (n m : ℕ) (cs : List Cell) (os : List Open) (own : List ℕ) (i : ℕ) (d : Desk) : Type 0 where
   pub desks : List Desk
   pub session : Session
   pub seated : Seated (table_of n m desks cs os) own i d session
@@ -138,11 +139,11 @@ pub record LineTurned (t : Table) (answer : machine.Answer) (k : Turn) : Type 0 
   pub holds : Holds t k.session
 
 -- with the desk stored back at its seat
-abbrev pub table_seated : (n m : ℕ) (ds : List Desk) (i : ℕ) (d : Desk) (cs os : List ℕ) → Table
+abbrev pub table_seated : (n m : ℕ) (ds : List Desk) (i : ℕ) (d : Desk) (cs : List Cell) (os : List Open) → Table
 table_seated n m ds i d cs os = table_of n m (set ds (seat_of i) d) cs os
 
 -- whatever the other desks, and whatever session the values hold
-abbrev pub Turns : (n m : ℕ) (d : Desk) (own cs os list : List ℕ) (s : std.Option Line) (r : Next) (cs' os' : List ℕ) (names' : List Name) → Type 0
+abbrev pub Turns : (n m : ℕ) (d : Desk) (own : List ℕ) (cs : List Cell) (os : List Open) (list : List ℕ) (s : std.Option Line) (r : Next) (cs' : List Cell) (os' : List Open) (names' : List Name) → Type 0
 Turns n m d own cs os list s r cs' os' names' =
     (ds : List Desk) (z : Session) → Seated (table_of n m ds cs os) own (line_actor s) d z
     → LineTurned (table_seated r.n r.m ds (line_actor s) r.desk cs' os') (answer_of r.answer names') (turn z (line_in s list))
@@ -170,8 +171,8 @@ module _ {whole : Table} {own : List ℕ} {i : ℕ} {d : Desk} where
   placed h = record {
     sound = h.holds.sound;
     shape = h.shape;
-    cells_size = h.cells_size;
-    opens_size = h.opens_size;
+    cells_shape = h.cells_shape;
+    opens_shape = h.opens_shape;
     desk = λ hi. rw (← seat hi) h.desk;
     own_counts = λ u _. rw h.own_is (own_is whole.core.desks h.shape u);
   }
@@ -188,7 +189,7 @@ module _ {whole : Table} {own : List ℕ} {i : ℕ} {d : Desk} where
       (λ t. rw (t, out t) (stays h))
 
   -- on a table
-  pub turned_act : (z : Session) (o : Option Said) {d' : Desk} {cs' os' : List ℕ} {answer : machine.Answer} → (whole.core.n ≡ 0 → ⊥) → Seated whole own i d z
+  pub turned_act : (z : Session) (o : Option Said) {d' : Desk} {cs' : List Cell} {os' : List Open} {answer : machine.Answer} → (whole.core.n ≡ 0 → ⊥) → Seated whole own i d z
       → (Placed whole own i d → Acted whole i d o d' cs' os' answer) → LineTurned (table_seated whole.core.n whole.core.m whole.core.desks i d' cs' os') answer (turn z o)
   turned_act none o ne h f = absurd (ne (ap (λ (t : Table). t.core.n) h.holds))
   turned_act (some s) o {d'} {cs'} {os'} {answer} ne h f =
