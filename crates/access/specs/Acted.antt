@@ -3,6 +3,7 @@ use Rattle.std.specs.{Prelude.{◌≡◌, ◌⊎◌}, Borrow.{MutBor}, Fn.{Once}
 use Rattle.laws.specs.Kit.{ℕ, List, [], inl, inr, sym, ◌∙◌}
 use Rattle.machine.specs.Steps.{Step}
 use Rattle.reply.specs.{declared.Name.{Name}, declared.Answer.TheVariants.{Refused}, declared.Refusal.TheVariants.{Broken}, Meaning.{answer_of}}
+use Rattle.table.specs.{declared.Cell.{Cell}, declared.Open.{Open}}
 use Rattle.table.specs.{declared.Core.{Core}, declared.Desk.{Desk}, declared.Table.{Table}, Sound.{SoundTable}}
 use Rattle.rules.specs.Mirror.Test.{owns}
 use Rattle.steps.specs.{declared.Turn.{Turn}, Stepped.{Placed, put_desk, table_after}, Mirror.Look.{SomeLook, Looks}}
@@ -16,23 +17,23 @@ core_after c i d = record { n = c.n; m = c.m; desks = put_desk c.n c.desks i d }
 -- the step given: its desk, and the cells, the open writes and the names lent to it --
 
 abbrev pub Lent : Type 0
-Lent = MutBor (List ℕ) × (MutBor (List ℕ) × (MutBor (List Name) × Unit {0}))
+Lent = MutBor (List Cell) × (MutBor (List Open) × (MutBor (List Name) × Unit {0}))
 
 abbrev pub Given : Type 0 → Type 1
 Given F = Once F (Desk × Lent) (Turn × Lent)
 
 -- it may be called with desk d and the arrays of the table
 abbrev pub Takes : {F : Type 0} → Given F → F → Table → Desk → Type 0
-Takes g f t d = (a b : MutBor (List ℕ)) (c : MutBor (List Name)) → a.now ≡ t.cells → b.now ≡ t.opens → c.now ≡ no_names → g.pre f (d, (a, (b, (c, tt))))
+Takes g f t d = (a : MutBor (List Cell)) (b : MutBor (List Open)) (c : MutBor (List Name)) → a.now ≡ t.cells → b.now ≡ t.opens → c.now ≡ no_names → g.pre f (d, (a, (b, (c, tt))))
 
 -- so called, it may give the turn and leave these in the arrays
-pub record Gives {F : Type 0} (g : Given F) (f : F) (t : Table) (d : Desk) (r : Turn) (cs os : List ℕ) (names : List Name) : Type 0 where
-  pub cells : MutBor (List ℕ)
-  pub opens : MutBor (List ℕ)
+pub record Gives {F : Type 0} (g : Given F) (f : F) (t : Table) (d : Desk) (r : Turn) (cs : List Cell) (os : List Open) (names : List Name) : Type 0 where
+  pub cells : MutBor (List Cell)
+  pub opens : MutBor (List Open)
   pub beside : MutBor (List Name)
   pub shows : (cells.now ≡ t.cells) × (opens.now ≡ t.opens) × (beside.now ≡ no_names)
-  pub cells_left : MutBor (List ℕ)
-  pub opens_left : MutBor (List ℕ)
+  pub cells_left : MutBor (List Cell)
+  pub opens_left : MutBor (List Open)
   pub beside_left : MutBor (List Name)
   pub leaves : (cells_left.now ≡ cs) × (opens_left.now ≡ os) × (beside_left.now ≡ names)
   pub met : g.post f (d, (cells, (opens, (beside, tt)))) (r, (cells_left, (opens_left, (beside_left, tt))))
@@ -46,8 +47,8 @@ pub record Outcome {F : Type 0} (g : Given F) (f : F) (t : Table) (i : ℕ) (r :
   pub desk : Desk
   pub placed : Placed t (owns t.core.desks) i desk
   pub turn : Turn
-  pub cells : List ℕ
-  pub opens : List ℕ
+  pub cells : List Cell
+  pub opens : List Open
   pub names : List Name
   pub gives : Gives g f t desk turn cells opens names
   pub is : r ≡ record { table = table_after t.core i turn.desk cells opens; answer = turn.answer; names = names }
@@ -56,7 +57,7 @@ abbrev pub Acted : {F : Type 0} → Given F → F → Table → ℕ → Delivere
 Acted g f t i r = ((SoundTable t → ⊥) × (r ≡ broken_delivered t)) ⊎ Outcome g f t i r
 
 -- the same promise of equal lists
-module _ {cs cs₀ os os₀ cs' cs₁ os' os₁ : List ℕ} {r z : Turn} (e : r ≡ z) (ca : cs ≡ cs₀) (oa : os ≡ os₀) where
+module _ {cs cs₀ : List Cell} {os os₀ : List Open} {cs' : List Cell} {cs₁ : List Cell} {os' : List Open} {os₁ : List Open} {r z : Turn} (e : r ≡ z) (ca : cs ≡ cs₀) (oa : os ≡ os₀) where
   writes-same : {n m i : ℕ} {d : Desk} {a : Step} → cs' ≡ cs₁ → os' ≡ os₁ → Writes n m cs os i d a z cs' os' → Writes n m cs₀ os₀ i d a r cs₁ os₁
   writes-same c o w = rw (e, ← ca, ← oa, ← c, ← o) w
 
@@ -68,7 +69,7 @@ module _ {cs cs₀ os os₀ cs' cs₁ os' os₁ : List ℕ} {r z : Turn} (e : r 
 
 module _ {F : Type 0} {g : Given F} {f : F} {t : Table} {i : ℕ} {r : Delivered} (o : Acted g f t i r) where
   pub met_looked : (a : Step)
-      → ((d : Desk) (turn : Turn) (cs os : List ℕ) (names : List Name) (y : Gives g f t d turn cs os names) → (z : Turn) × (turn ≡ z) × (y.cells_left.now ≡ y.cells.now) × (y.opens_left.now ≡ y.opens.now) × Looks t.core.n t.core.m y.cells.now i d a z)
+      → ((d : Desk) (turn : Turn) (cs : List Cell) (os : List Open) (names : List Name) (y : Gives g f t d turn cs os names) → (z : Turn) × (turn ≡ z) × (y.cells_left.now ≡ y.cells.now) × (y.opens_left.now ≡ y.opens.now) × Looks t.core.n t.core.m y.cells.now i d a z)
       → Met t a r.table (answer_of r.answer [])
   met_looked a h = after o
     where
@@ -83,7 +84,7 @@ module _ {F : Type 0} {g : Given F} {f : F} {t : Table} {i : ℕ} {r : Delivered
           rw (x.is, c, p) (met-stepped x.placed (k t.core.desks t.opens _ x.placed))
 
   pub met_written : (a : Step)
-      → ((d : Desk) (turn : Turn) (cs os : List ℕ) (names : List Name) (y : Gives g f t d turn cs os names) → (z : Turn) × (turn ≡ z) × (cs' os' : List ℕ) × (y.cells_left.now ≡ cs') × (y.opens_left.now ≡ os') × Writes t.core.n t.core.m y.cells.now y.opens.now i d a z cs' os')
+      → ((d : Desk) (turn : Turn) (cs : List Cell) (os : List Open) (names : List Name) (y : Gives g f t d turn cs os names) → (z : Turn) × (turn ≡ z) × (cs' : List Cell) × (os' : List Open) × (y.cells_left.now ≡ cs') × (y.opens_left.now ≡ os') × Writes t.core.n t.core.m y.cells.now y.opens.now i d a z cs' os')
       → Met t a r.table (answer_of r.answer [])
   met_written a h = after o
     where
@@ -96,7 +97,7 @@ module _ {F : Type 0} {g : Given F} {f : F} {t : Table} {i : ℕ} {r : Delivered
           rw x.is (met-stepped x.placed (k t.core.desks _ x.placed))
 
   pub brought_acted : {u k : ℕ}
-      → ((d : Desk) (turn : Turn) (cs os : List ℕ) (names : List Name) (y : Gives g f t d turn cs os names) → (z : Turn) × (turn ≡ z) × (cs' os' : List ℕ) × (names' : List Name) × (y.cells_left.now ≡ cs') × (y.opens_left.now ≡ os') × (y.beside_left.now ≡ names') × Delivers t.core.n d (owns t.core.desks) y.cells.now y.opens.now y.beside.now i u k z cs' os' names')
+      → ((d : Desk) (turn : Turn) (cs : List Cell) (os : List Open) (names : List Name) (y : Gives g f t d turn cs os names) → (z : Turn) × (turn ≡ z) × (cs' : List Cell) × (os' : List Open) × (names' : List Name) × (y.cells_left.now ≡ cs') × (y.opens_left.now ≡ os') × (y.beside_left.now ≡ names') × Delivers t.core.n d (owns t.core.desks) y.cells.now y.opens.now y.beside.now i u k z cs' os' names')
       → Brought t i u k r.table r.answer r.names
   brought_acted {u} {k} h = after o
     where
@@ -109,11 +110,11 @@ module _ {F : Type 0} {g : Given F} {f : F} {t : Table} {i : ℕ} {r : Delivered
           rw x.is (brought x.placed (k t.core.m t.core.desks x.placed))
 
 module _ {t : Table} {own : List ℕ} {i : ℕ} {d : Desk} (p : Placed t own i d) where
-  pub part_of_look : {cs : List ℕ} → cs ≡ t.cells → SomeLook t.core.n t.core.m cs i d
+  pub part_of_look : {cs : List Cell} → cs ≡ t.cells → SomeLook t.core.n t.core.m cs i d
   part_of_look e = rw e (record { desks = t.core.desks; opens = t.opens; own = own; placed = p })
 
-  pub part_of_write : {cs os : List ℕ} → cs ≡ t.cells → os ≡ t.opens → SomeTable t.core.n t.core.m cs os i d
+  pub part_of_write : {cs : List Cell} {os : List Open} → cs ≡ t.cells → os ≡ t.opens → SomeTable t.core.n t.core.m cs os i d
   part_of_write e f = rw (e, f) (record { desks = t.core.desks; own = own; placed = p })
 
-  pub part_of_delivery : {cs os : List ℕ} → cs ≡ t.cells → os ≡ t.opens → Part t.core.n d own cs os i
+  pub part_of_delivery : {cs : List Cell} {os : List Open} → cs ≡ t.cells → os ≡ t.opens → Part t.core.n d own cs os i
   part_of_delivery e f = rw (e, f) (t.core.m, t.core.desks, p)

@@ -25,7 +25,7 @@ use block::{BLOCK, PAYLOAD_AT, VECTOR_AT};
 use clock::{Clock, PLACES};
 use image::{APPLIED_AT, CELLS_AT, COUNT_AT, DESKS_AT};
 use std::array;
-use table::{CELL, CELLS, Cell, Cells, Core, Desk, OPEN, OPENS, Open, Opens, Table};
+use table::{CELLS, Cell, Cells, Core, Desk, OPENS, Open, Opens, Table};
 
 // Fields --
 
@@ -173,11 +173,7 @@ impl Layout<'_> {
             let at = field_place(self.n, self.c * i, x / room, w * (x % room));
             return read_cell(self.b, at, self.p);
         }
-        Cell {
-            writer: 0,
-            status: 0,
-            vector: [0; PLACES],
-        }
+        Cell::UNSET
     }
 
     // Into zeros: the rows past the n desks' stay.
@@ -186,7 +182,7 @@ impl Layout<'_> {
         ensures { CellsRead self.now.p self.now.b.now self.now.n self.now.m cells.new }
     {
         for s in 0..self.n * CELLS {
-            table::put_cell(cells, s, self.cell_or(s));
+            cells[s] = self.cell_or(s);
         }
     }
 
@@ -211,7 +207,7 @@ impl Layout<'_> {
             let Some(e) = table::find_free(opens, usize::from(o.writer), number_of(o)) else {
                 return;
             };
-            table::put_open(opens, e, o);
+            opens[e] = o;
         }
     }
 }
@@ -322,8 +318,8 @@ pub fn load_into(b: &[u8], cells: &mut Cells, opens: &mut Opens) -> Result<Core,
         return Ok(core);
     }
     // Zeros again, after what was no table.
-    cells.fill(0);
-    opens.fill(0);
+    cells.fill(Cell::UNSET);
+    opens.fill(Open::FREE);
     Err(Fault::Broken(misplaced))
 }
 
@@ -331,8 +327,8 @@ pub fn load_into(b: &[u8], cells: &mut Cells, opens: &mut Opens) -> Result<Core,
 pub fn load(b: &[u8]) -> Result<Table, Fault>
     ensures { Answers b.now result }
 {
-    let mut cells = [0u16; PLACES * CELLS * CELL];
-    let mut opens = [0u16; OPENS * OPEN];
+    let mut cells = [Cell::UNSET; PLACES * CELLS];
+    let mut opens = [Open::FREE; OPENS];
     let core = load_into(b, &mut cells, &mut opens)?;
     Ok(Table { core, cells, opens })
 }
@@ -349,8 +345,8 @@ pub struct Sizes {
 pub fn inspect(b: &[u8]) -> Result<Sizes, Fault>
     ensures { finding_numbers result ≡ finding_of (load b.now) }
 {
-    let mut cells = [0u16; PLACES * CELLS * CELL];
-    let mut opens = [0u16; OPENS * OPEN];
+    let mut cells = [Cell::UNSET; PLACES * CELLS];
+    let mut opens = [Open::FREE; OPENS];
     load_into(b, &mut cells, &mut opens)?;
     let z = layout_of(b);
     Ok(Sizes {

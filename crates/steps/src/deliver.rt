@@ -33,16 +33,16 @@ fn apply_at(cells: &mut Cells, opens: &mut Opens, n: usize, i: usize, e: usize)
         cell,
         vector,
         ..
-    } = table::open_at(opens, e);
+    } = opens[e];
     let shown = Cell {
         writer,
         status,
         vector,
     };
-    table::put_cell(cells, table::slot_of(i, usize::from(cell)), shown);
+    cells[table::slot_of(i, usize::from(cell))] = shown;
     table::put_mark(opens, e, i - 1, DONE);
     if table::all_applied(opens, e, n) {
-        table::set_free(opens, e);
+        opens[e].writer = 0;
     }
 }
 
@@ -56,10 +56,10 @@ fn due_of(a: [u16; PLACES], own: [u16; PLACES], opens: &Opens, i: usize, u: usiz
         return None;
     }
     let e = table::find(opens, u, k + 1)?;
-    if table::mark_at(opens, e, i - 1) != HELD {
+    if opens[e].marks[i - 1] != HELD {
         return None;
     }
-    clock::ready(a, table::vector_at(opens, e), u).then_some(e)
+    clock::ready(a, opens[e].vector, u).then_some(e)
 }
 
 // An entry, a ready write of a writer, applied at desk i where the counts are these, and then every held write that becomes ready,
@@ -120,7 +120,7 @@ fn receive(
     requires { Arriving n i u e d.applied own cells.old opens.old }
     ensures { ReceivedAs n i u e d own cells.old opens.old names.old result cells.new opens.new names.new }
 {
-    let v = table::vector_at(opens, e);
+    let v = opens[e].vector;
     // (That it is ready is told sooner than that nothing is missing.)
     if !clock::ready(d.applied, v, u)
         && let Some(missing) = clock::readiness(d.applied, v, u)
@@ -179,7 +179,7 @@ fn deliver(
 {
     tests(n, d.applied, own, i, u, k)?;
     let e = table::find(opens, u, k as u16).ok_or(Refusal::Received)?;
-    need(table::mark_at(opens, e, i - 1) == 0, Refusal::Received)?;
+    need(opens[e].marks[i - 1] == 0, Refusal::Received)?;
     Ok(receive(n, d, own, cells, opens, names, i, u, e))
 }
 

@@ -45,7 +45,7 @@ fn looked(d: Desk, cells: &Cells, i: usize, x: usize) -> Turn
     requires { (In places i) × (In desk_cells x) }
     ensures { result ≡ look_turn d (cell_at cells.now (slot i x)) }
 {
-    let c = table::cell_at(cells, table::slot_of(i, x));
+    let c = cells[table::slot_of(i, x)];
     with_clock(d, d.clock.join(c.vector), shown(c))
 }
 
@@ -102,7 +102,7 @@ fn see_all(clock: Clock, cells: &Cells, i: usize, list: &[u16]) -> Seen
         one: true,
     };
     for x in list {
-        s = see(s, table::cell_at(cells, table::slot_of(i, usize::from(*x))));
+        s = see(s, cells[table::slot_of(i, usize::from(*x))]);
     }
     s
 }

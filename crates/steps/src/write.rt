@@ -39,7 +39,7 @@ fn enter(opens: &mut Opens, spot: Option<usize>, o: Open)
     ensures { opens.new ≡ enter_at opens.old spot o }
 {
     if let Some(e) = spot {
-        table::put_open(opens, e, o);
+        opens[e] = o;
     }
 }
 
@@ -68,7 +68,7 @@ fn written(
         status,
         vector,
     };
-    table::put_cell(cells, table::slot_of(i, x), cell);
+    cells[table::slot_of(i, x)] = cell;
     let open = Open {
         writer,
         status,

@@ -8,6 +8,7 @@ use Rattle.machine.specs.{Refusals.{rows_of, FirstFails, AllPass, Accepted}, Rul
 use Rattle.machine.proofs.Refusals.{says-within, refusal-exactly, refused-leaves-table, accepted-effect, accepted-exactly, effect_of}
 use Rattle.machine.proofs.RulesKept.{step-keeps-rules}
 use Rattle.clock.specs.Vectors.{places}
+use Rattle.table.specs.{declared.Cell.{Cell}, declared.Open.{Open}}
 use Rattle.table.specs.{declared.Desk.{Desk}, declared.Table.{Table}, Value.{desk_cells, all_cells, cell_at}, TypeShape.{DeskShape}}
 use Rattle.table.specs.{Link.OpensModel.{Unique}, Sound.{AllZero}, Model.{model_of, table_of}}
 use Rattle.reply.specs.{Meaning.{answer_of, refusal_of}, declared.Refusal.{Refusal}}
@@ -69,7 +70,7 @@ module _ {whole : Table} {own : List ℕ} {i : ℕ} {d : Desk} (p : Placed whole
         refused-turn r (ap (turn_of d) (q.1 ∙ ap Err (q.2 ∙ e))) f
 
     -- every test has passed, and the model becomes what the effect says
-    pub taken-stepped : {d' : Desk} {cs' os' : List ℕ} {answer : machine.Answer} → In n i → AllPass (rows_of (model_of whole) a)
+    pub taken-stepped : {d' : Desk} {cs' : List Cell} {os' : List Open} {answer : machine.Answer} → In n i → AllPass (rows_of (model_of whole) a)
         → answer ≡ (effect_of (model_of whole) a).answer → model_of (table_of n whole.core.m (set ds (i - 1) d') cs' os') ≡ (effect_of (model_of whole) a).state
         → ((s : ℕ) → s < all_cells → (cell_at cs' s).writer ≡ 0 → AllZero (cell_at cs' s)) → Unique os'
         → Stepped whole i d a d' cs' os' answer

@@ -1,18 +1,18 @@
-use Rattle.std.specs.Prelude.{◌<◌, ◌≡◌}
-use Rattle.laws.specs.Kit.{refl, sym, ◌∙◌, true, eqb-true, eqb-false}
+use Rattle.std.specs.Prelude.{◌-◌, ◌<◌, ◌≡◌}
+use Rattle.laws.specs.Kit.{refl, sym, ◌∙◌, true, get_or, eqb-true, eqb-false}
 use Rattle.clock.specs.Vectors.{place, place_at}
 use Rattle.reply.specs.declared.Refusal.TheVariants.{Received}
 use Rattle.table.specs.{Value.{entries, open_at}, EntryNames.{named_at, found_at}, Link.OpensModel.{found_none}}
 use Rattle.steps.specs.Link.Deliver.{failed, known, none_open, known_open, meets_refused_on, arrival}
 use Rattle.steps.specs.Link.Deliver.{meets_received}
 use Rattle.steps.proofs.deliver.deliver.Goals as goal
-use Rattle.steps.proofs.deliver.deliver.Goals.{After-mark_at, In_ok-e}
+use Rattle.steps.proofs.deliver.deliver.Goals.{In_ok-e}
 
 entry : (c : goal.In_ok-e) → (let g = c.args in (c.in_ok-e.e < entries) × (named_at g.opens.now g.u g.k c.in_ok-e.e ≡ true))
 entry c = found_at _ c.find.result _ c.find.ensures c.in_ok-e.ensures.ok_part
 
-mark-is : (c : goal.After-mark_at) → c.mark_at.result ≡ place (open_at c.args.opens.now c.in_ok-e.e).marks c.args.i
-mark-is c = c.mark_at.ensures ∙ sym (place_at (open_at c.args.opens.now c.in_ok-e.e).marks c.args.i c.in_ok-tests.ensures.0.0.0)
+mark-is : (c : goal.In_ok-e) → place (open_at c.args.opens.now c.in_ok-e.e).marks c.args.i ≡ get_or (open_at c.args.opens.now c.in_ok-e.e).marks (c.args.i - 1) 0
+mark-is c = place_at (open_at c.args.opens.now c.in_ok-e.e).marks c.args.i c.in_ok-tests.ensures.0.0.0
 
 pub returns-in_err-tests : goal.returns-in_err-tests
 returns-in_err-tests c m ds p =
@@ -37,14 +37,14 @@ returns-in_err-need c m ds p =
     let a = c.in_ok-tests.ensures in
     let f = c.in_err-need.ensures.fails in
     meets_refused_on p g.u g.k Received g.names.now _ c.from_residual-in_err-need.ensures.1 f.1
-    (known p g.u g.k a (known_open p g.u g.k a _ h.0 h.1 (λ q. eqb-false _ _ f.0 (mark-is w.After-mark_at ∙ q))))
+    (known p g.u g.k a (known_open p g.u g.k a _ h.0 h.1 (λ q. eqb-false _ _ f.0 (sym (mark-is w.In_ok-e) ∙ q))))
 
 pub receive-requires : goal.receive-requires
 receive-requires c =
     let w = goal.at.receive-requires c in
     let h = entry w.In_ok-e in
     let g = c.args in
-    let q = sym (mark-is w.After-mark_at) ∙ eqb-true _ _ c.in_ok-need.ensures.passes in
+    let q = mark-is w.In_ok-e ∙ eqb-true _ _ c.in_ok-need.ensures.passes in
     (_, _, arrival c.requires.2 g.u g.k c.in_ok-tests.ensures _ h.0 h.1 q)
 
 pub returns : goal.returns
@@ -53,5 +53,5 @@ returns c m ds p =
     let h = entry w.In_ok-e in
     let g = c.args in
     let a = c.in_ok-tests.ensures in
-    let q = sym (mark-is w.After-mark_at) ∙ eqb-true _ _ c.in_ok-need.ensures.passes in
+    let q = mark-is w.In_ok-e ∙ eqb-true _ _ c.in_ok-need.ensures.passes in
     meets_received p g.u g.k a _ h.0 h.1 q (c.receive.ensures _ _ (arrival p g.u g.k a _ h.0 h.1 q))
