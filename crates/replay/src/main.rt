@@ -19,6 +19,7 @@ const PART: usize = 16384;
 
 // The one place that writes answers. It asks that what it is handed is what comes next of all that is printed for the text: from so many bytes,
 // which were handed over before, up to so many.
+// Kept: `sent` and `next` are for the contract alone; the edits nothing_written and another_number rest on it.
 fn print<W: Write>(to: &mut W, text: &[u8], sent: usize, next: usize, part: &[u8]) -> io::Result<()>
     requires { Comes (transcript text.now) sent next part.now }
     ensures { OnOk result (Appends (W.contents to.old) (W.contents to.new) part.now) }
@@ -84,6 +85,7 @@ fn reply(rt: &(impl Print + Eprint), text: &[u8]) -> io::Result<()> {
 }
 
 // Reads to the front of the buffer until it is full or the input ends, and returns how many bytes it read.
+// Kept: the loop is by hand, since `read_exact` fails where the input ends sooner and `read_to_end` needs the heap.
 fn fill(input: &mut impl Read, buffer: &mut [u8]) -> io::Result<usize>
     ensures { Filled result buffer.new }
 {
