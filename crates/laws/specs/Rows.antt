@@ -2,7 +2,7 @@
 use Rattle.std.specs.Prelude.{◌+◌, ◌*◌, ◌<◌, ◌≤◌, ◌≡◌}
 use Rattle.laws.specs.Kit.{ℕ, zero, suc, refl, sym, ap, ◌∙◌, List, arith, add-one, suc-mul, mul-le-mul_right}
 use Rattle.laws.specs.Kit.{ltb-true, ltb-false, ltb, length, get_or, set, drop, length-set, drop_of_length-le, sets, get_or-set_same}
-use Rattle.laws.specs.{Kit.{get_or-set_other, ext_get_or, drop-cons}, Loop.{cases}, Tab.{tab, tab_from, get_or-tab, length-tab}}
+use Rattle.laws.specs.{Kit.{get_or-set_other, ext_get_or, drop-cons}, Loop.{cases}, Tab.{tab, tab_from, get_or-tab, length-tab, tab-one}}
 use Rattle.laws.specs.{Update.{same_or}, StoresRead.{get_d_sets, get_or_sets_below, get_or_sets_above}}
 
 -- two lists given by functions that agree on the indexes
@@ -13,17 +13,6 @@ tab-same n f g h = go n 0 (λ k l b. h k (omega arith))
     go : (c at : ℕ) → ((k : ℕ) → at ≤ k → k < at + c → f k ≡ g k) → tab_from f c at ≡ tab_from g c at
     go zero at h = refl
     go (suc c) at h = rw (h at (omega arith) (omega arith), go c (suc at) (λ k l b. h k (omega arith) (omega arith)))
-
--- a list given by a function that differs from another at one index
-pub tab-one : {A : Type 0} (n : ℕ) (f g : ℕ → A) (e : ℕ) (a : A) → g e ≡ a → ((k : ℕ) → k < n → (k ≡ e → ⊥) → g k ≡ f k) → tab n g ≡ set (tab n f) e a
-tab-one n f g e a same other =
-    ext_get_or a (tab n g) (set (tab n f) e a)
-    (length-tab g n ∙ sym (length-set (tab n f) e a ∙ length-tab f n))
-    (λ k h. let b : k < n = rw (length-tab g n) at h in
-    let bf : k < length (tab n f) = rw (length-tab f n) b in
-    same_or k e
-    (λ q. rw (get_or-tab g n k a b, q) (same ∙ sym (get_or-set_same (tab n f) e a a (rw q at bf))))
-    (λ q. rw (get_or-tab g n k a b, get_or-set_other (tab n f) e k a a q, get_or-tab f n k a b) (other k b q)))
 
 -- a list is given by its elements
 pub tab_of : (l : List ℕ) → tab (length l) (λ k. get_or l k 0) ≡ l

@@ -1,50 +1,45 @@
 -- A fresh table is the machine's.
 use Rattle.std.specs.Prelude.{◌+◌, ◌*◌, ◌≡◌, Some, None}
-use Rattle.laws.specs.Kit.{ℕ, zero, suc, refl, ◌∙◌, fun_ext, [], none, Bool, true, false, eq-eqb, get_or, replicate, ltb}
+use Rattle.laws.specs.Kit.{ℕ, zero, suc, refl, ◌∙◌, fun_ext, [], none, Bool, true, false, replicate, ltb}
 use Rattle.laws.specs.{Loop.{pick}, Update.{seen1}}
 use Rattle.clock.specs.Vectors.{places, place}
 use Rattle.machine.specs.Table as machine
 use Rattle.machine.specs.Steps as steps
 use Rattle.table.specs.{declared.Desk.{Desk}, Value.{desk0, all_cells, desk_cells}}
-use Rattle.table.specs.Value.{cell_width, entries, open_width, cell_at, cell-writer, open_at}
+use Rattle.table.specs.Value.{entries, cell0, cell_at, unset_cell, open_at, free_open}
 use Rattle.table.specs.{EntryNames.{free_named}, Model.{model_of, applied_m, clock_m, cells_m, cell_m, opens_m, applied_vec}}
 use Rattle.table.specs.{Model.{clock_vec, state_path}, Link.OpensModel.{Unique, opens-none}}
-use Rattle.table.specs.Beginning.{fresh_desk, fresh_table, begin_table, Begins, zeros-at, place-zeros, free_zeros, unique-zeros}
+use Rattle.table.specs.Beginning.{fresh_desk, fresh_table, begin_table, Begins, same-at, place-zeros, free_zeros, unique-zeros}
 
-module _ {B : Type 0} (g : Desk → B) (b : B) (same : g fresh_desk ≡ b) (none-there : g desk0 ≡ b) where
-  each-fresh : (n i : ℕ) → g (get_or (replicate n fresh_desk) i desk0) ≡ b
-  each-fresh zero i = none-there
-  each-fresh (suc n) zero = same
-  each-fresh (suc n) (suc i) = each-fresh n i
-
-  all-fresh : (n i : ℕ) → seen1 g (replicate n fresh_desk) desk0 i ≡ b
-  all-fresh n zero = none-there
-  all-fresh n (suc i) = each-fresh n i
+all-fresh : {B : Type 0} (g : Desk → B) (b : B) → g fresh_desk ≡ b → g desk0 ≡ b → (n i : ℕ) → seen1 g (replicate n fresh_desk) desk0 i ≡ b
+all-fresh g b p q n zero = q
+all-fresh g b p q n (suc i) = same-at g fresh_desk desk0 b p q n i
 
 fresh_vec : (g : Desk → machine.Vec) → g fresh_desk ≡ place (replicate places 0) → g desk0 ≡ place [] → (n : ℕ) → seen1 g (replicate n fresh_desk) desk0 ≡ (λ i. machine.zeros)
 fresh_vec g a b n =
     fun_ext (λ i. all-fresh g machine.zeros (a ∙ place-zeros places) (b ∙ place-zeros 0) n i)
 
-fresh_cells : (n : ℕ) → cells_m (replicate n 0) ≡ (λ i x. machine.blank)
+blank-at : (n s : ℕ) → cell_m (cell_at (replicate n unset_cell) s) ≡ machine.blank
+unfolding unset_cell
+blank-at = same-at cell_m unset_cell cell0 machine.blank refl refl
+
+fresh_cells : (n : ℕ) → cells_m (replicate n unset_cell) ≡ (λ i x. machine.blank)
 unfolding cells_m
 fresh_cells n = fun_ext (λ i. fun_ext (λ x. go i x))
   where
-    blank-at : (s : ℕ) → cell_m (cell_at (replicate n 0) s) ≡ machine.blank
-    blank-at s = rw (eq-eqb (cell_at (replicate n 0) s).writer 0 (cell-writer (replicate n 0) s ∙ zeros-at n (s * cell_width)))
-
-    go : (i x : ℕ) → cells_m (replicate n 0) i x ≡ machine.blank
+    go : (i x : ℕ) → cells_m (replicate n unset_cell) i x ≡ machine.blank
     go zero x = refl
     go (suc i) zero = refl
     go (suc i) (suc x) =
-        rw (blank-at (i * desk_cells + x)) (same2 (ltb i places) (ltb x desk_cells))
+        rw (blank-at n (i * desk_cells + x)) (same2 (ltb i places) (ltb x desk_cells))
       where
         same2 : (a b : Bool) → pick a (pick b machine.blank machine.blank) machine.blank ≡ machine.blank
         same2 true true = refl
         same2 true false = refl
         same2 false b = refl
 
-fresh-opens : (n : ℕ) → opens_m (replicate n 0) ≡ (λ u k. none)
-fresh-opens n = fun_ext (λ u. fun_ext (λ k. opens-none (replicate n 0) u k (λ e h. free_named (open_at (replicate n 0) e) u k (free_zeros n e))))
+fresh-opens : (n : ℕ) → opens_m (replicate n free_open) ≡ (λ u k. none)
+fresh-opens n = fun_ext (λ u. fun_ext (λ k. opens-none (replicate n free_open) u k (λ e h. free_named (open_at (replicate n free_open) e) u k (free_zeros n e))))
 
 -- "Everything starts at zero and unset."
 pub fresh-model : (n m : ℕ) → model_of (fresh_table n m) ≡ machine.fresh n m
@@ -53,12 +48,12 @@ fresh-model n m =
     state_path (model_of (fresh_table n m)) (machine.fresh n m) refl
     (fresh_vec applied_vec refl refl places)
     (fresh_vec clock_vec refl refl places)
-    (fresh_cells (all_cells * cell_width))
-    (fresh-opens (entries * open_width))
+    (fresh_cells all_cells)
+    (fresh-opens entries)
 
 unique-fresh : (n m : ℕ) → Unique (fresh_table n m).opens
 unfolding fresh_table
-unique-fresh n m = unique-zeros (entries * open_width)
+unique-fresh n m = unique-zeros entries
 
 pub begins-yes : (n m : ℕ) → steps.begins n m ≡ true → Begins n m (Some (fresh_table n m))
 unfolding begin_table steps.begin

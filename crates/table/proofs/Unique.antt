@@ -5,7 +5,7 @@ use Rattle.laws.specs.{Loop.{cases}}
 use Rattle.clock.specs.Vectors.{place, place_ext}
 use Rattle.machine.specs.Table as machine
 use Rattle.table.specs.{declared.Cell.{Cell}, declared.Table.{Table}}
-use Rattle.table.specs.Value.{desk_cells, all_cells, cell_at, FullCell, full-cell_at}
+use Rattle.table.specs.Value.{desk_cells, all_cells, cell_at, FullCell}
 use Rattle.table.specs.{TypeShape.{Shaped}}
 use Rattle.table.specs.{Model.{cell_m, slot, cell_in}}
 use Rattle.table.specs.{Sound.{AllZero, SoundTable}, SameTable.{Same}}
@@ -45,4 +45,4 @@ module _ (a b : Table) (sa : Shaped a) (sb : Shaped b) (ka : SoundTable a) (kb :
   pub same-cells : a.cells ≡ b.cells
   same-cells =
       cells_same a.cells b.cells sa.cells sb.cells
-      (λ s h. cell_same (cell_at a.cells s) (cell_at b.cells s) (full-cell_at a.cells s) (full-cell_at b.cells s) (ka.blanks s h) (kb.blanks s h) (cell-shown s h))
+      (λ s h. cell_same (cell_at a.cells s) (cell_at b.cells s) (sa.cells.each s h) (sb.cells.each s h) (ka.blanks s h) (kb.blanks s h) (cell-shown s h))

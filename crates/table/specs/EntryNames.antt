@@ -69,10 +69,10 @@ found_at p r e f q = rw q at f
 pub found_nothing : (p : ℕ → Bool) (r : Option ℕ) → FoundIn p r → r ≡ None → (e : ℕ) → e < entries → p e ≡ false
 found_nothing p r f q = rw q at f
 
-abbrev pub named_at : List ℕ → ℕ → ℕ → ℕ → Bool
+abbrev pub named_at : List Open → ℕ → ℕ → ℕ → Bool
 named_at l u k e = named u k (open_at l e)
 
-abbrev pub free_at : List ℕ → ℕ → Bool
+abbrev pub free_at : List Open → ℕ → Bool
 free_at l e = is_free (open_at l e)
 
 -- a search that begins at any entry and goes round: each of the j entries that were seen has P

@@ -6,8 +6,8 @@ use Rattle.clock.specs.Vectors.{places, place}
 use Rattle.machine.specs.Table as machine
 use Rattle.machine.specs.Rules.{In}
 use Rattle.table.specs.{declared.Cell.{Cell}, declared.Core.{Core}, declared.Desk.{Desk}, declared.Open.{Open}}
-use Rattle.table.specs.{declared.Table.{Table}, Value.{desk0, desk_cells, all_cells, cell_width, cell_at, put_cell, cell_at_put}}
-use Rattle.table.specs.{Value.{cell_at-other, FullCell, entries_of}, EntryNames.{named}}
+use Rattle.table.specs.{declared.Table.{Table}, Value.{desk0, desk_cells, all_cells, cell_at, put_cell, cell_at_put}}
+use Rattle.table.specs.{Value.{cell_at-other, entries_of}, EntryNames.{named}}
 
 abbrev pub applied_vec : Desk → machine.Vec
 applied_vec d = place d.applied
@@ -28,24 +28,24 @@ applied_m ds = seen1 applied_vec ds desk0
 unfoldable pub clock_m : List Desk → ℕ → machine.Vec
 clock_m ds = seen1 clock_vec ds desk0
 
--- cell x of desk i stands in row (i - 1) * 64 + (x - 1)
+-- cell x of desk i stands at (i - 1) * 64 + (x - 1)
 abbrev pub slot : ℕ → ℕ → ℕ
 slot i x = (i - 1) * desk_cells + (x - 1)
 
-unfoldable pub cells_m : List ℕ → ℕ → ℕ → machine.Cell
+unfoldable pub cells_m : List Cell → ℕ → ℕ → machine.Cell
 cells_m l zero x = machine.blank
 cells_m l (suc i) zero = machine.blank
 cells_m l (suc i) (suc x) = pick (ltb i places) (pick (ltb x desk_cells) (cell_m (cell_at l (i * desk_cells + x))) machine.blank) machine.blank
 
-unfoldable pub opens_m : List ℕ → ℕ → ℕ → Option machine.Open
+unfoldable pub opens_m : List Open → ℕ → ℕ → Option machine.Open
 opens_m l u k = first_of (named u k) open_m (entries_of l)
 
 -- a core, and the two arrays that are lent beside it
-abbrev pub table_with : Core → List ℕ → List ℕ → Table
+abbrev pub table_with : Core → List Cell → List Open → Table
 table_with c cs os = record { core = c; cells = cs; opens = os }
 
 -- the same of loose parts
-abbrev pub table_of : ℕ → ℕ → List Desk → List ℕ → List ℕ → Table
+abbrev pub table_of : ℕ → ℕ → List Desk → List Cell → List Open → Table
 table_of n m ds cs os = table_with (record { n = n; m = m; desks = ds }) cs os
 
 abbrev pub model_of : Table → machine.State
@@ -57,7 +57,7 @@ model_of t = record {
   opens = opens_m t.opens;
 }
 
-abbrev pub model : ℕ → ℕ → List Desk → List ℕ → List ℕ → machine.State
+abbrev pub model : ℕ → ℕ → List Desk → List Cell → List Open → machine.State
 model n m ds cs os = model_of (table_of n m ds cs os)
 
 -- two states with the same parts
@@ -99,7 +99,7 @@ module _ (ds : List Desk) (i : ℕ) (h : In (length ds) i) where
 
 -- Cells --
 
-pub cell_in : (l : List ℕ) (i x : ℕ) → In places i → In desk_cells x → cells_m l i x ≡ cell_m (cell_at l (slot i x))
+pub cell_in : (l : List Cell) (i x : ℕ) → In places i → In desk_cells x → cells_m l i x ≡ cell_m (cell_at l (slot i x))
 unfolding cells_m
 cell_in l zero x hi hx = absurd (omega (arith, hi.0))
 cell_in l (suc i) zero hi hx = absurd (omega (arith, hx.0))
@@ -108,7 +108,7 @@ cell_in l (suc i) (suc x) hi hx =
     let b : suc x - 1 ≡ x = omega arith in
     rw (a, b, lt-ltb i places hi.1, lt-ltb x desk_cells hx.1)
 
-pub cell_out : (l : List ℕ) (i x : ℕ) → (In places i → In desk_cells x → ⊥) → cells_m l i x ≡ machine.blank
+pub cell_out : (l : List Cell) (i x : ℕ) → (In places i → In desk_cells x → ⊥) → cells_m l i x ≡ machine.blank
 unfolding cells_m
 cell_out l zero x out = refl
 cell_out l (suc i) zero out = refl
@@ -119,7 +119,7 @@ cell_out l (suc i) (suc x) out =
     (λ b. rw (a, b)))
     (λ a. rw a)
 
-module _ (l : List ℕ) (i x : ℕ) (c : Cell) (hi : In places i) (hx : In desk_cells x) (full : FullCell c) (size : length l ≡ all_cells * cell_width) where
+module _ (l : List Cell) (i x : ℕ) (c : Cell) (hi : In places i) (hx : In desk_cells x) (size : length l ≡ all_cells) where
   apart_slot : (j y : ℕ) → In places j → In desk_cells y → (j ≡ i → y ≡ x → ⊥) → slot j y ≡ slot i x → ⊥
   apart_slot j y hj hy ne q = ne (omega (arith, hi.0, hj.0, hx.0, hx.1, hy.0, hy.1)) (omega (arith, hi.0, hj.0, hx.0, hx.1, hy.0, hy.1))
 
@@ -135,7 +135,7 @@ module _ (l : List ℕ) (i x : ℕ) (c : Cell) (hi : In places i) (hx : In desk_
       (λ t. rw (
         s,
         t,
-        cell_at-other l (slot i x) c full (j * desk_cells + y)
+        cell_at-other l (slot i x) c (j * desk_cells + y)
             (rw (a, b) at (apart_slot (suc j) (suc y) (omega arith, ltb-true j places s) (omega arith, ltb-true y desk_cells t) ne)),
       ))
       (λ t. rw (s, t)))
@@ -146,5 +146,5 @@ module _ (l : List ℕ) (i x : ℕ) (c : Cell) (hi : In places i) (hx : In desk_
   cell_put =
       upd2-is (cells_m l) i x (cell_m c) (cells_m (put_cell l (slot i x) c))
       (cell_in (put_cell l (slot i x) c) i x hi hx
-      ∙ ap cell_m (cell_at_put l (slot i x) c full (omega (arith, hi.0, hi.1, hx.0, hx.1)) size))
+      ∙ ap cell_m (cell_at_put l (slot i x) c (omega (arith, hi.0, hi.1, hx.0, hx.1)) size))
       other

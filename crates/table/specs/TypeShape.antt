@@ -1,8 +1,8 @@
 -- What the types tell of the lists within a table.
-use Rattle.std.specs.Prelude.{◌<◌, ◌*◌, ◌≡◌}
+use Rattle.std.specs.Prelude.{◌<◌, ◌≡◌}
 use Rattle.laws.specs.Kit.{ℕ, List, get_or, length}
 use Rattle.clock.specs.Vectors.{places}
-use Rattle.table.specs.{declared.Desk.{Desk}, declared.Table.{Table}, Value.{desk0, all_cells, cell_width, entries, open_width}}
+use Rattle.table.specs.{declared.Desk.{Desk}, declared.Table.{Table}, Value.{desk0, CellsShape, OpensShape}}
 
 pub record DeskShape (d : Desk) : Type 0 where
   pub applied : length d.applied ≡ places
@@ -14,5 +14,5 @@ pub record DesksShape (ds : List Desk) : Type 0 where
 
 pub record Shaped (t : Table) : Type 0 where
   pub desks : DesksShape t.core.desks
-  pub cells : length t.cells ≡ all_cells * cell_width
-  pub opens : length t.opens ≡ entries * open_width
+  pub cells : CellsShape t.cells
+  pub opens : OpensShape t.opens

@@ -1,45 +1,32 @@
-// The table: a small core by value, and two flat arrays of numbers that are lent.
+// The table: a small core by value, and two arrays that are lent: every desk's cells, and the entries for open writes.
 #![tactic(auto)]
 
-ghost use Rattle.std.specs.Prelude.{◌≡◌, ℕ, ◌+◌, ◌-◌, ◌*◌, ◌<◌, ◌≤◌, get_or, set, length, true, false};
-ghost use Rattle.std.proofs.lemmas.List.Edits.{sets};
-ghost use Rattle.laws.specs.Rows.{numbers_from};
+ghost use Rattle.std.specs.Prelude.{◌≡◌, ℕ, ◌<◌, ◌≤◌, true, false};
 ghost use Rattle.clock.specs.Vectors.{places, place};
 ghost use Rattle.machine.specs.Rules.{In};
 ghost use Rattle.machine.specs.Steps.{everywhere, within, begins};
-ghost use Rattle.table.specs.Value.{desk_cells, all_cells, entries, cell_at, CellPut, open_at, OpenPut, MarkPut, Freed};
+ghost use Rattle.table.specs.Value.{desk_cells, all_cells, entries, CellsShape, open_at, FullOpen, OpensShape, MarkPut};
 ghost use Rattle.table.specs.TypeShape.{DesksShape, Shaped};
 ghost use Rattle.table.specs.EntryNames.{named_at, free_at, FoundBy, FoundIn};
 ghost use Rattle.table.specs.Model.{open_m, slot};
 ghost use Rattle.table.specs.Beginning.{fresh_table, begin_table, Begins};
 
 use clock::{Clock, PLACES};
-use std::array;
 
 // Cells to a desk.
 pub const CELLS: usize = 64;
-// Where the vector begins in a cell: behind writer and status.
-const CELL_VECTOR: usize = 2;
-// Numbers to a cell.
-pub const CELL: usize = CELL_VECTOR + PLACES;
 // Entries for open writes.
 pub const OPENS: usize = 64;
-// Where the vector begins in an entry: behind writer, status and cell; the marks stand behind it.
-const OPEN_VECTOR: usize = 3;
-
-const MARKS: usize = OPEN_VECTOR + PLACES;
-// Numbers to an entry.
-pub const OPEN: usize = MARKS + PLACES;
 // The mark of a desk that holds an open write, and of one that has applied it; 0 where it was not received.
 pub const HELD: u16 = 1;
 
 pub const DONE: u16 = 2;
 // The largest status.
 pub const MOST_STATUS: usize = 2;
-// The two lent arrays: every desk's cells, and the entries for open writes.
-pub type Cells = [u16; PLACES * CELLS * CELL];
+// The two lent arrays.
+pub type Cells = [Cell; PLACES * CELLS];
 
-pub type Opens = [u16; OPENS * OPEN];
+pub type Opens = [Open; OPENS];
 
 #[derive(Clone, Copy, Debug, PartialEq, Eq)]
 pub struct Desk {
@@ -72,6 +59,24 @@ pub struct Open {
     pub marks: [u16; PLACES],
 }
 
+impl Cell {
+    pub const UNSET: Cell = Cell {
+        writer: 0,
+        status: 0,
+        vector: [0; PLACES],
+    };
+}
+
+impl Open {
+    pub const FREE: Open = Open {
+        writer: 0,
+        status: 0,
+        cell: 0,
+        vector: [0; PLACES],
+        marks: [0; PLACES],
+    };
+}
+
 #[derive(Clone, Copy, Debug, PartialEq, Eq)]
 pub struct Table {
     pub core: Core,
@@ -79,35 +84,46 @@ pub struct Table {
     pub opens: Opens,
 }
 
-// The PLACES numbers from a place on, of either array.
-fn places_at(l: &[u16], at: usize) -> [u16; PLACES]
-    requires { at + places ≤ length l.now }
-    ensures { result ≡ numbers_from l.now at places }
-{
-    array::from_fn(|t| l[at + t])
-}
-
-fn put_places(l: &mut [u16], at: usize, v: [u16; PLACES])
-    requires { at + places ≤ length l.old }
-    ensures l_after { l.new ≡ sets l.old at v }
-    ensures v_len { length v ≡ places }
-{
-    l[at..at + PLACES].copy_from_slice(&v);
-}
-
 // Kept, though they do nothing: what a type says of arrays within a struct the search does not find; here it is proved, once.
+// What a reference leads to says less than a value, hence the copies, which the compiler drops.
 
 pub fn desks_shape(desks: [Desk; PLACES])
     ensures { DesksShape desks }
 {}
 
+fn cell_values(cells: Cells)
+    ensures { CellsShape cells }
+{}
+
+fn open_values(opens: Opens)
+    ensures { OpensShape opens }
+{}
+
+pub fn open_shape(o: Open)
+    ensures { FullOpen o }
+{}
+
+pub fn cells_shape(cells: &Cells)
+    ensures { CellsShape cells.now }
+{
+    cell_values(*cells);
+}
+
+pub fn opens_shape(opens: &Opens)
+    ensures { OpensShape opens.now }
+{
+    open_values(*opens);
+}
+
 pub fn table_shape(t: Table)
     ensures { Shaped t }
 {
     desks_shape(t.core.desks);
+    cell_values(t.cells);
+    open_values(t.opens);
 }
 
-// Cells: row s holds cell x of desk i, s = (i - 1) * CELLS + (x - 1).
+// Cell x of desk i stands at s, s = (i - 1) * CELLS + (x - 1).
 
 pub fn slot_of(i: usize, x: usize) -> usize
     requires { (In places i) × (In desk_cells x) }
@@ -116,100 +132,15 @@ pub fn slot_of(i: usize, x: usize) -> usize
     (i - 1) * CELLS + (x - 1)
 }
 
-pub fn cell_at(cells: &Cells, s: usize) -> Cell
-    requires { s < all_cells }
-    ensures { result ≡ cell_at cells.now s }
-{
-    let at = s * CELL;
-    Cell {
-        writer: cells[at],
-        status: cells[at + 1],
-        vector: places_at(cells, at + CELL_VECTOR),
-    }
-}
-
-pub fn put_cell(cells: &mut Cells, s: usize, c: Cell)
-    requires { s < all_cells }
-    ensures { CellPut cells.old s c cells.new }
-{
-    let at = s * CELL;
-    cells[at] = c.writer;
-    cells[at + 1] = c.status;
-    put_places(cells, at + CELL_VECTOR, c.vector);
-}
-
 // Open writes: entries from 0; desks and places within an entry from 0.
 
-pub fn open_at(opens: &Opens, e: usize) -> Open
-    requires { e < entries }
-    ensures { result ≡ open_at opens.now e }
-{
-    let at = e * OPEN;
-    Open {
-        writer: opens[at],
-        status: opens[at + 1],
-        cell: opens[at + 2],
-        vector: places_at(opens, at + OPEN_VECTOR),
-        marks: places_at(opens, at + MARKS),
-    }
-}
-
-pub fn put_open(opens: &mut Opens, e: usize, o: Open)
-    requires { e < entries }
-    ensures { OpenPut opens.old e o opens.new }
-{
-    let at = e * OPEN;
-    opens[at] = o.writer;
-    opens[at + 1] = o.status;
-    opens[at + 2] = o.cell;
-    put_places(opens, at + OPEN_VECTOR, o.vector);
-    put_places(opens, at + MARKS, o.marks);
-}
-
-// 0 where the entry is free.
-fn writer_at(opens: &Opens, e: usize) -> u16
-    requires { e < entries }
-    ensures { result ≡ (open_at opens.now e).writer }
-{
-    opens[e * OPEN]
-}
-
-pub fn vector_at(opens: &Opens, e: usize) -> [u16; PLACES]
-    requires { e < entries }
-    ensures { result ≡ (open_at opens.now e).vector }
-{
-    places_at(opens, e * OPEN + OPEN_VECTOR)
-}
-
-// One place of the vector.
-fn place_at(opens: &Opens, e: usize, t: usize) -> u16
-    requires { (e < entries) × (t < places) }
-    ensures { result ≡ get_or (open_at opens.now e).vector t 0 }
-{
-    opens[e * OPEN + (OPEN_VECTOR + t)]
-}
-
-pub fn mark_at(opens: &Opens, e: usize, i: usize) -> u16
-    requires { (e < entries) × (i < places) }
-    ensures { result ≡ get_or (open_at opens.now e).marks i 0 }
-{
-    opens[e * OPEN + (MARKS + i)]
-}
-
-#[tactic(auto, unfolding(crate::specs::Value::put_mark))]
+// A mark stored. Kept: the caller learns here, from the type, that the entry has a mark of each desk.
 pub fn put_mark(opens: &mut Opens, e: usize, i: usize, k: u16)
     requires { (e < entries) × (i < places) }
     ensures { MarkPut opens.old e i k opens.new }
 {
-    opens[e * OPEN + (MARKS + i)] = k;
-}
-
-#[tactic(auto, unfolding(crate::specs::Value::free_entry))]
-pub fn set_free(opens: &mut Opens, e: usize)
-    requires { e < entries }
-    ensures { Freed opens.old e opens.new }
-{
-    opens[e * OPEN] = 0;
+    open_shape(opens[e]);
+    opens[e].marks[i] = k;
 }
 
 // Has every desk of the n applied entry e?
@@ -217,7 +148,7 @@ pub fn all_applied(opens: &Opens, e: usize, n: usize) -> bool
     requires { (e < entries) × (n ≤ places) }
     ensures { result ≡ everywhere n (open_m (open_at opens.now e)) }
 {
-    (0..n).all(|i| mark_at(opens, e, i) == DONE)
+    (0..n).all(|i| opens[e].marks[i] == DONE)
 }
 
 // The number at place u, from 1, and 0 where there is none.
@@ -242,7 +173,7 @@ pub fn holds(opens: &Opens, e: usize, u: usize, k: u16) -> bool
     requires { (e < entries) × (In places u) }
     ensures { result ≡ named_at opens.now u k e }
 {
-    usize::from(writer_at(opens, e)) == u && place_at(opens, e, u - 1) == k
+    usize::from(opens[e].writer) == u && opens[e].vector[u - 1] == k
 }
 
 // The first entry that passes, from entry first on and round.
@@ -272,7 +203,7 @@ pub fn find(opens: &Opens, u: usize, k: u16) -> Option<usize>
 pub fn find_free(opens: &Opens, u: usize, k: u16) -> Option<usize>
     ensures { FoundIn (free_at opens.now) result }
 {
-    search_from(start(u, k), |e| writer_at(opens, e) == 0)
+    search_from(start(u, k), |e| opens[e].writer == 0)
 }
 
 // Every desk's counts and clock at zero.
@@ -298,8 +229,8 @@ pub fn fresh(n: usize, m: usize) -> Table
 {
     Table {
         core: fresh_core(n, m),
-        cells: [0; PLACES * CELLS * CELL],
-        opens: [0; OPENS * OPEN],
+        cells: [Cell::UNSET; PLACES * CELLS],
+        opens: [Open::FREE; OPENS],
     }
 }
 
