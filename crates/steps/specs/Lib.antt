@@ -1,3 +1,4 @@
+pub mod Turn
 pub mod Stepped
 pub mod Unique
 pub mod Link

@@ -69,7 +69,7 @@ used-is (x ∷ l) n most q w =
 
 -- of a table that keeps the rules
 module _ {whole : Table} (ok : SoundTable whole) where
-  abbrev os : List ℕ
+  abbrev os : List Open
   os = whole.opens
 
   open_is : count in_use (entries_of os) ≡ open_count (model_of whole)

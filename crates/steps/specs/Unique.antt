@@ -1,18 +1,18 @@
 -- The contracts of the four steps leave one outcome: the answer, the desk and the cells as values, and the names beside the answer. Of the open
 -- writes it is the set: document 01 leaves open which entry holds one.
-use Rattle.std.specs.Prelude.{◌-◌, ◌*◌, ◌≡◌}
-use Rattle.laws.specs.Kit.{ℕ, refl, sym, ap, ◌∙◌, inl, true, List, [], arith, length, get_or, length-set, get_or-set_same}
+use Rattle.std.specs.Prelude.{◌-◌, ◌≡◌}
+use Rattle.laws.specs.Kit.{ℕ, refl, sym, ap, ◌∙◌, inl, true, List, [], arith, get_or, length-set, get_or-set_same}
 use Rattle.laws.specs.{Kit.{get_or-set_other}, Loop.{cases}, Says.{apart}, Update.{same_or}}
 use Rattle.machine.specs.Answer as machine
 use Rattle.machine.specs.{Table.{State}, Rules.{In}, Steps.{Step, Read, Write, Deliver, Trip, within, step}, Paper.{actor}}
 use Rattle.machine.proofs.Refusals.{says-within, refusal-exactly, step_cases}
 use Rattle.reply.specs.{declared.Name.{Name}, declared.Answer.{Answer}, declared.Answer.TheVariants.{Refused}, declared.Refusal.{Refusal}}
 use Rattle.reply.specs.{Meaning.{answer_of, refusal_of, Counted}, Unique.{answer_is, Silent, silent_counted}}
-use Rattle.table.specs.{declared.Core.{Core}, declared.Desk.{Desk}, declared.Table.{Table}, Value.{desk0, all_cells, cell_width, entries}}
-use Rattle.table.specs.{Value.{open_width}, TypeShape.{DeskShape, DesksShape, Shaped}, Model.{model_of, table_of}, Unique.{StandsIn}}
+use Rattle.table.specs.{declared.Cell.{Cell}, declared.Core.{Core}, declared.Desk.{Desk}, declared.Open.{Open}, declared.Table.{Table}}
+use Rattle.table.specs.{Value.{desk0, CellsShape, OpensShape}, TypeShape.{DeskShape, DesksShape, Shaped}, Model.{model_of, table_of}, Unique.{StandsIn}}
 use Rattle.table.specs.Unique.{same-core, same-opens}
 use Rattle.table.proofs.Unique.{same-cells}
-use Rattle.steps.specs.{declared.Turn.{Turn}, Stepped.{Placed, Stepped, put_desk, table_after}, Link.LookStepped.{in_places}}
+use Rattle.steps.specs.{Turn.{Turn}, Stepped.{Placed, Stepped, put_desk, table_after}, Link.LookStepped.{in_places}}
 use Rattle.steps.specs.{Mirror.Look.{SomeLook, Looks}, Mirror.Write.{SomeTable, Writes}, Link.Deliver.{Part, Delivers}}
 
 outside : (s : State) (a : Step) → (In s.setup.desks (actor a) → ⊥) → (step s a).answer ≡ machine.refused machine.no_desk
@@ -35,13 +35,13 @@ pub trip_silent : (s : State) (i : ℕ) (xs : List ℕ) → Silent (step s (Trip
 trip_silent s i xs = step_cases s (Trip i xs) (λ o. Silent o.answer) refused_silent (λ h l e. let z : ◌≡◌ {A = ℕ} 0 1 = cc in omega arith)
 
 -- what the types tell of the desk handed back and the lists left
-pub record LeftShape (d : Desk) (cs os : List ℕ) : Type 0 where
+pub record LeftShape (d : Desk) (cs : List Cell) (os : List Open) : Type 0 where
   pub desk : DeskShape d
-  pub cells : length cs ≡ all_cells * cell_width
-  pub opens : length os ≡ entries * open_width
+  pub cells : CellsShape cs
+  pub opens : OpensShape os
 
 lent_shape : {t : Table} {own : List ℕ} {i : ℕ} {d e : Desk} → Placed t own i d → DeskShape e → LeftShape e t.cells t.opens
-lent_shape p h = record { desk = h; cells = p.cells_size; opens = p.opens_size }
+lent_shape p h = record { desk = h; cells = p.cells_shape; opens = p.opens_shape }
 
 desks_put : {ds : List Desk} {d : Desk} (n i : ℕ) → DesksShape ds → DeskShape d → DesksShape (put_desk n ds i d)
 desks_put {ds} {d} n i s h =
@@ -55,12 +55,12 @@ desks_put {ds} {d} n i s h =
     (λ t. rw t s)
 
 module _ {whole : Table} {own : List ℕ} {i : ℕ} {d : Desk} (p : Placed whole own i d) {a : Step} (who : actor a ≡ i)
-    {d' d'' : Desk} {cs' cs'' os' os'' : List ℕ} {x y : machine.Answer}
+    {d' d'' : Desk} {cs' cs'' : List Cell} {os' os'' : List Open} {x y : machine.Answer}
     (f : Stepped whole i d a d' cs' os' x) (g : Stepped whole i d a d'' cs'' os'' y) (hf : LeftShape d' cs' os') (hg : LeftShape d'' cs'' os'') where
   abbrev n : ℕ
   n = whole.core.n
 
-  shaped : {e : Desk} {l k : List ℕ} → LeftShape e l k → Shaped (table_after whole.core i e l k)
+  shaped : {e : Desk} {l : List Cell} {k : List Open} → LeftShape e l k → Shaped (table_after whole.core i e l k)
   shaped h = record { desks = desks_put n i p.shape h.desk; cells = h.cells; opens = h.opens }
 
   same : model_of (table_after whole.core i d' cs' os') ≡ model_of (table_after whole.core i d'' cs'' os'')
@@ -101,7 +101,7 @@ turn_is {r} {r'} names names' e c c' f g =
 
 -- Read and trip: the whole turn --
 
-look_is : {n m : ℕ} {cs : List ℕ} {i : ℕ} {d : Desk} {a : Step} {r r' : Turn} → SomeLook n m cs i d → actor a ≡ i → ((s : State) → Silent (step s a).answer)
+look_is : {n m : ℕ} {cs : List Cell} {i : ℕ} {d : Desk} {a : Step} {r r' : Turn} → SomeLook n m cs i d → actor a ≡ i → ((s : State) → Silent (step s a).answer)
     → Looks n m cs i d a r → Looks n m cs i d a r' → DeskShape r.desk → DeskShape r'.desk → r ≡ r'
 look_is {n} {m} {cs} {a = a} {r = r} {r' = r'} w who quiet f g hf hg =
     let p = w.placed in
@@ -110,7 +110,7 @@ look_is {n} {m} {cs} {a = a} {r = r} {r' = r'} w who quiet f g hf hg =
     let q = quiet (model_of (table_of n m w.desks cs w.opens)) in
     turn_is [] [] (one-desk p who x y (lent_shape p hf) (lent_shape p hg)) (silent_counted r.answer [] q x.answer_is) (silent_counted r'.answer [] q y.answer_is) x.answer_is y.answer_is
 
-module _ {n m : ℕ} {cs : List ℕ} {i : ℕ} {d : Desk} {r r' : Turn} (w : SomeLook n m cs i d) (hf : DeskShape r.desk) (hg : DeskShape r'.desk) where
+module _ {n m : ℕ} {cs : List Cell} {i : ℕ} {d : Desk} {r r' : Turn} (w : SomeLook n m cs i d) (hf : DeskShape r.desk) (hg : DeskShape r'.desk) where
   pub one-read : {x : ℕ} → Looks n m cs i d (Read i x) r → Looks n m cs i d (Read i x) r' → r ≡ r'
   one-read {x} f g = look_is w refl (λ s. read_silent s i x) f g hf hg
 
@@ -119,14 +119,14 @@ module _ {n m : ℕ} {cs : List ℕ} {i : ℕ} {d : Desk} {r r' : Turn} (w : Som
 
 -- Write and deliver: the turn, the cells, the open writes --
 
-pub record OneOutcome (r r' : Turn) (cs cs' os os' : List ℕ) : Type 0 where
+pub record OneOutcome (r r' : Turn) (cs cs' : List Cell) (os os' : List Open) : Type 0 where
   pub turn : r ≡ r'
   pub cells : cs ≡ cs'
   pub opens : StandsIn os os'
   pub refused : (x : Refusal) → r.answer ≡ Refused x → os ≡ os'
 
 one-outcome : {t : Table} {own : List ℕ} {i : ℕ} {d : Desk} (p : Placed t own i d) {a : Step}
-    (who : actor a ≡ i) {r r' : Turn} {cs' cs'' os' os'' : List ℕ} (names names' : List Name)
+    (who : actor a ≡ i) {r r' : Turn} {cs' cs'' : List Cell} {os' os'' : List Open} (names names' : List Name)
     → LeftShape r.desk cs' os' → LeftShape r'.desk cs'' os'' → Counted r.answer → Counted r'.answer
     → Stepped t i d a r.desk cs' os' (answer_of r.answer names) → Stepped t i d a r'.desk cs'' os'' (answer_of r'.answer names')
     → OneOutcome r r' cs' cs'' os' os''
@@ -137,7 +137,7 @@ one-outcome p who names names' hf hg c c' a b = record {
   refused = λ z e. one-entries p who a b hf hg (refusal_of z) (ap (λ (y : Answer). answer_of y names) e);
 }
 
-pub one-write : {n m : ℕ} {cs os : List ℕ} {i : ℕ} {d : Desk} {x v : ℕ} {r r' : Turn} {cs' cs'' os' os'' : List ℕ} → SomeTable n m cs os i d
+pub one-write : {n m : ℕ} {cs : List Cell} {os : List Open} {i : ℕ} {d : Desk} {x v : ℕ} {r r' : Turn} {cs' cs'' : List Cell} {os' os'' : List Open} → SomeTable n m cs os i d
     → LeftShape r.desk cs' os' → LeftShape r'.desk cs'' os''
     → Writes n m cs os i d (Write i x v) r cs' os' → Writes n m cs os i d (Write i x v) r' cs'' os'' → OneOutcome r r' cs' cs'' os' os''
 one-write {n} {m} {cs} {os} {i} {d} {x} {v} {r} {r'} w hf hg f g =
@@ -148,11 +148,11 @@ one-write {n} {m} {cs} {os} {i} {d} {x} {v} {r} {r'} w hf hg f g =
     (silent_counted r'.answer [] q b.answer_is) a b
 
 -- and the names beside the answer
-pub record OneDelivery (r r' : Turn) (cs cs' os os' : List ℕ) (names names' : List Name) : Type 0 where
+pub record OneDelivery (r r' : Turn) (cs cs' : List Cell) (os os' : List Open) (names names' : List Name) : Type 0 where
   pub outcome : OneOutcome r r' cs cs' os os'
   pub beside : names ≡ names'
 
-pub one_deliver : {n : ℕ} {d : Desk} {own cs os : List ℕ} {names : List Name} {i u k : ℕ} {r r' : Turn} {cs' cs'' os' os'' : List ℕ} {names' names'' : List Name} → Part n d own cs os i
+pub one_deliver : {n : ℕ} {d : Desk} {own : List ℕ} {cs : List Cell} {os : List Open} {names : List Name} {i u k : ℕ} {r r' : Turn} {cs' cs'' : List Cell} {os' os'' : List Open} {names' names'' : List Name} → Part n d own cs os i
     → LeftShape r.desk cs' os' → LeftShape r'.desk cs'' os''
     → Delivers n d own cs os names i u k r cs' os' names' → Delivers n d own cs os names i u k r' cs'' os'' names'' → OneDelivery r r' cs' cs'' os' os'' names' names''
 one_deliver {names' = names'} {names'' = names''} w hf hg f g =

@@ -17,13 +17,13 @@ use Rattle.machine.proofs.Ready.{option_all}
 use Rattle.reply.specs.{declared.Name.{Name}, Meaning.{names_of}, Names.{length-names, names-none, names_more}, Unique.{name_for}}
 use Rattle.std.proofs.lemmas.List.{map-append}
 use Rattle.table.specs.{declared.Cell.{Cell}, declared.Open.{Open}}
-use Rattle.table.specs.Value.{desk_cells, all_cells, cell_width, entries, open_width, cell_at, put_cell, cell_at_put, cell_at-other}
-use Rattle.table.specs.Value.{length-put_cell, FullCell, open_at, put_mark, free_entry, full-open_at, length-put_mark, length-free_entry}
+use Rattle.table.specs.Value.{desk_cells, all_cells, entries, cell_at, put_cell, cell_at_put, cell_at-other, CellsShape, OpensShape}
+use Rattle.table.specs.Value.{shape-put_cell, FullCell, open_at, put_mark, free_entry, shape-put_mark, shape-free_entry}
 use Rattle.table.specs.{EntryNames.{named_at, named-is}, Model.{open_m, slot, cells_m, opens_m, cell_put}, Link.OpensModel.{Unique, opens_at}}
 use Rattle.table.specs.{Link.OpensModel.{opens-mark, unique-mark, open_m-mark, opens_mark_free, unique_mark_free}, Sound.{AllZero}}
 
 -- b with other counts at desk i, other cells and other open writes
-abbrev pub midst : State → ℕ → List ℕ → List ℕ → List ℕ → State
+abbrev pub midst : State → ℕ → List ℕ → List Cell → List Open → State
 midst b i a cs os = record {
   setup = b.setup;
   applied = upd b.applied i (place a);
@@ -33,7 +33,7 @@ midst b i a cs os = record {
 }
 
 -- a desk's counts and the two arrays, part of a table that keeps every rule but that a write held at i may be ready
-pub record Running (b : State) (n i : ℕ) (a own cs os : List ℕ) : Type 0 where
+pub record Running (b : State) (n i : ℕ) (a own : List ℕ) (cs : List Cell) (os : List Open) : Type 0 where
   pub count : b.setup.desks ≡ n
   pub mid : Midway (midst b i a cs os) i
   pub desk : In n i
@@ -41,11 +41,11 @@ pub record Running (b : State) (n i : ℕ) (a own cs os : List ℕ) : Type 0 whe
   pub unique : Unique os
   pub own_counts : (u : ℕ) → In places u → place own u ≡ written (midst b i a cs os) u
   pub counts_size : length a ≡ places
-  pub cells_size : length cs ≡ all_cells * cell_width
-  pub opens_size : length os ≡ entries * open_width
+  pub cells_shape : CellsShape cs
+  pub opens_shape : OpensShape os
 
 -- entry e holds u's next write, and it is ready
-pub record NextReady (n : ℕ) (a os : List ℕ) (u e : ℕ) : Type 0 where
+pub record NextReady (n : ℕ) (a : List ℕ) (os : List Open) (u e : ℕ) : Type 0 where
   pub small : e < entries
   pub holds : named_at os u (suc (place a u)) e ≡ true
   pub is_ready : ready n (place a) u (place (open_at os e).vector) ≡ true
@@ -56,14 +56,14 @@ abbrev pub cell_of_write : Open → Cell
 cell_of_write o = record { writer = o.writer; status = o.status; vector = o.vector }
 
 -- handed back when all n desks have applied it
-abbrev pub closed : ℕ → List ℕ → ℕ → List ℕ
+abbrev pub closed : ℕ → List Open → ℕ → List Open
 closed n l e = pick (everywhere n (open_m (open_at l e))) (free_entry l e) l
 
-pub record AppliedAt (n i e : ℕ) (cs os cs' os' : List ℕ) : Type 0 where
+pub record AppliedAt (n i e : ℕ) (cs : List Cell) (os : List Open) (cs' : List Cell) (os' : List Open) : Type 0 where
   pub cells_are : cs' ≡ put_cell cs (slot i (open_at os e).cell) (cell_of_write (open_at os e))
   pub opens_are : os' ≡ closed n (put_mark os e (i - 1) done) e
 
-module _ {b : State} {n i : ℕ} {a own cs os : List ℕ} (r : Running b n i a own cs os) where
+module _ {b : State} {n i : ℕ} {a own : List ℕ} {cs : List Cell} {os : List Open} (r : Running b n i a own cs os) where
   abbrev s : State
   s = midst b i a cs os
 
@@ -109,7 +109,7 @@ module _ {b : State} {n i : ℕ} {a own cs os : List ℕ} (r : Running b n i a o
     writer-is = (named-is (open_at os e) u k d.holds).1
 
     full : FullCell (cell_of_write (open_at os e))
-    full = record { vector = (full-open_at os e).vector }
+    full = record { vector = (r.opens_shape.each e d.small).vector }
 
     pi : In places i
     pi = in_places i r.desk
@@ -127,41 +127,40 @@ module _ {b : State} {n i : ℕ} {a own cs os : List ℕ} (r : Running b n i a o
             ap (λ (v : Vec). v t)
             (upd_same b.applied i (place (raised a u)) ∙ place-raised a u writer_in.0 (omega (arith, r.counts_size, (in_places u writer_in).1)))
 
-    module _ {cs' os' : List ℕ} (ap' : AppliedAt n i e cs os cs' os') where
+    module _ {cs' : List Cell} {os' : List Open} (ap' : AppliedAt n i e cs os cs' os') where
       celled : cells_m cs' ≡ upd2 (cells_m cs) i (open_at os e).cell (machine.set (open_at os e).status u (place (open_at os e).vector))
       celled =
           let z : (open_at os e).writer ≡ 0 → ⊥ = (λ q. (omega (arith, writer-is, writer_in.0))) in
           rw ap'.cells_are
-          (cell_put cs i (open_at os e).cell (cell_of_write (open_at os e)) pi cell_in_range full r.cells_size
+          (cell_put cs i (open_at os e).cell (cell_of_write (open_at os e)) pi cell_in_range r.cells_shape.count
           ∙ rw (ne_eqb (open_at os e).writer 0 z, writer-is))
 
       -- its entry is freed exactly if all desks have applied it
-      entry_cases : (P : List ℕ → Type 0)
+      entry_cases : (P : List Open → Type 0)
           → (everywhere n (mark w i done) ≡ true → P (free_entry (put_mark os e (i - 1) done) e))
           → (everywhere n (mark w i done) ≡ false → P (put_mark os e (i - 1) done)) → P os'
       entry_cases P f g =
-          let m = open_m-mark os e u k d.small r.opens_size r.unique d.holds i done pi in
+          let m = open_m-mark os e u k d.small r.opens_shape.count (r.opens_shape.each e d.small) r.unique d.holds i done pi in
           cases (everywhere n (mark w i done))
           (λ t. rw (ap'.opens_are, m, t) (f t))
           (λ t. rw (ap'.opens_are, m, t) (g t))
 
       opened : opens_m os' ≡ upd2 (opens_m os) u k (still_open b.setup.desks (mark w i done))
       opened =
-          rw r.count (entry_cases (λ (l : List ℕ). opens_m l ≡ upd2 (opens_m os) u k (still_open n (mark w i done)))
-          (λ t. rw (t, still_open) (opens_mark_free os e u k d.small r.opens_size r.unique d.holds i done pi))
-          (λ t. rw (t, still_open) (opens-mark os e u k d.small r.opens_size r.unique d.holds i done pi)))
+          rw r.count (entry_cases (λ (l : List Open). opens_m l ≡ upd2 (opens_m os) u k (still_open n (mark w i done)))
+          (λ t. rw (t, still_open) (opens_mark_free os e u k d.small r.opens_shape.count (r.opens_shape.each e d.small) r.unique d.holds i done pi))
+          (λ t. rw (t, still_open) (opens-mark os e u k d.small r.opens_shape.count (r.opens_shape.each e d.small) r.unique d.holds i done pi)))
 
       unique-after : Unique os'
       unique-after =
           entry_cases Unique
-          (λ t. unique_mark_free os e u k d.small r.opens_size r.unique d.holds i done pi)
-          (λ t. unique-mark os e u k d.small r.opens_size r.unique d.holds i done pi)
+          (λ t. unique_mark_free os e u k d.small r.opens_shape.count (r.opens_shape.each e d.small) r.unique d.holds i done pi)
+          (λ t. unique-mark os e u k d.small r.opens_shape.count (r.opens_shape.each e d.small) r.unique d.holds i done pi)
 
-      size-after : length os' ≡ entries * open_width
-      size-after =
-          entry_cases (λ (l : List ℕ). length l ≡ entries * open_width)
-          (λ t. length-free_entry (put_mark os e (i - 1) done) e ∙ length-put_mark os e (i - 1) done ∙ r.opens_size)
-          (λ t. length-put_mark os e (i - 1) done ∙ r.opens_size)
+      shape-after : OpensShape os'
+      shape-after =
+          let h = shape-put_mark os e d.small r.opens_shape (i - 1) done in
+          entry_cases OpensShape (λ t. shape-free_entry (put_mark os e (i - 1) done) e d.small h) (λ t. h)
 
       blanks-after : (z : ℕ) → z < all_cells → (cell_at cs' z).writer ≡ 0 → AllZero (cell_at cs' z)
       blanks-after z hz =
@@ -170,8 +169,8 @@ module _ {b : State} {n i : ℕ} {a own cs os : List ℕ} (r : Running b n i a o
           rw ap'.cells_are
           (same_or z x
           (λ p. let b : x < all_cells = omega (arith, pi.0, pi.1, cell_in_range.0, cell_in_range.1) in
-          rw (p, cell_at_put cs x c full b r.cells_size) (λ q. absurd (omega (arith, writer-is, writer_in.0))))
-          (λ p. rw (cell_at-other cs x c full z p) (r.blanks z hz)))
+          rw (p, cell_at_put cs x c b r.cells_shape.count) (λ q. absurd (omega (arith, writer-is, writer_in.0))))
+          (λ p. rw (cell_at-other cs x c z p) (r.blanks z hz)))
 
       pub apply-is : midst b i (raised a u) cs' os' ≡ apply s i u k w
       apply-is = λ j. record { setup = b.setup; applied = counted j; clock = b.clock; cell = celled j; opens = opened j }
@@ -185,8 +184,8 @@ module _ {b : State} {n i : ℕ} {a own cs os : List ℕ} (r : Running b n i a o
         unique = unique-after;
         own_counts = λ t h. r.own_counts t h ∙ sym (apply-written r.mid.frame ready_at_lem t) ∙ sym (ap (λ (x : State). written x t) apply-is);
         counts_size = length-set a (u - 1) (place a u + 1) ∙ r.counts_size;
-        cells_size = rw ap'.cells_are (length-put_cell cs (slot i (open_at os e).cell) (cell_of_write (open_at os e)) ∙ r.cells_size);
-        opens_size = size-after;
+        cells_shape = rw ap'.cells_are (shape-put_cell cs (slot i (open_at os e).cell) (cell_of_write (open_at os e)) full r.cells_shape);
+        opens_shape = shape-after;
       }
 
 -- what is due, on the values --
@@ -196,21 +195,21 @@ due_one a i u none = false
 due_one a i u (some w) = eqb (w.marks i) held && ready places (place a) u w.vector
 
 -- u has more writes than the desk has applied, and its next is held and ready
-unfoldable pub due_in : List ℕ → List ℕ → List ℕ → ℕ → ℕ → Bool
+unfoldable pub due_in : List ℕ → List ℕ → List Open → ℕ → ℕ → Bool
 due_in a own os i u = pick (ltb (place a u) (place own u)) (due_one a i u (opens_m os u (suc (place a u)))) false
 
 -- what the test of one writer yields: the entry, or that nothing is due
-pub record DueAt (a own os : List ℕ) (i u e : ℕ) : Type 0 where
+pub record DueAt (a own : List ℕ) (os : List Open) (i u e : ℕ) : Type 0 where
   pub is_due : due_in a own os i u ≡ true
   pub small : e < entries
   pub holds : named_at os u (suc (place a u)) e ≡ true
   pub is_ready : ready_at a (open_at os e).vector u ≡ true
 
-abbrev pub DueSays : List ℕ → List ℕ → List ℕ → ℕ → ℕ → std.Option ℕ → Type 0
+abbrev pub DueSays : List ℕ → List ℕ → List Open → ℕ → ℕ → std.Option ℕ → Type 0
 DueSays a own os i u (std.Some e) = DueAt a own os i u e
 DueSays a own os i u std.None = due_in a own os i u ≡ false
 
-module _ (a own os : List ℕ) (i u : ℕ) where
+module _ (a own : List ℕ) (os : List Open) (i u : ℕ) where
   pub due-at : (r : std.Option ℕ) (e : ℕ) → DueSays a own os i u r → r ≡ std.Some e → DueAt a own os i u e
   due-at r e f q = rw q at f
 
@@ -237,7 +236,7 @@ module _ (a own os : List ℕ) (i u : ℕ) where
       due-some (open_m (open_at os e)) l (opens_at os e u (suc (place a u)) q h t)
       ∙ ap (λ (x : ℕ). eqb x held && ready_at a (open_at os e).vector u) (place_at (open_at os e).marks i hi ∙ sym p)
 
-module _ {b : State} {n i : ℕ} {a own cs os : List ℕ} (r : Running b n i a own cs os) where
+module _ {b : State} {n i : ℕ} {a own : List ℕ} {cs : List Cell} {os : List Open} (r : Running b n i a own cs os) where
   due-is : (u : ℕ) → In n u → due_in a own os i u ≡ due (midst b i a cs os) i u
   due-is u h =
       rw (here r u) (option_all (λ o. due_in a own os i u ≡ due_open (midst b i a cs os) i u o) (opens_m os u (suc (place a u)))
@@ -310,14 +309,14 @@ unfolding settle
 settle-some f s i u w e o = rw (e, settle_by, o)
 
 -- what all turns give, whole, is the names so far and what follows here: entry e, a write of u, is applied next
-pub record CascadeGoing (whole : Settled) (b : State) (n i : ℕ) (a own cs os : List ℕ) (names₀ names : List Name) (len u e : ℕ) : Type 0 where
+pub record CascadeGoing (whole : Settled) (b : State) (n i : ℕ) (a own : List ℕ) (cs : List Cell) (os : List Open) (names₀ names : List Name) (len u e : ℕ) : Type 0 where
   pub now : Running b n i a own cs os
   pub next : NextReady n a os u e
   pub room : len + left_to_apply (midst b i a cs os) i ≤ most_open
   pub holds : NamesSoFar names₀ len names
   pub same : whole ≡ behind (names_of len names) (from (most_open - len) (midst b i a cs os) i u (open_m (open_at os e)))
 
-pub record Safe (n i : ℕ) (a os : List ℕ) (len u e : ℕ) : Type 0 where
+pub record Safe (n i : ℕ) (a : List ℕ) (os : List Open) (len u e : ℕ) : Type 0 where
   pub count : n ≤ places
   pub desk : In places i
   pub writer : In places u
@@ -328,20 +327,20 @@ pub record Safe (n i : ℕ) (a os : List ℕ) (len u e : ℕ) : Type 0 where
   pub size : length a ≡ places
 
 -- the same once it is applied, before the search
-pub record Gone (whole : Settled) (b : State) (n i : ℕ) (a own cs os : List ℕ) (names₀ names : List Name) (len : ℕ) : Type 0 where
+pub record Gone (whole : Settled) (b : State) (n i : ℕ) (a own : List ℕ) (cs : List Cell) (os : List Open) (names₀ names : List Name) (len : ℕ) : Type 0 where
   pub now : Running b n i a own cs os
   pub room : len + left_to_apply (midst b i a cs os) i ≤ most_open
   pub holds : NamesSoFar names₀ len names
   pub same : whole ≡ behind (names_of len names) (settle (suc (most_open - len)) (midst b i a cs os) i)
 
 -- the end
-pub record Ended (whole : Settled) (b : State) (n i : ℕ) (a own cs os : List ℕ) (names₀ names : List Name) (len : ℕ) : Type 0 where
+pub record Ended (whole : Settled) (b : State) (n i : ℕ) (a own : List ℕ) (cs : List Cell) (os : List Open) (names₀ names : List Name) (len : ℕ) : Type 0 where
   pub now : Running b n i a own cs os
   pub few : len ≤ most_open
   pub holds : NamesSoFar names₀ len names
   pub same : whole ≡ record { names = names_of len names; state = midst b i a cs os }
 
-pub going-starts : {b : State} {n i : ℕ} {a own cs os : List ℕ} {u e : ℕ} (names : List Name) → Running b n i a own cs os → NextReady n a os u e
+pub going-starts : {b : State} {n i : ℕ} {a own : List ℕ} {cs : List Cell} {os : List Open} {u e : ℕ} (names : List Name) → Running b n i a own cs os → NextReady n a os u e
     → CascadeGoing (from most_open (midst b i a cs os) i u (open_m (open_at os e))) b n i a own cs os names names 0 u e
 going-starts {b} {n} {i} {a} {own} {cs} {os} names r d = record {
   now = r;
@@ -351,7 +350,7 @@ going-starts {b} {n} {i} {a} {own} {cs} {os} names r d = record {
   same = rw (names-none names);
 }
 
-module _ {whole : Settled} {b : State} {n i : ℕ} {a own cs os : List ℕ} {names₀ names : List Name} {len u e : ℕ}
+module _ {whole : Settled} {b : State} {n i : ℕ} {a own : List ℕ} {cs : List Cell} {os : List Open} {names₀ names : List Name} {len u e : ℕ}
     (g : CascadeGoing whole b n i a own cs os names₀ names len u e) where
   going-room : len < most_open
   going-room = omega (arith, g.room, apply-left g.now.mid.frame (ready_at_lem g.now g.next))
@@ -381,7 +380,7 @@ module _ {whole : Settled} {b : State} {n i : ℕ} {a own cs os : List ℕ} {nam
       }
 
   -- a turn
-  pub going-applied : {cs' os' : List ℕ} {names' : List Name} → AppliedAt n i e cs os cs' os' → NamePut names len u (place a u + 1) names'
+  pub going-applied : {cs' : List Cell} {os' : List Open} {names' : List Name} → AppliedAt n i e cs os cs' os' → NamePut names len u (place a u + 1) names'
       → Gone whole b n i (raised a u) own cs' os' names₀ names' (len + 1)
   going-applied {cs'} {os'} {names'} t p =
       let is = apply-is g.now g.next t in
@@ -397,13 +396,13 @@ module _ {whole : Settled} {b : State} {n i : ℕ} {a own cs os : List ℕ} {nam
       }
 
   -- as the code stores the count
-  pub going-turn : {cs' os' : List ℕ} {names' : List Name} {v : ℕ} → v ≡ u → AppliedAt n i e cs os cs' os' → NamePut names len v (get_or a (u - 1) 0 + 1) names'
+  pub going-turn : {cs' : List Cell} {os' : List Open} {names' : List Name} {v : ℕ} → v ≡ u → AppliedAt n i e cs os cs' os' → NamePut names len v (get_or a (u - 1) 0 + 1) names'
       → Gone whole b n i (set a (u - 1) (get_or a (u - 1) 0 + 1)) own cs' os' names₀ names' (len + 1)
   going-turn {cs'} {os'} {names'} {v} q t p =
       subst (λ (x : ℕ). NamePut names len u (x + 1) names' → Gone whole b n i (set a (u - 1) (x + 1)) own cs' os' names₀ names' (len + 1))
       (place_at a u going-writer.0) (going-applied t) (rw q at p)
 
-module _ {whole : Settled} {b : State} {n i : ℕ} {a own cs os : List ℕ} {names₀ names : List Name} {len : ℕ}
+module _ {whole : Settled} {b : State} {n i : ℕ} {a own : List ℕ} {cs : List Cell} {os : List Open} {names₀ names : List Name} {len : ℕ}
     (g : Gone whole b n i a own cs os names₀ names len) where
   -- nothing is due
   pub gone_ends : scan (due_in a own os i) some none n 1 ≡ none → Ended whole b n i a own cs os names₀ names len
@@ -437,10 +436,10 @@ module _ {whole : Settled} {b : State} {n i : ℕ} {a own cs os : List ℕ} {nam
 
 -- what the cascade's code needs and does, for every state that the values are a part of --
 
-abbrev pub CascadeStarts : (n i u e : ℕ) (a own cs os : List ℕ) → Type 0
+abbrev pub CascadeStarts : (n i u e : ℕ) (a own : List ℕ) (cs : List Cell) (os : List Open) → Type 0
 CascadeStarts n i u e a own cs os = (b : State) × Running b n i a own cs os × NextReady n a os u e
 
-abbrev pub CascadeDoes : (n i u e : ℕ) (a own cs os : List ℕ) (names : List Name) (a' : List ℕ) (len : ℕ) (cs' os' : List ℕ) (names' : List Name) → Type 0
+abbrev pub CascadeDoes : (n i u e : ℕ) (a own : List ℕ) (cs : List Cell) (os : List Open) (names : List Name) (a' : List ℕ) (len : ℕ) (cs' : List Cell) (os' : List Open) (names' : List Name) → Type 0
 CascadeDoes n i u e a own cs os names a' len cs' os' names' =
     (b : State) → Running b n i a own cs os → NextReady n a os u e
     → Ended (from most_open (midst b i a cs os) i u (open_m (open_at os e))) b n i a' own cs' os' names names' len

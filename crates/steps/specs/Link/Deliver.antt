@@ -10,26 +10,26 @@ use Rattle.machine.specs.{Steps.{Out, Deliver, step}, Rules.{In}, Refusals.{Row,
 use Rattle.machine.proofs.RulesKept.{done-counted}
 use Rattle.machine.proofs.Refusals.{refusal-exactly, accepted-effect, effect_of, deliver_effect}
 use Rattle.machine.specs.Answer as machineAnswer
-use Rattle.reply.specs.{declared.Name.{Name}, declared.Refusal.{Refusal}, Meaning.{refusal_of, answer_of, Counted}}
-use Rattle.table.specs.{declared.Desk.{Desk}, declared.Table.{Table}, Value.{entries, open_at}, EntryNames.{named_at}, Model.{applied_m}}
+use Rattle.reply.specs.{declared.Answer.{Answer}, declared.Name.{Name}, declared.Refusal.{Refusal}, Meaning.{refusal_of, answer_of, Counted}}
+use Rattle.table.specs.{declared.Cell.{Cell}, declared.Desk.{Desk}, declared.Open.{Open}, declared.Table.{Table}, Value.{entries, open_at}, EntryNames.{named_at}, Model.{applied_m}}
 use Rattle.table.specs.{Model.{open_m, cells_m, opens_m, applied_put, clock_keep, model_of, table_of}, Link.OpensModel.{opens_at}}
-use Rattle.steps.specs.declared.Turn.{Turn}
+use Rattle.steps.specs.Turn.{Turn, turned}
 use Rattle.steps.specs.{Stepped.{Placed, names_beside, Stepped}, Link.Cascade.{midst}}
-use Rattle.steps.specs.{Link.DeliverReceive.{Arrival, ReceivesAs, effect}, Mirror.Look.{refused_turn, turn_of}, Link.LookStepped.{in_desks}}
+use Rattle.steps.specs.{Link.DeliverReceive.{Arrival, ReceivesAs, effect}, Mirror.Look.{refused_turn}, Link.LookStepped.{in_desks}}
 use Rattle.steps.specs.{Link.LookStepped.{desk-shape, refused-stepped, taken-stepped}, Link.Look.{counts_start}}
 
 -- the part of a table that a delivery is handed
-abbrev pub Part : (n : ℕ) (d : Desk) (own cs os : List ℕ) (i : ℕ) → Type 0
+abbrev pub Part : (n : ℕ) (d : Desk) (own : List ℕ) (cs : List Cell) (os : List Open) (i : ℕ) → Type 0
 Part n d own cs os i = (m : ℕ) × (ds : List Desk) × Placed (table_of n m ds cs os) own i d
 
 -- the machine's delivery, and the names in the array beside the answer: all else in it stays
-pub record Meets (t : Table) (d : Desk) (names : List Name) (i u k : ℕ) (r : Turn) (cs' os' : List ℕ) (names' : List Name) : Type 0 where
+pub record Meets (t : Table) (d : Desk) (names : List Name) (i u k : ℕ) (r : Turn) (cs' : List Cell) (os' : List Open) (names' : List Name) : Type 0 where
   pub stepped : Stepped t i d (Deliver i u k) r.desk cs' os' (answer_of r.answer names')
   pub names_are : names' ≡ sets names 0 (names_beside (step (model_of t) (Deliver i u k)).answer)
   pub counted : Counted r.answer
 
 -- for every table that these are a part of
-abbrev pub Delivers : (n : ℕ) (d : Desk) (own cs os : List ℕ) (names : List Name) (i u k : ℕ) (r : Turn) (cs' os' : List ℕ) (names' : List Name) → Type 0
+abbrev pub Delivers : (n : ℕ) (d : Desk) (own : List ℕ) (cs : List Cell) (os : List Open) (names : List Name) (i u k : ℕ) (r : Turn) (cs' : List Cell) (os' : List Open) (names' : List Name) → Type 0
 Delivers n d own cs os names i u k r cs' os' names' =
     (m : ℕ) (ds : List Desk) → Placed (table_of n m ds cs os) own i d → Meets (table_of n m ds cs os) d names i u k r cs' os' names'
 
@@ -52,10 +52,10 @@ module _ {whole : Table} {own : List ℕ} {i : ℕ} {d : Desk} (p : Placed whole
   abbrev ds : List Desk
   ds = whole.core.desks
 
-  abbrev cs : List ℕ
+  abbrev cs : List Cell
   cs = whole.cells
 
-  abbrev os : List ℕ
+  abbrev os : List Open
   os = whole.opens
 
   abbrev s : State
@@ -74,8 +74,8 @@ module _ {whole : Table} {own : List ℕ} {i : ℕ} {d : Desk} (p : Placed whole
   }
 
   -- a refusal handed on by `?`
-  pub meets_refused_on : (u k : ℕ) (r : Refusal) {y : Refusal} (names : List Name) (made : Result Turn Refusal) → IsErrAnd made (λ x. x ≡ y) → y ≡ r
-      → FirstFails (rows_of s (Deliver i u k)) (refusal_of r) → Meets whole d names i u k (turn_of d made) cs os names
+  pub meets_refused_on : (u k : ℕ) (r : Refusal) {y : Refusal} (names : List Name) (made : Result Answer Refusal) → IsErrAnd made (λ x. x ≡ y) → y ≡ r
+      → FirstFails (rows_of s (Deliver i u k)) (refusal_of r) → Meets whole d names i u k (turned d made) cs os names
   meets_refused_on u k r names made h e f =
       let q = err_from_is_err_and made h in
       rw (q.1, q.2, e) (meets_refused u k r names f)
@@ -134,7 +134,7 @@ module _ {whole : Table} {own : List ℕ} {i : ℕ} {d : Desk} (p : Placed whole
           opens = s.opens;
         }
 
-        model_is : (d' : Desk) (cs' os' : List ℕ) → d'.clock ≡ d.clock
+        model_is : (d' : Desk) (cs' : List Cell) (os' : List Open) → d'.clock ≡ d.clock
             → model_of (table_of n whole.core.m (set ds (i - 1) d') cs' os') ≡ midst s i d'.applied cs' os'
         model_is d' cs' os' q = λ j. record {
           setup = s.setup;
@@ -155,15 +155,15 @@ module _ {whole : Table} {own : List ℕ} {i : ℕ} {d : Desk} (p : Placed whole
               unique = p.sound.unique;
               own_counts = λ u hu. p.own_counts u hu ∙ sym (ap (λ (x : State). written x u) midst-is);
               counts_size = (desk-shape p hi).applied;
-              cells_size = p.cells_size;
-              opens_size = p.opens_size;
+              cells_shape = p.cells_shape;
+              opens_shape = p.opens_shape;
             };
             small = h;
             named = t;
             is_away = q;
           }
 
-          pub meets_received : {r : Turn} {names : List Name} {cs' os' : List ℕ} {names' : List Name} → ReceivesAs s n i u k e d cs os names r cs' os' names'
+          pub meets_received : {r : Turn} {names : List Name} {cs' : List Cell} {os' : List Open} {names' : List Name} → ReceivesAs s n i u k e d cs os names r cs' os' names'
               → Meets whole d names i u k r cs' os' names'
           meets_received {r} {names} {cs'} {os'} x =
               let w = open_m (open_at os e) in

@@ -1,5 +1,6 @@
 -- A write is received: held or applied, on the values as in the machine.
 use Rattle.std.specs.Prelude.{◌-◌, ◌<◌, ◌≡◌}
+use Rattle.std.specs.Prelude as std
 use Rattle.laws.specs.{Kit.{ℕ, suc, refl, sym, ap, subst, ◌∙◌, List, map, true, Option, some, arith, sets}, Update.{upd_same}}
 use Rattle.clock.specs.{Vectors.{places, place}, Readiness.{ready_at, failing-narrow}}
 use Rattle.machine.specs.Table as machine
@@ -10,13 +11,13 @@ use Rattle.machine.proofs.Ready.{is-none, not-applied}
 use Rattle.machine.proofs.RulesKept.{ReadyAt, ready-next}
 use Rattle.machine.proofs.Apply.{to_be_open}
 use Rattle.reply.specs.{declared.Name.{Name}, Unique.{name_for}, declared.Answer.{Answer}, declared.Answer.TheVariants.{Held, Applied}, Meaning.{answer_of, Counted}}
-use Rattle.table.specs.{declared.Desk.{Desk}, Value.{all_cells, cell_at, entries, open_at, put_mark}, EntryNames.{named_at}}
+use Rattle.table.specs.{declared.Cell.{Cell}, declared.Desk.{Desk}, declared.Open.{Open}, Value.{all_cells, cell_at, entries, open_at, put_mark}, EntryNames.{named_at}}
 use Rattle.table.specs.{Model.{open_m, opens_m}, Link.OpensModel.{Unique, opens_at, opens-mark, unique-mark}, Sound.{AllZero}}
-use Rattle.steps.specs.{declared.Turn.{Turn}, Stepped.{names_beside}, Link.Cascade.{midst, Running, NextReady, CascadeDoes, from}}
+use Rattle.steps.specs.{Turn.{Turn}, Stepped.{names_beside}, Link.Cascade.{midst, Running, NextReady, CascadeDoes, from}}
 use Rattle.steps.specs.Link.Cascade.{in_places, small_n, narrow, flat, here}
 
 -- entry e holds u.k, which desk i has not received
-pub record Arrival (b : State) (n i u k e : ℕ) (a own cs os : List ℕ) : Type 0 where
+pub record Arrival (b : State) (n i u k e : ℕ) (a own : List ℕ) (cs : List Cell) (os : List Open) : Type 0 where
   pub running : Running b n i a own cs os
   pub small : e < entries
   pub named : named_at os u k e ≡ true
@@ -28,11 +29,23 @@ pub record Waits (a v : List ℕ) (u : ℕ) (r : Answer) : Type 0 where
   pub named : failing places (place a) u (place v) ≡ some what
   pub is : r ≡ Held (name_for what)
 
+-- whether there is one
+abbrev pub MissingOf : List ℕ → List ℕ → ℕ → std.Option Name → Type 0
+MissingOf a v u (std.Some w) = Waits a v u (Held w)
+MissingOf a v u std.None = ready_at a v u ≡ true
+
+module _ (a v : List ℕ) (u : ℕ) (r : std.Option Name) (h : MissingOf a v u r) where
+  pub missing-some : {w : Name} → r ≡ std.Some w → Waits a v u (Held w)
+  missing-some e = rw e at h
+
+  pub missing-none : r ≡ std.None → ready_at a v u ≡ true
+  missing-none e = rw e at h
+
 -- what the machine does with it
 abbrev pub effect : State → ℕ → ℕ → ℕ → machine.Open → Out
 effect s i u k w = deliver_by s i u k w (failing s.setup.desks (s.applied i) u w.vector)
 
-pub record ReceivesAs (b : State) (n i u k e : ℕ) (d : Desk) (cs os : List ℕ) (names : List Name) (r : Turn) (cs' os' : List ℕ) (names' : List Name) : Type 0 where
+pub record ReceivesAs (b : State) (n i u k e : ℕ) (d : Desk) (cs : List Cell) (os : List Open) (names : List Name) (r : Turn) (cs' : List Cell) (os' : List Open) (names' : List Name) : Type 0 where
   pub answer_is : answer_of r.answer names' ≡ (effect (midst b i d.applied cs os) i u k (open_m (open_at os e))).answer
   pub state_is : midst b i r.desk.applied cs' os' ≡ (effect (midst b i d.applied cs os) i u k (open_m (open_at os e))).state
   pub clock_is : r.desk.clock ≡ d.clock
@@ -41,10 +54,10 @@ pub record ReceivesAs (b : State) (n i u k e : ℕ) (d : Desk) (cs os : List ℕ
   pub names_are : names' ≡ sets names 0 (names_beside (effect (midst b i d.applied cs os) i u k (open_m (open_at os e))).answer)
   pub counted : Counted r.answer
 
-abbrev pub Arriving : (n i u e : ℕ) (a own cs os : List ℕ) → Type 0
+abbrev pub Arriving : (n i u e : ℕ) (a own : List ℕ) (cs : List Cell) (os : List Open) → Type 0
 Arriving n i u e a own cs os = (b : State) × (k : ℕ) × Arrival b n i u k e a own cs os
 
-abbrev pub ReceivedAs : (n i u e : ℕ) (d : Desk) (own cs os : List ℕ) (names : List Name) (r : Turn) (cs' os' : List ℕ) (names' : List Name) → Type 0
+abbrev pub ReceivedAs : (n i u e : ℕ) (d : Desk) (own : List ℕ) (cs : List Cell) (os : List Open) (names : List Name) (r : Turn) (cs' : List Cell) (os' : List Open) (names' : List Name) → Type 0
 ReceivedAs n i u e d own cs os names r cs' os' names' =
     (b : State) (k : ℕ) → Arrival b n i u k e d.applied own cs os → ReceivesAs b n i u k e d cs os names r cs' os' names'
 
@@ -52,7 +65,7 @@ ReceivedAs n i u e d own cs os names r cs' os' names' =
 abbrev pub with_counts : Desk → List ℕ → Desk
 with_counts d a = record { applied = a; clock = d.clock }
 
-module _ {b : State} {n i u k e : ℕ} {a own cs os : List ℕ} (r : Arrival b n i u k e a own cs os) where
+module _ {b : State} {n i u k e : ℕ} {a own : List ℕ} {cs : List Cell} {os : List Open} (r : Arrival b n i u k e a own cs os) where
   abbrev s : State
   s = midst b i a cs os
 
@@ -101,7 +114,7 @@ module _ {b : State} {n i u k e : ℕ} {a own cs os : List ℕ} (r : Arrival b n
       (sym (failing-narrow n places (place a) u w.vector (flat r.running u k w stands_open) writer_in.1 (small_n r.running)) ∙ f)
 
 -- it is applied, and the cascade runs
-pub received-ready : {b : State} {n i u k e : ℕ} {own cs os : List ℕ} {names : List Name} {a' cs' os' : List ℕ} {names' : List Name} {len : ℕ} (d : Desk) → Arrival b n i u k e d.applied own cs os
+pub received-ready : {b : State} {n i u k e : ℕ} {own : List ℕ} {cs : List Cell} {os : List Open} {names : List Name} {a' : List ℕ} {cs' : List Cell} {os' : List Open} {names' : List Name} {len : ℕ} (d : Desk) → Arrival b n i u k e d.applied own cs os
     → ready_at d.applied (open_at os e).vector u ≡ true → CascadeDoes n i u e d.applied own cs os names a' len cs' os' names'
     → ReceivesAs b n i u k e d cs os names (record { desk = with_counts d a'; answer = Applied len }) cs' os' names'
 received-ready {b} {n} {i} {u} {k} {e} {own} {cs} {os} {names} {len = len} d r h f =
@@ -119,7 +132,7 @@ received-ready {b} {n} {i} {u} {k} {e} {own} {cs} {os} {names} {len = len} d r h
     }
 
 -- it is held
-pub received-held : {b : State} {n i u k e : ℕ} {own cs os : List ℕ} {os' : List ℕ} (names : List Name) {x : Answer} (d : Desk) → Arrival b n i u k e d.applied own cs os
+pub received-held : {b : State} {n i u k e : ℕ} {own : List ℕ} {cs : List Cell} {os : List Open} {os' : List Open} (names : List Name) {x : Answer} (d : Desk) → Arrival b n i u k e d.applied own cs os
     → Waits d.applied (open_at os e).vector u x → os' ≡ put_mark os e (i - 1) held
     → ReceivesAs b n i u k e d cs os names (record { desk = d; answer = x }) cs os' names
 received-held {b} {n} {i} {u} {k} {e} {own} {cs} {os} {os'} names {x} d r f p =
@@ -128,7 +141,7 @@ received-held {b} {n} {i} {u} {k} {e} {own} {cs} {os} {os'} names {x} d r f p =
       state_is = rw z same;
       clock_is = refl;
       blanks = g.blanks;
-      unique = rw p (unique-mark os e u k r.small g.opens_size g.unique r.named i held (in_places g i g.desk));
+      unique = rw p (unique-mark os e u k r.small g.opens_shape.count (g.opens_shape.each e r.small) g.unique r.named i held (in_places g i g.desk));
       names_are = rw z;
       counted = λ c y. let q : Held (name_for f.what) ≡ Applied c = sym f.is ∙ y in let w : ◌≡◌ {A = ℕ} 0 1 = cc in absurd (omega arith);
     }
@@ -142,4 +155,4 @@ received-held {b} {n} {i} {u} {k} {e} {own} {cs} {os} {os'} names {x} d r f p =
     same : midst b i d.applied cs os' ≡ hold (midst b i d.applied cs os) i u k (open_m (open_at os e))
     same =
         ap (λ (o : ℕ → ℕ → Option machine.Open). with_opens (midst b i d.applied cs os) o)
-        (rw p (opens-mark os e u k r.small g.opens_size g.unique r.named i held (in_places g i g.desk)))
+        (rw p (opens-mark os e u k r.small g.opens_shape.count (g.opens_shape.each e r.small) g.unique r.named i held (in_places g i g.desk)))

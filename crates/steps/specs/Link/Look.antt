@@ -8,7 +8,7 @@ use Rattle.machine.specs.Steps.{Step, Read, read_clock, with_clock}
 use Rattle.machine.specs.Refusals.{rows_of, AllPass}
 use Rattle.machine.proofs.Refusals.{effect_of}
 use Rattle.clock.specs.{declared.Clock.{Clock}, Vectors.{places, place, joined, join_clock, place-joined}}
-use Rattle.table.specs.{declared.Cell.{Cell}, declared.Desk.{Desk}, declared.Table.{Table}, Value.{cell_at, full-cell_at, FullCell}}
+use Rattle.table.specs.{declared.Cell.{Cell}, declared.Desk.{Desk}, declared.Table.{Table}, Value.{cell_at, FullCell}}
 use Rattle.table.specs.Model.{cell_m, slot, clock_m, cells_m, opens_m, clock_vec, cell_in, clock-at, clock_put, applied_keep, model_of, table_of}
 use Rattle.table.specs.{Model.{applied_m, applied_vec, applied-at}, Sound.{AllZero}}
 use Rattle.reply.specs.Meaning.{answer_of}
@@ -32,7 +32,7 @@ unfolding shown_cell
 shown-cell c = cases (eqb c.writer 0) (λ t. rw t) (λ t. rw t)
 
 module _ {t : Table} {own : List ℕ} {i : ℕ} {d : Desk} (p : Placed t own i d) (hi : In t.core.n i) where
-  abbrev cs : List ℕ
+  abbrev cs : List Cell
   cs = t.cells
 
   pub counts_start : applied_m t.core.desks i ≡ place d.applied
@@ -68,4 +68,4 @@ module _ {t : Table} {own : List ℕ} {i : ℕ} {d : Desk} (p : Placed t own i d
       clock-stepped (Read i x) (join_clock d.clock c.vector) (answer_of (shown_cell c) []) (hi, (hx, tt))
       (shown-cell c ∙ rw (cell-here hx))
       (ap (λ (v : states.Vec). with_clock (model_of t) i v)
-      (join-cell d.clock.at c (desk-shape p hi).clock (full-cell_at cs (slot i x)) (blank-here hx) ∙ rw (clock-start, cell-here hx)))
+      (join-cell d.clock.at c (desk-shape p hi).clock (p.cells_shape.each (slot i x) (omega (arith, in_places p hi, in_cells p hx))) (blank-here hx) ∙ rw (clock-start, cell-here hx)))

@@ -10,10 +10,10 @@ use Rattle.machine.specs.Steps.{Trip, read_clock}
 use Rattle.machine.specs.Steps.{read, with_clock, shown_at, reads, has_status, verdict}
 use Rattle.machine.specs.Answer as machine
 use Rattle.clock.specs.Vectors.{places, place, length-joined}
-use Rattle.table.specs.{declared.Cell.{Cell}, declared.Desk.{Desk}, declared.Table.{Table}, Value.{cell_at, full-cell_at}, Model.{cell_m}}
+use Rattle.table.specs.{declared.Cell.{Cell}, declared.Desk.{Desk}, declared.Table.{Table}, Value.{cell_at}, Model.{cell_m}}
 use Rattle.table.specs.Model.{slot, cells_m, model_of}
 use Rattle.reply.specs.Meaning.{answer_of}
-use Rattle.steps.specs.{declared.look.Seen.{Seen}, Stepped.{Placed, Stepped}, Link.LookStepped.{desk-shape}}
+use Rattle.steps.specs.{declared.look.Seen.{Seen}, Stepped.{Placed, Stepped}, Link.LookStepped.{in_places, in_cells, desk-shape}}
 use Rattle.steps.specs.{Mirror.Trip.{seen_nothing, see_cell, see_all, verdict_of, trip_turn}, Link.Look.{Blank0, join-cell, clock-start}}
 use Rattle.steps.specs.Link.Look.{cell-here, blank-here, clock-stepped}
 
@@ -61,7 +61,7 @@ verdict_pick l =
 -- the code's loop, by what the machine's cells show --
 
 module _ {whole : Table} {own : List ℕ} {i : ℕ} {d : Desk} (p : Placed whole own i d) (hi : In whole.core.n i) where
-  abbrev cs : List ℕ
+  abbrev cs : List Cell
   cs = whole.cells
 
   abbrev Inside : List ℕ → Type 0
@@ -80,7 +80,7 @@ module _ {whole : Table} {own : List ℕ} {i : ℕ} {d : Desk} (p : Placed whole
       let hx = h x (Memᴰ-head refl) in
       let c = cell_at cs (slot i x) in
       seen-clock (see_cell s c) xs (length-joined s.clock.at c.vector ∙ l) (λ y g. h y (Memᴰ-tail g))
-      ∙ ap (λ (v : Vec). clock_after (cells_m cs i) v xs) (join-cell s.clock.at c l (full-cell_at cs (slot i x)) (blank-here p hi hx) ∙ rw (cell-here p hi hx))
+      ∙ ap (λ (v : Vec). clock_after (cells_m cs i) v xs) (join-cell s.clock.at c l (p.cells_shape.each (slot i x) (omega (arith, in_places p hi, in_cells p hx))) (blank-here p hi hx) ∙ rw (cell-here p hi hx))
 
   seen-two : (s : Seen) (xs : List ℕ) → Inside xs → (see_all cs i s xs).two ≡ pick (any (shows 2) xs) true s.two
   unfolding see_all any

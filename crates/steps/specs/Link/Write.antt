@@ -9,7 +9,7 @@ use Rattle.machine.specs.{Rules.{In}, Steps.{Write, open_count, everywhere, stil
 use Rattle.machine.proofs.OneDesk.{alone_none_open}
 use Rattle.machine.proofs.Paper.{new-number, new_somewhere}
 use Rattle.clock.specs.{declared.Clock.{Clock}, Vectors.{places, place, place_set, place-raised, raised, raise_clock}}
-use Rattle.table.specs.{declared.Cell.{Cell}, declared.Desk.{Desk}, declared.Table.{Table}, Value.{all_cells, cell_at, put_cell, FullOpen}}
+use Rattle.table.specs.{declared.Cell.{Cell}, declared.Desk.{Desk}, declared.Open.{Open}, declared.Table.{Table}, Value.{all_cells, cell_at, put_cell}}
 use Rattle.table.specs.{Value.{cell_at_put, cell_at-other}, EntryNames.{entry_number}, Model.{open_m, slot, opens_m, applied_m, clock_m, cells_m}}
 use Rattle.table.specs.{Model.{applied_put, clock_put, cell_put, model_of}, Link.OpensModel.{Unique, opens_store, unique_store}}
 use Rattle.table.specs.Sound.{AllZero}
@@ -39,10 +39,10 @@ module _ {whole : Table} {own : List ℕ} {i : ℕ} {d : Desk} (p : Placed whole
   abbrev ds : List Desk
   ds = whole.core.desks
 
-  abbrev cs : List ℕ
+  abbrev cs : List Cell
   cs = whole.cells
 
-  abbrev os : List ℕ
+  abbrev os : List Open
   os = whole.opens
 
   pub written_start : applied_m ds i i ≡ place d.applied i
@@ -84,25 +84,22 @@ module _ {whole : Table} {own : List ℕ} {i : ℕ} {d : Desk} (p : Placed whole
     module _ (x v : ℕ) (hx : In whole.core.m x) where
       cell-new : cells_m (put_cell cs (slot i x) (wrote_cell d i v)) ≡ upd2 (cells_m cs) i x (states.set v i (next_vector (model_of whole) i))
       cell-new =
-          cell_put cs i x (wrote_cell d i v) (in_places p hi) (in_cells p hx) (record { vector = vector-size }) p.cells_size
+          cell_put cs i x (wrote_cell d i v) (in_places p hi) (in_cells p hx) p.cells_shape.count
           ∙ ap (λ (c : states.Cell). upd2 (cells_m cs) i x c)
           (rw (ne_eqb i 0 (λ q. (omega (arith, hi.0)))) (ap (λ (w : ℕ → ℕ). states.set v i w) vector-new))
 
       blanks-new : (s : ℕ) → s < all_cells → (cell_at (put_cell cs (slot i x) (wrote_cell d i v)) s).writer ≡ 0 → AllZero (cell_at (put_cell cs (slot i x) (wrote_cell d i v)) s)
       blanks-new s h e =
           same_or s (slot i x)
-          (λ q. let w : cell_at (put_cell cs (slot i x) (wrote_cell d i v)) s ≡ wrote_cell d i v = rw q (cell_at_put cs (slot i x) (wrote_cell d i v) (record { vector = vector-size }) (rw q at h) p.cells_size) in
+          (λ q. let w : cell_at (put_cell cs (slot i x) (wrote_cell d i v)) s ≡ wrote_cell d i v = rw q (cell_at_put cs (slot i x) (wrote_cell d i v) (rw q at h) p.cells_shape.count) in
           let z : i ≡ 0 = sym (ap (λ (c : Cell). c.writer) w) ∙ e in absurd (omega (arith, hi.0)))
-          (λ q. let w = cell_at-other cs (slot i x) (wrote_cell d i v) (record { vector = vector-size }) s q in rw w (p.sound.blanks s h (rw w at e)))
+          (λ q. let w = cell_at-other cs (slot i x) (wrote_cell d i v) s q in rw w (p.sound.blanks s h (rw w at e)))
 
       abbrev done_here : states.Open
       done_here = mark (new_write (model_of whole) i x v) i states.done
 
       open-new : open_m (wrote_open d i x v) ≡ done_here
       open-new = λ j. record { cell = x; status = v; vector = vector-new j; marks = marks-new i (in_places p hi) j }
-
-      full-new : FullOpen (wrote_open d i x v)
-      full-new = record { vector = vector-size; marks = length-set (replicate places 0) (i - 1) 2 ∙ length-replicate {A = ℕ} places 0 }
 
       name_new : entry_number (wrote_open d i x v) ≡ next_number (model_of whole) i
       name_new = ap (λ (w : ℕ → ℕ). w i) vector-new ∙ upd_same (clock_m ds i) i (next_number (model_of whole) i)
@@ -125,8 +122,8 @@ module _ {whole : Table} {own : List ℕ} {i : ℕ} {d : Desk} (p : Placed whole
           let o = wrote_open d i x v in
           let inuse = ne_eqb i 0 (λ q. (omega (arith, hi.0))) in
           let fresh : opens_m os o.writer (entry_number o) ≡ none = rw name_new (new-number i p.sound.rules.frame) in (
-            opens_store os e o h.1.0 p.opens_size full-new h.1.1 inuse fresh ∙ rw (name_new, open-new, stays_open h.0),
-            unique_store os e o h.1.0 p.opens_size full-new h.1.1 inuse fresh p.sound.unique,
+            opens_store os e o h.1.0 p.opens_shape.count h.1.1 inuse fresh ∙ rw (name_new, open-new, stays_open h.0),
+            unique_store os e o h.1.0 p.opens_shape.count h.1.1 inuse fresh p.sound.unique,
           )
       opens-new None h =
           let new = new-number i p.sound.rules.frame in

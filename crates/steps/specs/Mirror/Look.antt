@@ -1,20 +1,15 @@
 -- What read and trip make, as values, and what they ask.
-use Rattle.std.specs.Prelude.{Result, Ok, Err}
+use Rattle.std.specs.Prelude.{Err}
 use Rattle.laws.specs.{Kit.{ℕ, List, [], eqb}, Loop.{pick}}
 use Rattle.clock.specs.{declared.Clock.{Clock}, Vectors.{place, join_clock}}
-use Rattle.table.specs.{declared.Cell.{Cell}, declared.Desk.{Desk}, Model.{table_of}}
-use Rattle.reply.specs.{declared.Answer.{Answer}, declared.Answer.TheVariants.{Unset, Shown, Refused}, declared.Refusal.{Refusal}}
+use Rattle.table.specs.{declared.Cell.{Cell}, declared.Desk.{Desk}, declared.Open.{Open}, Model.{table_of}}
+use Rattle.reply.specs.{declared.Answer.{Answer}, declared.Answer.TheVariants.{Unset, Shown}, declared.Refusal.{Refusal}}
 use Rattle.reply.specs.Meaning.{answer_of}
-use Rattle.steps.specs.{declared.Turn.{Turn}, Stepped.{Placed, Stepped}}
+use Rattle.steps.specs.{Turn.{Turn, turned}, Stepped.{Placed, Stepped}}
 use Rattle.machine.specs.Steps.{Step}
 
 abbrev pub refused_turn : Desk → Refusal → Turn
-refused_turn d r = record { desk = d; answer = Refused r }
-
--- the turn made; or the refusal, which leaves the desk as it came
-abbrev pub turn_of : Desk → Result Turn Refusal → Turn
-turn_of d (Ok t) = t
-turn_of d (Err r) = refused_turn d r
+refused_turn d r = turned d (Err r)
 
 -- the desk with another clock
 abbrev pub with_desk_clock : Desk → Clock → Desk
@@ -30,12 +25,12 @@ abbrev pub look_turn : Desk → Cell → Turn
 look_turn d c = clock_turn d (join_clock d.clock c.vector) (shown_cell c)
 
 -- there is a table of which d and the cells are a part
-pub record SomeLook (n m : ℕ) (cs : List ℕ) (i : ℕ) (d : Desk) : Type 0 where
+pub record SomeLook (n m : ℕ) (cs : List Cell) (i : ℕ) (d : Desk) : Type 0 where
   pub desks : List Desk
-  pub opens : List ℕ
+  pub opens : List Open
   pub own : List ℕ
   pub placed : Placed (table_of n m desks cs opens) own i d
 
 -- the turn is the step a, whatever the rest of the table: the cells and the open writes stay
-abbrev pub Looks : ℕ → ℕ → List ℕ → ℕ → Desk → Step → Turn → Type 0
-Looks n m cs i d a r = (ds : List Desk) (os own : List ℕ) → Placed (table_of n m ds cs os) own i d → Stepped (table_of n m ds cs os) i d a r.desk cs os (answer_of r.answer [])
+abbrev pub Looks : ℕ → ℕ → List Cell → ℕ → Desk → Step → Turn → Type 0
+Looks n m cs i d a r = (ds : List Desk) (os : List Open) (own : List ℕ) → Placed (table_of n m ds cs os) own i d → Stepped (table_of n m ds cs os) i d a r.desk cs os (answer_of r.answer [])

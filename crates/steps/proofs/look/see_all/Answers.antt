@@ -13,7 +13,7 @@ slot_of-requires c =
 pub loop-x-preserved : goal.loop-x-preserved
 loop-x-preserved c =
     let L = c.loop-x in
-    rw (c.see-s.ensures, c.cell_at.ensures, c.slot_of.ensures.0, c.from.ensures)
+    rw (c.see-s.ensures, c.slot_of.ensures.0, c.from.ensures)
     (sym (see_next c.args.cells.now c.args.i L.s c.args.list.now L.x-index c.loop-x-test.true) ∙ L.invariant)
 
 pub returns : goal.returns
