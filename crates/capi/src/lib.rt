@@ -2,19 +2,18 @@
 #![tactic(auto)]
 
 ghost use Rattle.std.specs.Prelude.{◌≡◌, true, ◌≤◌, length};
-ghost use Rattle.std.proofs.lemmas.List.Edits.{sets};
 ghost use Rattle.session.specs.Holds.{SomeSession};
 ghost use Rattle.session.specs.Transcript.{most_text};
-ghost use Rattle.capi.specs.Access.{left, access_run, five, inspected, access_inspect};
+ghost use Rattle.capi.specs.Access.{left, access_run, inspected, access_inspect};
 ghost use Rattle.load.specs.Finding.{finding_numbers};
 ghost use Rattle.capi.specs.Mirror.AccessParts.{status, Roomy, BothSaved, RoomFor, Lined, SomeCore, ImageSize, ImageRoom, ImageSaved};
 ghost use Rattle.capi.specs.Mirror.AccessParts.{BothPut, Finishes, Ends, RunsFrom, ImageStarts};
+ghost use Rattle.capi.specs.declared.Refused.TheVariants.{Image};
 ghost use Rattle.table.specs.Beginning.{fresh_table};
 ghost use Rattle.table.specs.Model.{table_with};
 
 use clock::PLACES;
-use load::{Finding, Outcome, Taken};
-use reply::Refusal;
+use load::{Fault, Sizes};
 use table::{CELL, CELLS, Cells, Core, OPEN, OPENS, Opens};
 
 // The most bytes of a schedule.
@@ -37,13 +36,29 @@ struct Ended {
     len: usize,
 }
 
+// Why a call is refused: for its image, or as something is too short or too long.
+#[derive(Clone, Copy)]
+enum Refused {
+    Image(Fault),
+    Short,
+}
+
+impl From<Fault> for Refused {
+    ghost from_gives = { λ f r. r ≡ Image f };
+
+    fn from(f: Fault) -> Refused {
+        Refused::Image(f)
+    }
+}
+
 // The number that a call returns.
-fn number(done: Result<(), Refusal>) -> u64
+fn number(done: Result<(), Refused>) -> u64
     ensures { result ≡ status done }
 {
     match done {
         Ok(()) => 0,
-        Err(r) => u64::from(u16::from(r)),
+        Err(Refused::Image(f)) => u64::from(f.number()),
+        Err(Refused::Short) => 14,
     }
 }
 
@@ -104,12 +119,12 @@ fn save_image(core: Core, cells: &Cells, opens: &Opens, out: &mut [u8]) -> usize
 }
 
 // Whether so many bytes of answers and the image have room.
-fn room(all: usize, core: Core, answers: &[u8], image_out: &[u8]) -> Result<(), Refusal>
+fn room(all: usize, core: Core, answers: &[u8], image_out: &[u8]) -> Result<(), Refused>
     requires { SomeCore core }
     ensures { Roomy core all answers.now image_out.now result }
 {
     if answers.len() < all || image_out.len() < image_size(core) {
-        return Err(Refusal::Short);
+        return Err(Refused::Short);
     }
     Ok(())
 }
@@ -162,7 +177,7 @@ fn finish(
     answers: &mut [u8],
     image_out: &mut [u8],
     lengths: &mut [u64],
-) -> Result<(), Refusal>
+) -> Result<(), Refused>
     requires some_session { SomeSession (table_with core cells.old opens.old) }
     requires lengths { (length text.now ≤ most_text) × (2 ≤ length lengths.old) }
     ensures { Finishes (table_with core cells.old opens.old) text.now at first.now answers.old image_out.old lengths.old (left (status result) answers.new image_out.new lengths.new) }
@@ -196,7 +211,7 @@ fn end(
     answers: &mut [u8],
     image_out: &mut [u8],
     lengths: &mut [u64],
-) -> Result<(), Refusal>
+) -> Result<(), Refused>
     requires some_session { SomeSession (table_with core cells.now opens.now) }
     requires lengths { 2 ≤ length lengths.old }
     ensures { Ends (table_with core cells.now opens.now) first.now answers.old image_out.old lengths.old (left (status result) answers.new image_out.new lengths.new) }
@@ -216,12 +231,12 @@ fn run_from(
     answers: &mut [u8],
     image_out: &mut [u8],
     lengths: &mut [u64],
-) -> Result<(), Refusal>
+) -> Result<(), Refused>
     requires { SomeSession (table_with core cells.old opens.old) }
     ensures { RunsFrom (table_with core cells.old opens.old) text.now answers.old image_out.old lengths.old (left (status result) answers.new image_out.new lengths.new) }
 {
     if LONGEST_TEXT < text.len() || lengths.len() < 2 {
-        return Err(Refusal::Short);
+        return Err(Refused::Short);
     }
     let mut kept = [0; KEPT];
     let p = session::run(core, cells, opens, text, 0, &mut kept);
@@ -236,15 +251,12 @@ fn run_from(
 }
 
 // The table in an image, into arrays of zeros; from an empty one there is none yet, and they stay so.
-fn start(image: &[u8], cells: &mut Cells, opens: &mut Opens) -> Taken
+fn start(image: &[u8], cells: &mut Cells, opens: &mut Opens) -> Result<Core, Fault>
     requires { (cells.old ≡ (fresh_table 0 0).cells) × (opens.old ≡ (fresh_table 0 0).opens) }
-    ensures { ImageStarts image.now result.answer (table_with result.core cells.new opens.new) }
+    ensures { ImageStarts image.now result cells.new opens.new }
 {
     if image.is_empty() {
-        return Taken {
-            answer: Outcome::Accepted,
-            core: table::fresh_core(0, 0),
-        };
+        return Ok(table::fresh_core(0, 0));
     }
     load::load_into(image, cells, opens)
 }
@@ -256,20 +268,15 @@ fn run_saved(
     answers: &mut [u8],
     image_out: &mut [u8],
     lengths: &mut [u64],
-) -> Result<(), Refusal>
+) -> Result<(), Refused>
     ensures { left (status result) answers.new image_out.new lengths.new ≡ access_run image.now schedule.now answers.old image_out.old lengths.old }
 {
     let mut cells = [0; PLACES * CELLS * CELL];
     let mut opens = [0; OPENS * OPEN];
-    let l = start(image, &mut cells, &mut opens);
-    match l.answer {
-        Outcome::WrongLength => Err(Refusal::WrongLength),
-        Outcome::Damaged(_) => Err(Refusal::Damaged),
-        Outcome::Broken(_) => Err(Refusal::Broken),
-        Outcome::Accepted => run_from(
-            l.core, &mut cells, &mut opens, schedule, answers, image_out, lengths,
-        ),
-    }
+    let core = start(image, &mut cells, &mut opens)?;
+    run_from(
+        core, &mut cells, &mut opens, schedule, answers, image_out, lengths,
+    )
 }
 
 // Nothing is kept between two calls: what goes on is the image.
@@ -286,26 +293,24 @@ pub extern "C" fn access_run(
     number(run_saved(image, schedule, answers, image_out, lengths))
 }
 
-// At the front of a buffer that has room for it.
-fn put_finding(f: Finding, out: &mut [u64])
-    requires { five ≤ length out.old }
-    ensures { out.new ≡ sets out.old 0 (finding_numbers f) }
+// What there is to tell of an image, as numbers: of a refusal its number and its place, else 0, 0 and the sizes of the table.
+fn numbers(found: Result<Sizes, Fault>) -> [u64; FINDING]
+    ensures { result ≡ finding_numbers found }
 {
-    out[0] = f.number as u64;
-    out[1] = f.place as u64;
-    out[2] = f.n as u64;
-    out[3] = f.m as u64;
-    out[4] = f.open as u64;
+    match found {
+        Ok(z) => [0, 0, z.n as u64, z.m as u64, z.open as u64],
+        Err(f) => [u64::from(f.number()), f.place() as u64, 0, 0, 0],
+    }
 }
 
 // What is wrong with an image, or the sizes of its table, where there is room to tell it.
-fn tell(image: &[u8], finding: &mut [u64]) -> Result<(), Refusal>
+fn tell(image: &[u8], finding: &mut [u64]) -> Result<(), Refused>
     ensures { inspected (status result) finding.new ≡ access_inspect image.now finding.old }
 {
     if finding.len() < FINDING {
-        return Err(Refusal::Short);
+        return Err(Refused::Short);
     }
-    put_finding(load::inspect(image), finding);
+    finding[..FINDING].copy_from_slice(&numbers(load::inspect(image)));
     Ok(())
 }
 

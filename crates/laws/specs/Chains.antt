@@ -1,5 +1,5 @@
 -- What chains of the library give, in the words of these laws: `all` over a range, `array::from_fn` and a fold over pairs.
-use Rattle.std.specs.Prelude.{◌+◌, ◌-◌, ◌<◌, ◌≤◌, ◌≡◌, ◌&&◌, Option, Some, None}
+use Rattle.std.specs.Prelude.{◌+◌, ◌-◌, ◌<◌, ◌≤◌, ◌≡◌, ◌&&◌, ◌∷◌, Option, Some, None}
 use Rattle.std.specs.Array.{IsFromFnResult, IsFromFnResultFrom}
 use Rattle.std.specs.Fn.{Called}
 use Rattle.std.specs.Iterator.{ChecksAll, Yields}
@@ -8,7 +8,7 @@ use Rattle.std.specs.Option.{MatchOption}
 use Rattle.std.specs.declared.ops.Range.{Range}
 use Rattle.std.proofs.iter.Yields.{nat_range_steps}
 use denote.Param.Members.{Mut}
-use Rattle.laws.specs.Kit.{ℕ, zero, suc, refl, sym, ap, ◌∙◌, List, [], ◌∷◌, Bool, true, false, arith, get_or, length, ext_get_or, sub-zero}
+use Rattle.laws.specs.Kit.{ℕ, zero, suc, refl, sym, ap, ◌∙◌, List, [], Bool, true, false, arith, get_or, length, ext_get_or, sub-zero}
 use Rattle.laws.specs.{All.{all, all_shift, all_true, all-fails-at, all-next}, Loop.{scan, turns, cases}, Tab.{tab, get_or-tab, length-tab}, Update.{same_or}}
 
 -- `all` over a range, whose closure answers p

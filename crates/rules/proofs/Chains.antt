@@ -1,23 +1,21 @@
 -- What the chains, the array's `==` and the slices of the code say, in the words of the test.
-use Rattle.std.specs.Prelude.{◌+◌, ◌-◌, ◌<◌, ◌≤◌, ◌≡◌, Option, Some, None, ◌∷◌}
+use Rattle.std.specs.Prelude.{◌+◌, ◌-◌, ◌<◌, ◌≤◌, ◌≡◌, Option, Some, None}
 use Rattle.std.specs.Option.{MatchOption, unwrap_or}
 use Rattle.std.specs.Cmp.Lexicographic.{pointwise}
-use Rattle.std.specs.List.{fold}
 use Rattle.std.specs.Prelude.{IfSome, IsSomeAnd, IsTrue, option_map}
 use Rattle.std.specs.Fn.{CalledAt}
 use Rattle.std.specs.Iterator.Runs.{Run, SomeRun, EachRunFrom, ItemsCountDown, NoItemPasses, EndsAtFirstPassing, CallKeepsClosure, IsIdenticalRun}
 use Rattle.std.specs.declared.ops.RangeInclusive.{RangeInclusive}
 use Rattle.std.specs.Range.{range_inclusive_start, range_inclusive_end, range_inclusive_exhausted}
 use Rattle.std.proofs.iter.runs.Sources.{nat_range_inclusive_steps_back, inclusive_listed_back}
-use borrow.Rule.Slice.PartMut.{mid_of}
 use denote.{Param.Members.{Mut}, Ref.{Bor}}
 use Rattle.std.proofs.lemmas.{Bool.Decides.{Decides-eqb}, Slice.Eq.{slice_eq-Decides}}
-use Rattle.laws.specs.Kit.{ℕ, zero, suc, refl, sym, ap, ◌∙◌, List, [], Bool, true, false, arith, get_or, length, drop, ext_get_or, eqb, eqb-true, eq-eqb}
-use Rattle.laws.specs.{Kit.{bit_or, ltb, ltb-true, ltb-false, get_or-drop, length-drop, length-replicate, take_all}, Loop.{cases}, Says.{Says, says_as, says-one, apart}, Update.{same_or}}
+use Rattle.laws.specs.Kit.{ℕ, suc, sym, ap, ◌∙◌, List, Bool, true, false, arith, length, ext_get_or, eqb}
+use Rattle.laws.specs.{Kit.{ltb, ltb-true, ltb-false, length-replicate}, Loop.{cases}, Says.{says-one, apart}, Update.{same_or}}
 use Rattle.clock.specs.Vectors.{places, place}
 use Rattle.table.specs.Beginning.{zeros-at}
-use Rattle.rules.specs.{Mirror.Test.{noughts, nought, gap_of}, Mirror.Parts.{zeros_test}}
-use Rattle.rules.specs.Link.{CodeLaws.{or-zero}, Gap.{gap_most, gap_above, gap_not}}
+use Rattle.rules.specs.{Mirror.Test.{noughts, nought, gap_of}}
+use Rattle.rules.specs.Link.{Gap.{gap_most, gap_above, gap_not}}
 
 -- `==` with an array of zeros
 pub nought_of_eq : (v : List ℕ) (r : Bool) → length v ≡ places → r ≡ pointwise eqb v noughts → r ≡ (nought v).passes
@@ -31,40 +29,6 @@ nought_of_eq v r n e =
     all_of h =
         ext_get_or 0 v noughts (n ∙ sym (length-replicate {A = ℕ} places 0))
         (λ k l. h (suc k) (omega arith) (omega (arith, n)) ∙ sym (zeros-at places k))
-
--- a fold by `|` is zero exactly if each number is
-or_folded : (l : List ℕ) (s : ℕ) → Says (eqb (fold (λ a x. bit_or a x) s l) 0) ((s ≡ 0) × ((k : ℕ) → 0 ≤ k → k < length l → get_or l k 0 ≡ 0))
-or_folded [] s = record { to = λ e. (eqb-true s 0 e, λ k a b. absurd (omega arith)); from = λ h. eq-eqb s 0 h.0 }
-or_folded (x ∷ l) s =
-    let i = or_folded l (bit_or s x) in
-    record {
-      to = λ e. (let h = i.to e in let z = (or-zero s x).to (eq-eqb (bit_or s x) 0 h.0) in (z.0, each z.1 h.1));
-      from = λ h. i.from (eqb-true (bit_or s x) 0 ((or-zero s x).from (h.0, h.1 0 (omega arith) (omega arith))), λ k a b. h.1 (suc k) (omega arith) (omega arith));
-    }
-  where
-    each : x ≡ 0 → ((k : ℕ) → 0 ≤ k → k < length l → get_or l k 0 ≡ 0) → (k : ℕ) → 0 ≤ k → k < length (x ∷ l) → get_or (x ∷ l) k 0 ≡ 0
-    each e f zero a b = e
-    each e f (suc k) a b = f k (omega arith) (omega arith)
-
-pub zeros_of_fold : (l : List ℕ) → eqb (fold (λ a x. bit_or a x) 0 l) 0 ≡ (zeros_test l 0).passes
-zeros_of_fold l =
-    says-one (eqb (fold (λ a x. bit_or a x) 0 l) 0) (zeros_test l 0).passes
-    (says_as (eqb (fold (λ a x. bit_or a x) 0 l) 0) (or_folded l 0) (λ h. h.1) (λ f. (refl, f)))
-    (zeros_test l 0).says
-
-zeros_of_drop : (l : List ℕ) (p : ℕ) → (zeros_test (drop p l) 0).passes ≡ (zeros_test l p).passes
-zeros_of_drop l p =
-    says-one (zeros_test (drop p l) 0).passes (zeros_test l p).passes
-    (says_as (zeros_test (drop p l) 0).passes (zeros_test (drop p l) 0).says
-    (λ h k a b. let e : p + (k - p) ≡ k = omega arith in rw e at (sym (get_or-drop p l (k - p) 0) ∙ h (k - p) (omega arith) (omega (arith, length-drop p l))))
-    (λ h k a b. get_or-drop p l k 0 ∙ h (p + k) (omega arith) (omega (arith, length-drop p l))))
-    (zeros_test l p).says
-
--- the same of the slice from p on
-pub zeros_of_rest : (l : List ℕ) (p k : ℕ) → p + k ≡ length l → (zeros_test (mid_of p k l) 0).passes ≡ (zeros_test l p).passes
-zeros_of_rest l p k e =
-    let f : mid_of p k l ≡ drop p l = take_all k (drop p l) (omega (arith, length-drop p l)) in
-    rw f (zeros_of_drop l p)
 
 value : (o : Option ℕ) (k : ℕ) (P : ℕ → Type 0) → option_map (λ y. y) o ≡ Some k → IfSome o P → P k
 value None k P e h = absurd (let z : ◌≡◌ {A = ℕ} 0 1 = cc in omega arith)

@@ -1,22 +1,20 @@
 // Whether a table value keeps the rules of the image.
 #![tactic(auto)]
 
-ghost use Rattle.std.specs.Prelude.{◌≡◌, ◌<◌, ◌≤◌};
+ghost use Rattle.std.specs.Prelude.{◌≡◌, ◌*◌, ◌<◌, ◌≤◌};
 ghost use Rattle.laws.specs.Says.{Says};
 ghost use Rattle.machine.specs.Rules.{In};
 ghost use Rattle.clock.specs.Vectors.{places, place};
-ghost use Rattle.table.specs.Value.{entries, open_at};
+ghost use Rattle.table.specs.Value.{desk_cells, entries, open_at};
 ghost use Rattle.table.specs.EntryNames.{entry_number};
 ghost use Rattle.table.specs.Sound.{SoundTable};
 ghost use Rattle.table.specs.Model.{table_with};
 ghost use Rattle.rules.specs.Mirror.Test.{has, owns, gap_of, gaps, last_of, ranges_test, due_test, used_test, entry_test, all_entries_test, live_test, counts_test, set_cell, blank_cell, cell_test, all_cells_test, waits_test, live_mark, all_desks_test, own_test};
-ghost use Rattle.rules.specs.Mirror.Parts.{mark_of, used_mark, used_marks, most_marks, limit_test, all_limits_test, zeros_test, used_desk, used_desks};
+ghost use Rattle.rules.specs.Mirror.Parts.{mark_of, used_mark, used_marks, most_marks, limit_test, all_limits_test, zero_cell, zeros_test, used_desk, used_desks};
 
 use clock::PLACES;
 use std::array;
-use table::{
-    CELL, CELLS, Cell, Cells, Core, DONE, Desk, HELD, MOST_STATUS, OPENS, Open, Opens, Table,
-};
+use table::{CELLS, Cell, Cells, Core, DONE, Desk, HELD, MOST_STATUS, OPENS, Open, Opens, Table};
 
 // Each desk's count of its own writes.
 pub fn own_counts(desks: [Desk; PLACES]) -> [u16; PLACES]
@@ -114,7 +112,7 @@ fn used_mark_ok(a: [u16; PLACES], i: usize, opens: &Opens, e: usize) -> bool
     requires { (i < places) × (e < entries) }
     ensures { result ≡ (mark_of a i (open_at opens.now e)).passes }
 {
-    mark_live(a, table::mark_at(opens, e, i), table::open_at(opens, e))
+    mark_live(a, opens[e].marks[i], opens[e])
 }
 
 // (Of a free entry nothing but the writer is read.)
@@ -123,7 +121,7 @@ fn mark_ok(a: [u16; PLACES], i: usize, opens: &Opens, e: usize) -> bool
     requires { (i < places) × (e < entries) }
     ensures { result ≡ (used_mark a i (open_at opens.now e)).passes }
 {
-    table::open_at(opens, e).writer == 0 || used_mark_ok(a, i, opens, e)
+    opens[e].writer == 0 || used_mark_ok(a, i, opens, e)
 }
 
 // The largest mark at each desk, from 0: none past n.
@@ -140,12 +138,11 @@ fn limit_ok(most: [u16; PLACES], o: Open) -> bool
     o.writer == 0 || clock::covers(most, o.marks)
 }
 
-// Are all the numbers zero?
-fn all_zero(l: &[u16]) -> bool
-    ensures { result ≡ (zeros_test l.now 0).passes }
+// Is the cell unset, and all zero?
+fn is_unset(c: Cell) -> bool
+    ensures { result ≡ (zero_cell c).passes }
 {
-    // No way out in the middle: the compiler then takes many numbers at a time.
-    l.iter().fold(0, |some, x| some | *x) == 0
+    c == Cell::UNSET
 }
 
 // A core and the two lent arrays, with each desk's own count and, of each desk, the latest write that is not open.
@@ -187,7 +184,7 @@ impl Lent<'_> {
         requires { e < entries }
         ensures { result ≡ (entry_test self.now.core.now.n self.now.core.now.m self.now.own self.now.opens.now e).passes }
     {
-        let o = table::open_at(self.opens, e);
+        let o = self.opens[e];
         o.writer == 0 || self.used_ok(e, o)
     }
 
@@ -222,7 +219,7 @@ impl Lent<'_> {
         requires { i < places }
         ensures { result ≡ (all_cells_test self.now.core.now.m a i self.now.cells.now).passes }
     {
-        (0..CELLS).all(|x| cell_ok(self.core.m, a, x, table::cell_at(self.cells, i * CELLS + x)))
+        (0..CELLS).all(|x| cell_ok(self.core.m, a, x, self.cells[i * CELLS + x]))
     }
 
     fn marks_ok(&self, a: [u16; PLACES], i: usize) -> bool
@@ -255,16 +252,22 @@ impl Lent<'_> {
         ensures { result ≡ (all_limits_test (most_marks self.now.core.now.n) self.now.opens.now).passes }
     {
         let most = most_marks(self.core.n);
-        (0..OPENS).all(|e| limit_ok(most, table::open_at(self.opens, e)))
+        (0..OPENS).all(|e| limit_ok(most, self.opens[e]))
     }
 
-    // All desks. Past n the cells are one run of zeros, and no mark stands.
+    // Is each cell of the desks past n unset, and all zero?
+    fn past_unset(&self) -> bool
+        ensures { result ≡ (zeros_test self.now.cells.now (self.now.core.now.n * desk_cells)).passes }
+    {
+        (self.core.n * CELLS..PLACES * CELLS).all(|s| is_unset(self.cells[s]))
+    }
+
+    // All desks. Past n the cells are zero, and no mark stands.
     fn desks_ok(&self) -> bool
         ensures { result ≡ (all_desks_test self.now.core.now.n self.now.core.now.m self.now.own self.now.gap self.now.cells.now self.now.opens.now self.now.core.now.desks).passes }
     {
-        let cells = self.cells;
-        let unset = all_zero(&cells[self.core.n * CELLS * CELL..]);
-        self.used_desks_ok() & unset & self.limits_ok()
+        table::cells_shape(self.cells);
+        self.used_desks_ok() & self.past_unset() & self.limits_ok()
     }
 }
 
@@ -291,6 +294,8 @@ pub fn keeps_rules(core: Core, cells: &Cells, opens: &Opens) -> bool
     ensures { Says result (SoundTable (table_with core cells.now opens.now)) }
 {
     table::desks_shape(core.desks);
+    table::cells_shape(cells);
+    table::opens_shape(opens);
     let own = own_counts(core.desks);
     passes(&core, own, cells, opens)
 }

@@ -16,4 +16,4 @@ pub returns : goal.returns
 returns c =
     let l = c.load_into in
     let n : length c.args.image.now ≢ 0 = grind arith in
-    image-starts c.args.image.now l.result.answer (table_with l.result.core l.new.cells l.new.opens) n l.ensures
+    image-starts c.args.image.now l.result l.new.cells l.new.opens n l.ensures

@@ -1,12 +1,11 @@
 -- The session that an image starts with, and the call from it.
-use Rattle.std.specs.Prelude.{◌≡◌, ◌∷◌}
+use Rattle.std.specs.Prelude.{◌≡◌, ◌∷◌, Result, Ok, Err}
 use Rattle.laws.specs.Kit.{refl, ap, ◌∙◌, List, [], none, some, ℕ, arith, length}
 use Rattle.machine.specs.Answer.{Refusal, number_of}
-use Rattle.table.specs.{declared.Table.{Table}, Beginning.{fresh_table}, Model.{model_of}}
+use Rattle.table.specs.{declared.Core.{Core}, declared.Table.{Table}, Beginning.{fresh_table}, Model.{model_of, table_with}}
 use Rattle.image.specs.Load.{load}
 use Rattle.image.proofs.Load.{one-load, load_loads}
-use Rattle.load.specs.{declared.Outcome.{Outcome}, declared.Outcome.TheVariants.{Accepted, WrongLength, Damaged, Broken}}
-use Rattle.load.specs.Loading.{loaded_of, Answers, answers_loads}
+use Rattle.load.specs.{declared.Fault.{Fault}, Loading.{loaded_of, Answers, AnswersInto, answers_loads}}
 use Rattle.capi.specs.Access.{left, Start, refuse, begin, started, start_of, run_from, run_started, access_run}
 use Rattle.capi.specs.Mirror.AccessParts.{SomeStart, ImageStarts}
 
@@ -25,17 +24,20 @@ pub empty_starts : (saved : List ℕ) (t : Table) → length saved ≡ 0 → t �
 unfolding fresh_table
 empty_starts saved t h e = rw e (record { session = none; starts = start_empty saved h; holds = refl })
 
-pub image-starts : (saved : List ℕ) (o : Outcome) (t : Table) → (length saved ≡ 0 → ⊥) → Answers saved o t → ImageStarts saved o t
-image-starts saved o t f h = go o h (start-load saved f ∙ ap started (one-load saved (load saved) (loaded_of o t) (load_loads saved) (answers_loads saved o t h)))
+pub image-starts : (saved : List ℕ) (r : Result Core Fault) (cells opens : List ℕ) → (length saved ≡ 0 → ⊥) → AnswersInto saved r cells opens → ImageStarts saved r cells opens
+image-starts saved r cells opens f h = go r h
   where
-    go : (o : Outcome) → Answers saved o t → start_of saved ≡ started (loaded_of o t) → ImageStarts saved o t
-    go Accepted h e = record { session = some (model_of t); starts = e; holds = record { model_is = refl; sound = h.0 } }
-    go WrongLength h e = e
-    go (Damaged k) h e = e
-    go (Broken k) h e = e
+    told : (o : Result Table Fault) → Answers saved o → start_of saved ≡ started (loaded_of o)
+    told o k = start-load saved f ∙ ap started (one-load saved (load saved) (loaded_of o) (load_loads saved) (answers_loads saved o k))
 
-pub start_by : (saved : List ℕ) (o : Outcome) (t : Table) → ImageStarts saved o t → (x : Outcome) → o ≡ x → ImageStarts saved x t
-start_by saved o t h x e = rw e at h
+    go : (r : Result Core Fault) → AnswersInto saved r cells opens → ImageStarts saved r cells opens
+    go (Ok core) h =
+        let t = table_with core cells opens in
+        record { session = some (model_of t); starts = told (Ok t) h; holds = record { model_is = refl; sound = h.0 } }
+    go (Err e) h = told (Err e) h.0
+
+pub start_by : (saved : List ℕ) (r : Result Core Fault) (cells opens : List ℕ) → ImageStarts saved r cells opens → (x : Result Core Fault) → r ≡ x → ImageStarts saved x cells opens
+start_by saved r cells opens h x e = rw e at h
 
 -- the call from it
 module _ (saved text answers image lengths : List ℕ) where

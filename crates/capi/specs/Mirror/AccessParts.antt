@@ -1,17 +1,19 @@
 -- The parts of `access_run`, for every session that the values at hand hold.
 use Rattle.std.specs.Prelude.{◌≡◌, ◌∷◌, ◌++◌, ◌+◌, ◌*◌, ◌≤◌, Result, Ok, Err}
 use Rattle.laws.specs.{Kit.{Bool, true, List, [], ℕ, length, sets}, Loop.{pick}}
-use Rattle.machine.specs.Answer.{number_of, wrong_length, damaged, broken}
-use Rattle.reply.specs.{declared.Refusal.{Refusal}, declared.Refusal.TheVariants.{Short}, Meaning.{refusal_of}}
+use Rattle.machine.specs.Answer.{number_of, short}
+use Rattle.image.specs.Load.{fault_refusal}
+use Rattle.capi.specs.{declared.Refused.{Refused}, declared.Refused.TheVariants.{Image, Short}}
 use Rattle.table.specs.{declared.Core.{Core}, declared.Table.{Table}, Model.{table_with}}
-use Rattle.load.specs.{declared.Outcome.{Outcome}, declared.Outcome.TheVariants.{Accepted, WrongLength, Damaged, Broken}}
+use Rattle.load.specs.{declared.Fault.{Fault}, Loading.{fault_of}}
 use Rattle.session.specs.{Session.{Session}, Transcript.{transcript_from, session_from, most_text}, Holds.{Holds}}
 use Rattle.capi.specs.Access.{Left, image_of, refuse, begin, start_of, run_from}
 
 -- the number that a call returns
-abbrev pub status : {T : Type 0} → Result T Refusal → ℕ
+abbrev pub status : {T : Type 0} → Result T Refused → ℕ
 status (Ok x) = 0
-status (Err r) = number_of (refusal_of r)
+status (Err (Image f)) = number_of (fault_refusal (fault_of f))
+status (Err Short) = number_of short
 
 -- the bytes that the answers of one run take at most
 abbrev pub most_part : ℕ
@@ -58,7 +60,7 @@ BothSaved t all image lengths image' lengths' =
 abbrev pub ImageFits : Core → (image : List ℕ) → Type 0
 ImageFits core image = (z : Session) (cs os : List ℕ) → Holds (table_with core cs os) z → length (image_of z) ≤ length image
 
-abbrev pub Roomy : {T : Type 0} → Core → (all : ℕ) (answers image : List ℕ) → Result T Refusal → Type 0
+abbrev pub Roomy : {T : Type 0} → Core → (all : ℕ) (answers image : List ℕ) → Result T Refused → Type 0
 Roomy core all answers image (Ok x) = (all ≤ length answers) × ImageFits core image
 Roomy core all answers image (Err r) =
     (r ≡ Short) × ((z : Session) (cs os : List ℕ) → Holds (table_with core cs os) z → all ≤ length answers → length (image_of z) ≤ length image → ⊥)
@@ -90,8 +92,6 @@ pub record SomeStart (saved : List ℕ) (t : Table) : Type 0 where
   pub starts : start_of saved ≡ begin session
   pub holds : Holds t session
 
-abbrev pub ImageStarts : List ℕ → Outcome → Table → Type 0
-ImageStarts saved Accepted t = SomeStart saved t
-ImageStarts saved WrongLength t = start_of saved ≡ refuse wrong_length
-ImageStarts saved (Damaged k) t = start_of saved ≡ refuse damaged
-ImageStarts saved (Broken k) t = start_of saved ≡ refuse broken
+abbrev pub ImageStarts : List ℕ → Result Core Fault → (cells opens : List ℕ) → Type 0
+ImageStarts saved (Ok core) cells opens = SomeStart saved (table_with core cells opens)
+ImageStarts saved (Err f) cells opens = start_of saved ≡ refuse (fault_refusal (fault_of f))

@@ -6,7 +6,7 @@ use Rattle.laws.specs.Tab.{get_or-tab, get_or-tab_out}
 use Rattle.machine.specs.{Table.{Vec, blank, set}, Rules.{In, Flat}}
 use Rattle.machine.specs.Table as machine
 use Rattle.clock.specs.Vectors.{places, place, place_out}
-use Rattle.table.specs.{declared.Desk.{Desk}, Value.{desk0, desk_cells, entries, cell_at, open_at, is_free}, TypeShape.{DesksShape}}
+use Rattle.table.specs.{declared.Cell.{Cell}, declared.Desk.{Desk}, declared.Open.{Open}, Value.{desk0, desk_cells, entries, cell_at, open_at, is_free}, TypeShape.{DesksShape}}
 use Rattle.table.specs.{EntryNames.{entry_number, named_at, named-is}, Model.{applied_vec, clock_vec, applied_m, clock_m, cells_m, open_m, opens_m}}
 use Rattle.table.specs.Link.OpensModel.{opens-some}
 use Rattle.rules.specs.Mirror.Test.{own_at, owns}
@@ -61,7 +61,7 @@ no-set : {R : Type 0} {v u : ℕ} {w : Vec} → blank ≡ set v u w → R
 no-set q = absurd (let z : ◌≡◌ {A = ℕ} 0 1 = cc in omega arith)
 
 -- what holds of each row in use, as a set cell, holds of each set cell of the model
-module _ (cs : List ℕ) (P : ℕ → ℕ → ℕ → ℕ → Vec → Type 0)
+module _ (cs : List Cell) (P : ℕ → ℕ → ℕ → ℕ → Vec → Type 0)
     (at : (i x : ℕ) → i < places → x < desk_cells → ((cell_at cs (i * desk_cells + x)).writer ≡ 0 → ⊥)
     → P (suc i) (suc x) (cell_at cs (i * desk_cells + x)).status (cell_at cs (i * desk_cells + x)).writer (place (cell_at cs (i * desk_cells + x)).vector)) where
   pub set-each : (i x v u : ℕ) (w : Vec) → cells_m cs i x ≡ set v u w → P i x v u w
@@ -86,13 +86,13 @@ module _ (cs : List ℕ) (P : ℕ → ℕ → ℕ → ℕ → Vec → Type 0)
           let qw : place (cell_at cs (i * desk_cells + x)).vector ≡ w = cc in
           rw (← qv, ← qu, ← qw) (at i x a b z)
 
-pub at_set : (cs : List ℕ) (i x : ℕ) → i < places → x < desk_cells → ((cell_at cs (i * desk_cells + x)).writer ≡ 0 → ⊥)
+pub at_set : (cs : List Cell) (i x : ℕ) → i < places → x < desk_cells → ((cell_at cs (i * desk_cells + x)).writer ≡ 0 → ⊥)
     → cells_m cs (suc i) (suc x) ≡ set (cell_at cs (i * desk_cells + x)).status (cell_at cs (i * desk_cells + x)).writer (place (cell_at cs (i * desk_cells + x)).vector)
 unfolding cells_m
 at_set cs i x a b ne = rw (lt-ltb i places a, lt-ltb x desk_cells b, ne_eqb (cell_at cs (i * desk_cells + x)).writer 0 ne)
 
 -- what holds of each entry in use, under its name, holds of each open write of the model
-module _ (os : List ℕ) (P : ℕ → ℕ → machine.Open → Type 0)
+module _ (os : List Open) (P : ℕ → ℕ → machine.Open → Type 0)
     (at : (e : ℕ) → e < entries → is_free (open_at os e) ≡ false → P (open_at os e).writer (entry_number (open_at os e)) (open_m (open_at os e))) where
   pub open-each : (u k : ℕ) (w : machine.Open) → opens_m os u k ≡ some w → P u k w
   open-each u k w q = let r = opens-some os u k w q in go r.at r.small r.holds r.is

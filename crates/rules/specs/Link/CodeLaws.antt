@@ -2,9 +2,9 @@
 use Rattle.std.specs.Prelude.{◌+◌, ◌<◌, ◌≤◌, ◌≡◌, ◌&&◌}
 use Rattle.std.specs.Prelude as std
 use Rattle.std.specs.Option.{is_some}
-use Rattle.laws.specs.Kit.{bit_or, bit_and, or_add_and, and_le_l, and_le_r, ℕ, zero, suc, refl, sym, ap, ◌∙◌, List}
-use Rattle.laws.specs.{Kit.{Option, none, some, Bool, true, false, not, arith, get_or, eqb, eq-eqb, eqb-true}, Loop.{pick}, Says.{Says}}
-use Rattle.laws.specs.{Says.{apart}, Update.{same_or}}
+use Rattle.laws.specs.Kit.{ℕ, zero, suc, refl, sym, ap, ◌∙◌, List}
+use Rattle.laws.specs.{Kit.{Option, none, some, Bool, true, false, not, arith, get_or}, Loop.{pick}}
+use Rattle.laws.specs.{Says.{apart}}
 use Rattle.machine.specs.{Steps.{is_none, begins}, Table.{most_writes}}
 use Rattle.clock.specs.Vectors.{places}
 use Rattle.machine.specs.Table as machine
@@ -13,7 +13,7 @@ use Rattle.table.specs.{Model.{opens_m}, Link.OpensModel.{opens_not, found_none}
 use Rattle.rules.specs.{Mirror.Test.{has, owns, ranges_test, sizes_test}, Link.PassesToRules.{Fit}}
 
 -- what a search by name says
-module _ (os : List ℕ) (u k : ℕ) (r : std.Option ℕ) (f : FoundIn (named_at os u k) r) where
+module _ (os : List Open) (u k : ℕ) (r : std.Option ℕ) (f : FoundIn (named_at os u k) r) where
   pub has-yes : (e : ℕ) → r ≡ std.Some e → true ≡ has os u k
   has-yes e q = let g = found_at (named_at os u k) r e f q in held (opens_m os u k) refl
     where
@@ -24,7 +24,7 @@ module _ (os : List ℕ) (u k : ℕ) (r : std.Option ℕ) (f : FoundIn (named_at
   pub has_no : r ≡ std.None → false ≡ has os u k
   has_no q = sym (ap (λ (o : Option machine.Open). not (is_none o)) (found_none os u k r f q))
 
-pub has_is : (os : List ℕ) (u k : ℕ) (r : std.Option ℕ) → FoundIn (named_at os u k) r → is_some r ≡ has os u k
+pub has_is : (os : List Open) (u k : ℕ) (r : std.Option ℕ) → FoundIn (named_at os u k) r → is_some r ≡ has os u k
 has_is os u k (std.Some e) f = has-yes os u k (std.Some e) f e refl
 has_is os u k std.None f = has_no os u k std.None f refl
 
@@ -52,29 +52,3 @@ given-no {r} {c} d p t = rw t (p ∙ alone c)
     alone : (b : Bool) → b ≡ b && true
     alone true = refl
     alone false = refl
-
--- one more number in a run of zeros
-pub or-zero : (a b : ℕ) → Says (eqb (bit_or a b) 0) ((a ≡ 0) × (b ≡ 0))
-or-zero a b =
-    record {
-      to = λ e. both_zero (bit_or a b) (bit_and a b) (or_add_and a b) (and_le_l a b) (and_le_r a b) (eqb-true _ _ e);
-      from = λ h. eq-eqb _ _ (none (bit_or a b) (bit_and a b) (or_add_and a b) h);
-    }
-  where
-    both_zero : (x y : ℕ) → x + y ≡ a + b → y ≤ a → y ≤ b → x ≡ 0 → (a ≡ 0) × (b ≡ 0)
-    both_zero x y e l r z = (omega arith, omega arith)
-
-    none : (x y : ℕ) → x + y ≡ a + b → (a ≡ 0) × (b ≡ 0) → x ≡ 0
-    none x y e h = omega (arith, h.0, h.1)
-
-pub zeros-more : (l : List ℕ) (p s k : ℕ) → p ≤ k → Says (eqb s 0) ((j : ℕ) → p ≤ j → j < k → get_or l j 0 ≡ 0)
-    → Says (eqb (bit_or s (get_or l k 0)) 0) ((j : ℕ) → p ≤ j → j < k + 1 → get_or l j 0 ≡ 0)
-zeros-more l p s k h q =
-    record {
-      to = λ e j a b. (let z = (or-zero s (get_or l k 0)).to e in
-          same_or j k (λ r. rw r z.1) (λ ne. q.to (eq-eqb s 0 z.0) j a (below j k b ne)));
-      from = λ f. (or-zero s (get_or l k 0)).from (eqb-true s 0 (q.from (λ j a b. f j a (omega arith))), f k h (omega arith));
-    }
-  where
-    below : (j k : ℕ) → j < k + 1 → (j ≡ k → ⊥) → j < k
-    below j k b ne = omega arith

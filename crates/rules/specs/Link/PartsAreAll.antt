@@ -1,56 +1,26 @@
 -- The parts that the code computes are the test of all desks.
 use Rattle.std.specs.Prelude.{◌+◌, ◌*◌, ◌/◌, ◌%◌, ◌<◌, ◌≤◌, ◌≡◌}
-use Rattle.laws.specs.Kit.{ℕ, zero, suc, sym, ap, ◌∙◌, List, arith, leb-true, leb-false, eqb-true}
+use Rattle.laws.specs.Kit.{ℕ, zero, suc, List, arith, leb-true, leb-false, eqb-true}
 use Rattle.laws.specs.{Kit.{eqb-false, ltb-true, ltb-false, lt-ltb, le-ltb, length, get_or, leb, ltb, eqb}, Loop.{cases}, Tab.{get_or-tab}}
-use Rattle.laws.specs.{Rows.{part_at}, Says.{says_as, says-one}}
+use Rattle.laws.specs.{Says.{says_as, says-one}}
 use Rattle.machine.specs.Table.{away, done}
 use Rattle.clock.specs.Vectors.{places, place}
-use Rattle.table.specs.{declared.Cell.{Cell}, declared.Desk.{Desk}, declared.Open.{Open}, Value.{desk0, desk_cells, all_cells, cell_width}}
-use Rattle.table.specs.{Value.{cell_at, full-cell_at, cell-writer, cell-status, cell-vector, open_at}, EntryNames.{entry_number}}
-use Rattle.rules.specs.{Mirror.Test.{cell_test, all_cells_test, live_mark, mark_test, all_marks, all_desks_test}, Mirror.Parts.{used_mark, used_marks}}
+use Rattle.table.specs.{declared.Cell.{Cell}, declared.Desk.{Desk}, declared.Open.{Open}, Value.{desk0, desk_cells, all_cells}}
+use Rattle.table.specs.{Value.{cell_at, CellsShape, open_at}, EntryNames.{entry_number}}
+use Rattle.rules.specs.{Mirror.Test.{cell_test, all_cells_test, live_mark, mark_test, all_marks, all_desks_test}, Mirror.Parts.{zero_cell, used_mark, used_marks}}
 use Rattle.rules.specs.{Mirror.Parts.{used_desks, most_at, most_marks, limit_test, all_limits_test, parts_test}, Link.ArrayLimits.{flat-place}}
-
--- a row of zeros, by its numbers and as a cell --
-
-pub record ZeroCell (c : Cell) : Type 0 where
-  pub writer : c.writer ≡ 0
-  pub status : c.status ≡ 0
-  pub vector : (t : ℕ) → 1 ≤ t → t ≤ places → place c.vector t ≡ 0
-
-module _ (cs : List ℕ) (s : ℕ) where
-  cell-number : (t : ℕ) → t < places → get_or (cell_at cs s).vector t 0 ≡ get_or cs (s * cell_width + (2 + t)) 0
-  cell-number t h =
-      rw (cell-vector cs s) (part_at cs (s * cell_width + 2) places t h ∙ ap (λ (k : ℕ). get_or cs k 0) (omega arith))
-
-  pub zero_row : ((c : ℕ) → c < cell_width → get_or cs (s * cell_width + c) 0 ≡ 0) → ZeroCell (cell_at cs s)
-  zero_row h =
-      record {
-        writer = cell-writer cs s ∙ ap (λ (k : ℕ). get_or cs k 0) (omega arith) ∙ h 0 (omega arith);
-        status = cell-status cs s ∙ h 1 (omega arith);
-        vector = at;
-      }
-    where
-      at : (t : ℕ) → 1 ≤ t → t ≤ places → place (cell_at cs s).vector t ≡ 0
-      at zero a b = absurd (omega arith)
-      at (suc t) a b = cell-number t b ∙ h (2 + t) (omega arith)
-
-  pub row_zero : ZeroCell (cell_at cs s) → (c : ℕ) → c < cell_width → get_or cs (s * cell_width + c) 0 ≡ 0
-  row_zero z zero h = ap (λ (k : ℕ). get_or cs k 0) (omega arith) ∙ sym (cell-writer cs s) ∙ z.writer
-  row_zero z (suc zero) h = sym (cell-status cs s) ∙ z.status
-  row_zero z (suc (suc t)) h =
-      ap (λ (k : ℕ). get_or cs k 0) (omega arith) ∙ sym (cell-number t (omega arith)) ∙ z.vector (suc t) (omega arith) (omega arith)
 
 -- where nothing was applied, a cell passes exactly if it is zero
 module _ (m : ℕ) (a : List ℕ) (x : ℕ) (c : Cell) where
-  pub zero-passes : ZeroCell c → (cell_test m a x c).holds
+  pub zero-passes : (zero_cell c).holds → (cell_test m a x c).holds
   unfolding cell_test
-  zero-passes z = (λ _. (z.status, z.vector), λ ne. absurd (ne z.writer))
+  zero-passes z = (λ _. z.1, λ ne. absurd (ne z.0))
 
-  pub passes-zero : length c.vector ≡ places → ((t : ℕ) → 1 ≤ t → t ≤ places → place a t ≡ 0) → (cell_test m a x c).holds → ZeroCell c
+  pub passes-zero : length c.vector ≡ places → ((t : ℕ) → 1 ≤ t → t ≤ places → place a t ≡ 0) → (cell_test m a x c).holds → (zero_cell c).holds
   unfolding cell_test
   passes-zero full none h =
       cases (eqb c.writer 0)
-      (λ q. let e = eqb-true _ _ q in record { writer = e; status = (h.0 e).0; vector = (h.0 e).1 })
+      (λ q. let e = eqb-true _ _ q in (e, h.0 e))
       (λ q. let g = (h.1 (eqb-false _ _ q)).1.1 in
       let p = flat-place c.vector full c.writer g.0 in
       absurd (omega (arith, g.0, g.1 c.writer p.0 p.1, none c.writer p.0 p.1)))
@@ -76,7 +46,7 @@ live_done a p o h =
     (λ r. omega (arith, eqb-true p 0 r))
     (λ r. omega (arith, (w.1 (eqb-false p 0 r)).0)))
 
-module _ (n m : ℕ) (own gap cs os : List ℕ) (ds : List Desk) (size : length cs ≡ all_cells * cell_width) where
+module _ (n m : ℕ) (own gap : List ℕ) (cs : List Cell) (os : List Open) (ds : List Desk) (shape : CellsShape cs) where
   to-all : (parts_test n m own gap cs os ds).holds → (all_desks_test n m own gap cs os ds).holds
   unfolding used_desks used_marks used_mark all_limits_test limit_test all_desks_test all_cells_test all_marks mark_test
   to-all h i b = ((h.0.0 i b).0, (cells_in, marks_in))
@@ -85,9 +55,7 @@ module _ (n m : ℕ) (own gap cs os : List ℕ) (ds : List Desk) (size : length 
       a = (get_or ds i desk0).applied
 
       past_cell : n ≤ i → (x : ℕ) → x < desk_cells → (cell_test m a x (cell_at cs (i * desk_cells + x))).holds
-      past_cell l x hx =
-          zero-passes m a x (cell_at cs (i * desk_cells + x))
-          (zero_row cs (i * desk_cells + x) (λ c hc. h.0.1 ((i * desk_cells + x) * cell_width + c) (omega arith) (omega arith)))
+      past_cell l x hx = zero-passes m a x (cell_at cs (i * desk_cells + x)) (h.0.1 (i * desk_cells + x) (omega arith) (omega arith))
 
       cells_in : (all_cells_test m (get_or ds i desk0).applied i cs).holds
       cells_in x hx = cases (ltb i n) (λ q. ((h.0.0 i b).1 (ltb-true i n q)).0 x hx) (λ q. past_cell (ltb-false i n q) x hx)
@@ -107,18 +75,16 @@ module _ (n m : ℕ) (own gap cs os : List ℕ) (ds : List Desk) (size : length 
   unfolding used_desks used_marks used_mark all_limits_test limit_test all_desks_test all_cells_test all_marks mark_test
   from_all h = ((λ i b. ((h i b).0, λ l. ((h i b).1.0, λ e he f. ((h i b).1.1 e he f).0 l)), zeros), limits)
     where
-      zeros : (k : ℕ) → n * desk_cells * cell_width ≤ k → k < length cs → get_or cs k 0 ≡ 0
-      zeros k l b =
-          let s = k / cell_width in
+      zeros : (s : ℕ) → n * desk_cells ≤ s → s < all_cells → (zero_cell (cell_at cs s)).holds
+      zeros s l b =
           let i = s / desk_cells in
           let x = s % desk_cells in
-          let hi : i < places = omega (arith, size) in
+          let hi : i < places = omega arith in
           let past : n ≤ i = omega arith in
           let e : i * desk_cells + x ≡ s = omega arith in
           let d = h i hi in
           let c : (cell_test m (get_or ds i desk0).applied x (cell_at cs s)).holds = rw e at (d.1.0 x (omega arith)) in
-          let z = passes-zero m (get_or ds i desk0).applied x (cell_at cs s) (full-cell_at cs s).vector (d.0.1.1.1.1 (λ q. (omega arith))) c in
-          ap (λ (j : ℕ). get_or cs j 0) (omega arith) ∙ row_zero cs s z (k % cell_width) (omega arith)
+          passes-zero m (get_or ds i desk0).applied x (cell_at cs s) (shape.each s b).vector (d.0.1.1.1.1 (λ q. (omega arith))) c
 
       limits : (all_limits_test (most_marks n) os).holds
       limits e he f zero a b = absurd (omega arith)

@@ -6,7 +6,7 @@ use Rattle.laws.specs.Says.{apart}
 use Rattle.machine.specs.{Table.{held, done, State}, Steps.{is_none, everywhere, ready}, Rules.{Flat, ToBeOpen, OpenWrite}}
 use Rattle.machine.specs.Table as machine
 use Rattle.clock.specs.{Vectors.{places, place}, Readiness.{ready_at, ready-narrow}}
-use Rattle.table.specs.{declared.Desk.{Desk}, declared.Table.{Table}, Value.{desk0, desk_cells, entries, cell_at, open_at, is_free}}
+use Rattle.table.specs.{declared.Desk.{Desk}, declared.Open.{Open}, declared.Table.{Table}, Value.{desk0, desk_cells, entries, cell_at, open_at, is_free}}
 use Rattle.table.specs.{TypeShape.{DesksShape}, EntryNames.{entry_number, named_at, own-named}, Model.{applied_m, clock_m, open_m, opens_m}}
 use Rattle.table.specs.{Model.{model_of}, Link.OpensModel.{lone, opens_at}, Sound.{SoundTable}}
 use Rattle.rules.specs.Mirror.Test.{owns, has, gap_at, gaps, used_test, entry_test, all_entries_test, counts_test, cell_test, all_cells_test, mark_test}
@@ -20,7 +20,7 @@ module _ (whole : Table) (sh : DesksShape whole.core.desks) (so : SoundTable who
   abbrev ds : List Desk
   ds = whole.core.desks
 
-  abbrev os : List ℕ
+  abbrev os : List Open
   os = whole.opens
 
   abbrev s : State

@@ -26,14 +26,14 @@ gap_of f zero = 0
 gap_of f (suc k) = pick (f (suc k)) (gap_of f k) (suc k)
 
 -- is u.k open?
-abbrev pub has : List ℕ → ℕ → ℕ → Bool
+abbrev pub has : List Open → ℕ → ℕ → Bool
 has os u k = not (is_none (opens_m os u k))
 
 -- of each desk the latest write that is not open: it and all before it must have been applied everywhere
-abbrev pub gap_at : List ℕ → List ℕ → ℕ → ℕ
+abbrev pub gap_at : List ℕ → List Open → ℕ → ℕ
 gap_at own os t = gap_of (has os (suc t)) (get_or own t 0)
 
-unfoldable pub gaps : List ℕ → List ℕ → List ℕ
+unfoldable pub gaps : List ℕ → List Open → List ℕ
 gaps own os = tab places (gap_at own os)
 
 -- a vector at most another, and one of zeros, at all the places of an array --
@@ -71,10 +71,10 @@ nought v =
 -- entries --
 
 -- no entry after e holds u.k
-unfoldable pub last_of : List ℕ → ℕ → ℕ → ℕ → Bool
+unfoldable pub last_of : List Open → ℕ → ℕ → ℕ → Bool
 last_of os u k e = all (λ j. not (named_at os u k j)) (entries - (e + 1)) (e + 1)
 
-pub says_last : (os : List ℕ) (u k e : ℕ) → Says (last_of os u k e) ((j : ℕ) → e < j → j < entries → named_at os u k j ≡ false)
+pub says_last : (os : List Open) (u k e : ℕ) → Says (last_of os u k e) ((j : ℕ) → e < j → j < entries → named_at os u k j ≡ false)
 unfolding last_of
 says_last os u k e =
     record {
@@ -83,7 +83,7 @@ says_last os u k e =
           (λ j l g. (says-false _).from (f j (omega arith) (omega arith)));
     }
 
-abbrev pub last_test : List ℕ → ℕ → ℕ → ℕ → Test
+abbrev pub last_test : List Open → ℕ → ℕ → ℕ → Test
 last_test os u k e =
     record { passes = last_of os u k e; holds = (j : ℕ) → e < j → j < entries → named_at os u k j ≡ false; says = says_last os u k e }
 
@@ -94,13 +94,13 @@ ranges_test n m o = both (le o.writer n) (both (inside m o.cell) (le o.status mo
 abbrev pub due_test : ℕ → List ℕ → Open → Test
 due_test n own o = both (le 1 (entry_number o)) (both (covered own o.vector) (is_false (everywhere n (open_m o))))
 
-unfoldable pub used_test : ℕ → ℕ → List ℕ → List ℕ → ℕ → Open → Test
+unfoldable pub used_test : ℕ → ℕ → List ℕ → List Open → ℕ → Open → Test
 used_test n m own os e o = both (ranges_test n m o) (both (due_test n own o) (last_test os o.writer (entry_number o) e))
 
-unfoldable pub entry_test : ℕ → ℕ → List ℕ → List ℕ → ℕ → Test
+unfoldable pub entry_test : ℕ → ℕ → List ℕ → List Open → ℕ → Test
 entry_test n m own os e = unless (is_free (open_at os e)) (used_test n m own os e (open_at os e))
 
-unfoldable pub all_entries_test : ℕ → ℕ → List ℕ → List ℕ → Test
+unfoldable pub all_entries_test : ℕ → ℕ → List ℕ → List Open → Test
 all_entries_test n m own os = upto entries (entry_test n m own os)
 
 -- a desk --
@@ -127,7 +127,7 @@ blank_cell c = both (eq c.status 0) (nought c.vector)
 unfoldable pub cell_test : ℕ → List ℕ → ℕ → Cell → Test
 cell_test m a x c = choice (eq c.writer 0) (blank_cell c) (set_cell m a x c)
 
-unfoldable pub all_cells_test : ℕ → List ℕ → ℕ → List ℕ → Test
+unfoldable pub all_cells_test : ℕ → List ℕ → ℕ → List Cell → Test
 all_cells_test m a i cs = upto desk_cells (λ x. cell_test m a x (cell_at cs (i * desk_cells + x)))
 
 -- the mark p at a desk with the counts a: of a write that it has not applied; of any
@@ -143,13 +143,13 @@ live_mark a p o = choice (le (entry_number o) (place a o.writer)) (applied_test 
 unfoldable pub mark_test : ℕ → List ℕ → ℕ → Open → Test
 mark_test n a i o = unless (is_free o) (choice (lt i n) (live_mark a (get_or o.marks i 0) o) (eq (get_or o.marks i 0) away))
 
-unfoldable pub all_marks : ℕ → List ℕ → ℕ → List ℕ → Test
+unfoldable pub all_marks : ℕ → List ℕ → ℕ → List Open → Test
 all_marks n a i os = upto entries (λ e. mark_test n a i (open_at os e))
 
-abbrev pub desk_test : ℕ → ℕ → List ℕ → List ℕ → List ℕ → List ℕ → ℕ → Desk → Test
+abbrev pub desk_test : ℕ → ℕ → List ℕ → List ℕ → List Cell → List Open → ℕ → Desk → Test
 desk_test n m own gap cs os i d = both (counts_test n own gap i d) (both (all_cells_test m d.applied i cs) (all_marks n d.applied i os))
 
-unfoldable pub all_desks_test : ℕ → ℕ → List ℕ → List ℕ → List ℕ → List ℕ → List Desk → Test
+unfoldable pub all_desks_test : ℕ → ℕ → List ℕ → List ℕ → List Cell → List Open → List Desk → Test
 all_desks_test n m own gap cs os ds = upto places (λ i. desk_test n m own gap cs os i (get_or ds i desk0))
 
 -- the whole, where own are the own counts --
@@ -157,7 +157,7 @@ all_desks_test n m own gap cs os ds = upto places (λ i. desk_test n m own gap c
 abbrev pub sizes_test : ℕ → ℕ → Test
 sizes_test n m = both (inside most_desks n) (inside most_cells m)
 
-unfoldable pub own_test : ℕ → ℕ → List ℕ → List Desk → List ℕ → List ℕ → Test
+unfoldable pub own_test : ℕ → ℕ → List ℕ → List Desk → List Cell → List Open → Test
 own_test n m own ds cs os = both (sizes_test n m) (both (all_entries_test n m own os) (all_desks_test n m own (gaps own os) cs os ds))
 
 abbrev pub keeps_test : Table → Test
