@@ -7,10 +7,11 @@ use Rattle.machine.specs.Answer as machine
 use Rattle.machine.specs.{Rules.{In}, Steps.{Step, Deliver, step}}
 use Rattle.reply.specs.{declared.Name.{Name}, declared.Answer.{Answer}, declared.Answer.TheVariants.{Refused}, declared.Refusal.TheVariants.{Broken}}
 use Rattle.reply.specs.Meaning.{answer_of, Counted}
+use Rattle.table.specs.{declared.Cell.{Cell}, declared.Open.{Open}}
 use Rattle.table.specs.{declared.Desk.{Desk}, declared.Table.{Table}, Value.{desk0, entries}, TypeShape.{Shaped}, Model.{model_of}}
 use Rattle.table.specs.Sound.{SoundTable}
 use Rattle.rules.specs.{Mirror.Test.{owns}, Link.ArrayLimits.{own_is}}
-use Rattle.steps.specs.{Stepped.{Placed, Stepped, put_desk, put_back, names_beside, table_after}, declared.Turn.{Turn}, Link.Deliver.{Meets}}
+use Rattle.steps.specs.{Stepped.{Placed, Stepped, put_desk, put_back, names_beside, table_after}, Turn.{Turn}, Link.Deliver.{Meets}}
 use Rattle.steps.specs.Link.LookStepped.{stops, passes}
 
 -- of a table that keeps the rules: the machine's answer and its table, which keeps them too
@@ -70,14 +71,14 @@ module _ {t : Table} where
         record {
           sound = s;
           shape = sh.desks;
-          cells_size = sh.cells;
-          opens_size = sh.opens;
+          cells_shape = sh.cells;
+          opens_shape = sh.opens;
           desk = λ h. e (h.0, omega (arith, h.1, few-desks s));
           own_counts = λ u h. rw eo (own_is t.core.desks sh.desks u);
         }
 
   module _ {own : List ℕ} {i : ℕ} {d : Desk} (p : Placed t own i d) where
-    pub met-stepped : {a : Step} {d' : Desk} {cs os : List ℕ} {answer : machine.Answer} → Stepped t i d a d' cs os answer → Met t a (table_after t.core i d' cs os) answer
+    pub met-stepped : {a : Step} {d' : Desk} {cs : List Cell} {os : List Open} {answer : machine.Answer} → Stepped t i d a d' cs os answer → Met t a (table_after t.core i d' cs os) answer
     met-stepped {d' = d'} {cs = cs} {os = os} s =
         record {
           steps = λ g. record { answer_is = s.answer_is; state_is = s.state_is; sound = s.sound };
@@ -92,7 +93,7 @@ module _ {t : Table} where
           opens = eo j;
         }
 
-    pub brought : {u k : ℕ} {r : Turn} {cs os : List ℕ} {names : List Name} → Meets t d no_names i u k r cs os names
+    pub brought : {u k : ℕ} {r : Turn} {cs : List Cell} {os : List Open} {names : List Name} → Meets t d no_names i u k r cs os names
         → Brought t i u k (table_after t.core i r.desk cs os) r.answer names
     brought w = record {
       met = met-stepped w.stepped;

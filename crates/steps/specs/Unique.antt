@@ -15,7 +15,7 @@ use Rattle.table.proofs.Unique.{same-cells}
 use Rattle.steps.specs.{Turn.{Turn}, Stepped.{Placed, Stepped, put_desk, table_after}, Link.LookStepped.{in_places}}
 use Rattle.steps.specs.{Mirror.Look.{SomeLook, Looks}, Mirror.Write.{SomeTable, Writes}, Link.Deliver.{Part, Delivers}}
 
-outside : (s : State) (a : Step) → (In s.setup.desks (actor a) → ⊥) → (step s a).answer ≡ machine.refused machine.no_desk
+pub outside : (s : State) (a : Step) → (In s.setup.desks (actor a) → ⊥) → (step s a).answer ≡ machine.refused machine.no_desk
 outside s (Read i x) f = (refusal-exactly s (Read i x) machine.no_desk).1 (inl (f, refl))
 outside s (Write i x v) f = (refusal-exactly s (Write i x v) machine.no_desk).1 (inl (f, refl))
 outside s (Deliver i u k) f = (refusal-exactly s (Deliver i u k) machine.no_desk).1 (inl (λ h. f h.0, refl))
