@@ -1,27 +1,27 @@
 -- What the code's values have to do with a session: with no table every number is zero; a table keeps the rules.
-use Rattle.std.specs.Prelude.{◌≡◌, ◌+◌, ◌-◌, ◌*◌, ◌<◌, ◌≤◌}
-use Rattle.laws.specs.Kit.{refl, ap, ◌∙◌, List, none, some, ℕ, arith, length, get_or, set, replicate}
-use Rattle.laws.specs.{Kit.{get_or-set_same, get_or-set_other}, Rows.{tab-one, part_at}}
-use Rattle.clock.specs.Vectors.{places, place, place_at}
+use Rattle.std.specs.Prelude.{◌≡◌, ◌+◌, ◌<◌}
+use Rattle.laws.specs.Kit.{refl, ap, List, none, some, ℕ, arith, length, get_or, set, replicate}
+use Rattle.laws.specs.{Kit.{get_or-set_same, get_or-set_other}, Tab.{tab-one}}
+use Rattle.clock.specs.Vectors.{places, place}
 use Rattle.machine.specs.Table.{State, fresh, most_desks, most_cells}
 use Rattle.machine.specs.Rules.{In}
 use Rattle.machine.proofs.RulesKept.{fresh-rules}
-use Rattle.table.specs.{declared.Core.{Core}, declared.Desk.{Desk}, declared.Table.{Table}, Value.{desk0, all_cells, cell_width, entries}}
-use Rattle.table.specs.{Value.{open_width, cell_at, full-cell_at, cell-status, cell-vector}, Model.{model_of, table_of, table_with}}
+use Rattle.table.specs.{declared.Cell.{Cell}, declared.Core.{Core}, declared.Desk.{Desk}, declared.Open.{Open}, declared.Table.{Table}}
+use Rattle.table.specs.{Value.{desk0, all_cells, entries, cell0, cell_at, unset_cell, free_open}, Model.{model_of, table_of, table_with}}
 use Rattle.table.specs.Sound.{AllZero, SoundTable}
-use Rattle.table.specs.Beginning.{fresh_desk, fresh_table, zeros-at, unique-zeros}
+use Rattle.table.specs.Beginning.{fresh_desk, fresh_table, same-at, zeros-at, unique-zeros}
 use Rattle.table.proofs.Beginning.{fresh-model}
-use Rattle.rules.specs.{Mirror.Test.{own_at, owns}, Link.ArrayLimits.{zero-all}}
+use Rattle.rules.specs.Mirror.Test.{own_at, owns}
 use Rattle.session.specs.Session.{Session}
 
 abbrev pub zero_desks : List Desk
 zero_desks = replicate places fresh_desk
 
-abbrev pub zero_cells : List ℕ
-zero_cells = replicate (all_cells * cell_width) 0
+abbrev pub zero_cells : List Cell
+zero_cells = replicate all_cells unset_cell
 
-abbrev pub zero_opens : List ℕ
-zero_opens = replicate (entries * open_width) 0
+abbrev pub zero_opens : List Open
+zero_opens = replicate entries free_open
 
 abbrev pub zero_core : Core
 zero_core = record { n = 0; m = 0; desks = zero_desks }
@@ -51,16 +51,11 @@ zero-holds = record { session = none; holds = refl }
 -- "N n m" needs nothing but the two numbers --
 
 zero-cell : (s : ℕ) → AllZero (cell_at zero_cells s)
+unfolding unset_cell
 zero-cell s = record {
-  status = cell-status zero_cells s ∙ zeros-at (all_cells * cell_width) (s * cell_width + 1);
-  vector = zero-all (cell_at zero_cells s).vector (full-cell_at zero_cells s).vector at;
+  status = same-at (λ (c : Cell). c.status) unset_cell cell0 0 refl refl all_cells s;
+  vector = λ t. same-at (λ (c : Cell). place c.vector t) unset_cell cell0 0 (zeros-at (1 + places) t) (zeros-at 1 t) all_cells s;
 }
-  where
-    at : (t : ℕ) → 1 ≤ t → t ≤ places → place (cell_at zero_cells s).vector t ≡ 0
-    at t a b =
-        let l : t - 1 < places = omega arith in
-        rw (place_at (cell_at zero_cells s).vector t a, cell-vector zero_cells s)
-        (part_at zero_cells (s * cell_width + 2) places (t - 1) l ∙ zeros-at (all_cells * cell_width) (s * cell_width + 2 + (t - 1)))
 
 abbrev sized_zero : ℕ → ℕ → Table
 sized_zero n m = table_of n m zero_desks zero_cells zero_opens
@@ -76,7 +71,7 @@ begun-holds n m t hn hm z = rw z (record {
   sound = record {
     rules = rw (zero-model n m) (fresh-rules n m hn hm);
     blanks = λ s h e. zero-cell s;
-    unique = unique-zeros (entries * open_width);
+    unique = unique-zeros entries;
   };
 })
 

@@ -8,11 +8,11 @@ ghost use Rattle.clock.specs.Vectors.{places};
 ghost use Rattle.machine.specs.Steps.{begins};
 ghost use Rattle.schedule.specs.Grammar.{line_of};
 ghost use Rattle.schedule.specs.LineValue.{most_listed, cell_count};
-ghost use Rattle.session.specs.Mirror.LineValue.{Means, line_actor, seat_of};
+ghost use Rattle.session.specs.Mirror.LineValue.{Means, line_actor};
 ghost use Rattle.session.specs.Holds.{zero_core, SomeSession};
-ghost use Rattle.session.specs.Link.LineTurn.{Acting, LineActs, SomeSeat, Turns, next_of, first_begun, no_step_of, first_turn};
+ghost use Rattle.session.specs.Link.LineTurn.{Acting, LineActs, first_core, first_answer};
 ghost use Rattle.session.specs.Link.RunningTurn.{SomeRunning, TurnsOn};
-ghost use Rattle.reply.specs.declared.Answer.TheVariants.{Refused};
+ghost use Rattle.steps.specs.Turn.{answer_in, turned};
 ghost use Rattle.answer.specs.Bytes.{answer_line, most_answer};
 ghost use Rattle.reply.specs.Meaning.{answer_of};
 ghost use Rattle.laws.specs.Stores.{Stored};
@@ -23,17 +23,7 @@ use answer::LONGEST_ANSWER;
 use clock::PLACES;
 use reply::{APPLIED, Answer, Name, Refusal};
 use schedule::{LIST, Line};
-use steps::Turn;
 use table::{Cells, Core, Desk, Opens};
-
-// The size of the table after a line, 0 while there is none, the acting desk, and the answer.
-#[derive(Drop)]
-struct Next {
-    n: usize,
-    m: usize,
-    desk: Desk,
-    answer: Answer,
-}
 
 // The desk that a line names first; 0 where it names none.
 fn actor(s: Option<Line>) -> usize
@@ -46,57 +36,29 @@ fn actor(s: Option<Line>) -> usize
     }
 }
 
-// Its place in the array of desks, and 0 for a number that is no desk: the step then leaves the desk there as it is.
-fn seat(i: usize) -> usize
-    ensures { (result ≡ seat_of i) × (result < places) }
-{
-    if table::inside(PLACES, i) { i - 1 } else { 0 }
-}
-
-// Still no table.
-fn none_yet(desk: Desk, why: Refusal) -> Next
-    ensures { result ≡ next_of 0 0 desk (Refused why) }
-{
-    Next {
-        n: 0,
-        m: 0,
-        desk,
-        answer: Answer::Refused(why),
-    }
-}
-
-// N n m: every number of the table is 0 already.
-fn begun(desk: Desk, n: usize, m: usize) -> Next
-    ensures { result ≡ first_begun desk n m }
-{
-    if table::begins(n, m) {
-        Next {
-            n,
-            m,
-            desk,
-            answer: Answer::Begun,
-        }
-    } else {
-        none_yet(desk, Refusal::NoSize)
-    }
-}
-
-// A line before there is a table.
-fn first(d: Desk, s: Option<Line>) -> Next
-    ensures { result ≡ first_turn d s }
+// A line on a table of n desks and m cells: desk is the one that it names first, own each desk's own count, list has the cells of a trip.
+fn act(
+    n: usize,
+    m: usize,
+    desk: &mut Desk,
+    own: [u16; PLACES],
+    cells: &mut Cells,
+    opens: &mut Opens,
+    s: Option<Line>,
+    list: &[u16; LIST],
+    names: &mut [Name; APPLIED],
+) -> Result<Answer, Refusal>
+    requires { (cell_count s ≤ most_listed) × (Acting n m cells.old opens.old own (line_actor s) desk.old) }
+    ensures { LineActs n m desk.old own cells.old opens.old list.now s (turned desk.new result) cells.new opens.new names.new }
 {
     match s {
-        Some(Line::New(n, m)) => begun(d, n, m),
-        _ => none_yet(d, Refusal::NoStep),
-    }
-}
-
-fn no_step(desk: Desk) -> Turn
-    ensures { result ≡ no_step_of desk }
-{
-    Turn {
-        desk,
-        answer: Answer::Refused(Refusal::NoStep),
+        Some(Line::Deliver(i, u, k)) => {
+            steps::deliver::deliver_at(n, desk, own, cells, opens, names, i, u, k)
+        }
+        Some(Line::Read(i, x)) => steps::look::read_at(n, m, desk, cells, i, x),
+        Some(Line::Write(i, x, v)) => steps::write::write_at(n, m, desk, cells, opens, i, x, v),
+        Some(Line::Trip(i, count)) => steps::look::trip_at(n, m, desk, cells, i, &list[..count]),
+        Some(Line::New(_, _)) | None => Err(Refusal::NoStep),
     }
 }
 
@@ -108,53 +70,58 @@ struct Running {
 }
 
 impl Running {
-    // A line on a table: d is the desk that it names first, list has the cells of a trip.
-    fn act(
-        &self,
-        d: Desk,
+    // A line before there is a table: with N n m every number of the table is 0 already.
+    fn first(&mut self, s: Option<Line>) -> Result<Answer, Refusal>
+        ensures core { self.new ≡ record { core = first_core self.old.core s; own = self.old.own } }
+        ensures answer { answer_in result ≡ first_answer s }
+    {
+        let Some(Line::New(n, m)) = s else {
+            return Err(Refusal::NoStep);
+        };
+        if !table::begins(n, m) {
+            return Err(Refusal::NoSize);
+        }
+        self.core.n = n;
+        self.core.m = m;
+        Ok(Answer::Begun)
+    }
+
+    // A line on the table; the count of the desk that acts is brought along.
+    fn next(
+        &mut self,
         cells: &mut Cells,
         opens: &mut Opens,
         s: Option<Line>,
         list: &[u16; LIST],
         names: &mut [Name; APPLIED],
-    ) -> Turn
-        requires { (cell_count s ≤ most_listed) × (Acting self.now.core.n self.now.core.m cells.old opens.old self.now.own (line_actor s) d) }
-        ensures { LineActs self.now.core.n self.now.core.m d self.now.own cells.old opens.old list.now s result cells.new opens.new names.new }
+    ) -> Result<Answer, Refusal>
+        requires some { (cell_count s ≤ most_listed) × (SomeRunning self.old cells.old opens.old) }
+        requires begun { self.old.core.n ≡ 0 → ⊥ }
+        ensures { TurnsOn self.old cells.old opens.old list.now s (answer_in result) self.new cells.new opens.new names.new }
     {
+        // Kept: no other fact tells how long the arrays within the desks, the cells and the entries are.
+        table::desks_shape(self.core.desks);
+        table::cells_shape(cells);
+        table::opens_shape(opens);
         let Core { n, m, .. } = self.core;
-        match s {
-            Some(Line::Deliver(i, u, k)) => {
-                steps::deliver::deliver_at(n, d, self.own, cells, opens, names, i, u, k)
-            }
-            Some(Line::Read(i, x)) => steps::look::read_at(n, m, d, cells, i, x),
-            Some(Line::Write(i, x, v)) => steps::write::write_at(n, m, d, cells, opens, i, x, v),
-            Some(Line::Trip(i, count)) => steps::look::trip_at(n, m, d, cells, i, &list[..count]),
-            Some(Line::New(_, _)) | None => no_step(d),
-        }
+        let own = self.own;
+        let p = steps::seat(actor(s));
+        let made = act(
+            n,
+            m,
+            &mut self.core.desks[p],
+            own,
+            cells,
+            opens,
+            s,
+            list,
+            names,
+        );
+        self.own[p] = self.core.desks[p].applied[p];
+        made
     }
 
     // A line on what there is so far.
-    fn next(
-        &self,
-        d: Desk,
-        cells: &mut Cells,
-        opens: &mut Opens,
-        s: Option<Line>,
-        list: &[u16; LIST],
-        names: &mut [Name; APPLIED],
-    ) -> Next
-        requires { (cell_count s ≤ most_listed) × (SomeSeat self.now.core.n self.now.core.m cells.old opens.old self.now.own (line_actor s) d) }
-        ensures { Turns self.now.core.n self.now.core.m d self.now.own cells.old opens.old list.now s result cells.new opens.new names.new }
-    {
-        let Core { n, m, .. } = self.core;
-        if n == 0 {
-            return first(d, s);
-        }
-        let Turn { desk, answer } = self.act(d, cells, opens, s, list, names);
-        Next { n, m, desk, answer }
-    }
-
-    // The same, with the table and the count brought along.
     fn turn(
         &mut self,
         cells: &mut Cells,
@@ -166,15 +133,11 @@ impl Running {
         requires { (cell_count s ≤ most_listed) × (SomeRunning self.old cells.old opens.old) }
         ensures { TurnsOn self.old cells.old opens.old list.now s result self.new cells.new opens.new names.new }
     {
-        let p = seat(actor(s));
-        // Kept: no other fact tells how long the arrays within the desks are.
-        table::desks_shape(self.core.desks);
-        let next = self.next(self.core.desks[p], cells, opens, s, list, names);
-        self.core.n = next.n;
-        self.core.m = next.m;
-        self.core.desks[p] = next.desk;
-        self.own[p] = next.desk.applied[p];
-        next.answer
+        if self.core.n == 0 {
+            steps::said(self.first(s))
+        } else {
+            steps::said(self.next(cells, opens, s, list, names))
+        }
     }
 }
 
