@@ -11,7 +11,7 @@ use Rattle.table.specs.{declared.Cell.{Cell}, declared.Open.{Open}}
 use Rattle.table.specs.{declared.Desk.{Desk}, declared.Table.{Table}, Value.{desk0, entries}, TypeShape.{Shaped}, Model.{model_of}}
 use Rattle.table.specs.Sound.{SoundTable}
 use Rattle.rules.specs.{Mirror.Test.{owns}, Link.ArrayLimits.{own_is}}
-use Rattle.steps.specs.{Stepped.{Placed, Stepped, put_desk, put_back, names_beside, table_after}, declared.Turn.{Turn}, Link.Deliver.{Meets}}
+use Rattle.steps.specs.{Stepped.{Placed, Stepped, put_desk, put_back, names_beside, table_after}, Turn.{Turn}, Link.Deliver.{Meets}}
 use Rattle.steps.specs.Link.LookStepped.{stops, passes}
 
 -- of a table that keeps the rules: the machine's answer and its table, which keeps them too

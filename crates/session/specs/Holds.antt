@@ -1,18 +1,17 @@
 -- What the code's values have to do with a session: with no table every number is zero; a table keeps the rules.
-use Rattle.std.specs.Prelude.{◌≡◌, ◌<◌}
-use Rattle.laws.specs.Kit.{refl, suc, ap, List, none, some, ℕ, arith, length, get_or, set, replicate}
+use Rattle.std.specs.Prelude.{◌≡◌, ◌+◌, ◌<◌}
+use Rattle.laws.specs.Kit.{refl, ap, List, none, some, ℕ, arith, length, get_or, set, replicate}
 use Rattle.laws.specs.{Kit.{get_or-set_same, get_or-set_other}, Tab.{tab-one}}
 use Rattle.clock.specs.Vectors.{places, place}
 use Rattle.machine.specs.Table.{State, fresh, most_desks, most_cells}
 use Rattle.machine.specs.Rules.{In}
 use Rattle.machine.proofs.RulesKept.{fresh-rules}
-use Rattle.table.specs.{declared.Cell.{Cell}, declared.Open.{Open}}
-use Rattle.table.specs.{declared.Core.{Core}, declared.Desk.{Desk}, declared.Table.{Table}, Value.{desk0, all_cells, unset_cell, cell0, entries, free_open}}
-use Rattle.table.specs.{Value.{cell_at}, Model.{model_of, table_of, table_with}}
+use Rattle.table.specs.{declared.Cell.{Cell}, declared.Core.{Core}, declared.Desk.{Desk}, declared.Open.{Open}, declared.Table.{Table}}
+use Rattle.table.specs.{Value.{desk0, all_cells, entries, cell0, cell_at, unset_cell, free_open}, Model.{model_of, table_of, table_with}}
 use Rattle.table.specs.Sound.{AllZero, SoundTable}
 use Rattle.table.specs.Beginning.{fresh_desk, fresh_table, same-at, zeros-at, unique-zeros}
 use Rattle.table.proofs.Beginning.{fresh-model}
-use Rattle.rules.specs.{Mirror.Test.{own_at, owns}}
+use Rattle.rules.specs.Mirror.Test.{own_at, owns}
 use Rattle.session.specs.Session.{Session}
 
 abbrev pub zero_desks : List Desk
@@ -52,9 +51,10 @@ zero-holds = record { session = none; holds = refl }
 -- "N n m" needs nothing but the two numbers --
 
 zero-cell : (s : ℕ) → AllZero (cell_at zero_cells s)
+unfolding unset_cell
 zero-cell s = record {
   status = same-at (λ (c : Cell). c.status) unset_cell cell0 0 refl refl all_cells s;
-  vector = λ t. same-at (λ (c : Cell). place c.vector t) unset_cell cell0 0 (zeros-at (suc places) t) (zeros-at 1 t) all_cells s;
+  vector = λ t. same-at (λ (c : Cell). place c.vector t) unset_cell cell0 0 (zeros-at (1 + places) t) (zeros-at 1 t) all_cells s;
 }
 
 abbrev sized_zero : ℕ → ℕ → Table

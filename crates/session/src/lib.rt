@@ -5,13 +5,14 @@ ghost use Rattle.std.specs.Prelude.{◌≡◌, ◌+◌, ◌<◌, ◌≤◌, leng
 ghost use Rattle.std.proofs.Math.Option.{none};
 ghost use Rattle.laws.specs.Loop.{pick};
 ghost use Rattle.clock.specs.Vectors.{places};
+ghost use Rattle.machine.specs.Steps.{begins};
 ghost use Rattle.schedule.specs.Grammar.{line_of};
 ghost use Rattle.schedule.specs.LineValue.{most_listed, cell_count};
-ghost use Rattle.session.specs.Mirror.LineValue.{Means, line_actor, seat_of};
+ghost use Rattle.session.specs.Mirror.LineValue.{Means, line_actor};
 ghost use Rattle.session.specs.Holds.{zero_core, SomeSession};
-ghost use Rattle.session.specs.Link.LineTurn.{Acting, LineActs, first_turn};
-ghost use Rattle.session.specs.Link.RunningTurn.{FirstOn, SomeRunning, TurnsOn};
-ghost use Rattle.table.specs.declared.Desk.{Desk};
+ghost use Rattle.session.specs.Link.LineTurn.{Acting, LineActs, first_core, first_answer};
+ghost use Rattle.session.specs.Link.RunningTurn.{SomeRunning, TurnsOn};
+ghost use Rattle.steps.specs.Turn.{answer_in, turned};
 ghost use Rattle.answer.specs.Bytes.{answer_line, most_answer};
 ghost use Rattle.reply.specs.Meaning.{answer_of};
 ghost use Rattle.laws.specs.Stores.{Stored};
@@ -22,7 +23,6 @@ use answer::LONGEST_ANSWER;
 use clock::PLACES;
 use reply::{APPLIED, Answer, Name, Refusal};
 use schedule::{LIST, Line};
-use steps::Turn;
 use table::{Cells, Core, Desk, Opens};
 
 // The desk that a line names first; 0 where it names none.
@@ -36,11 +36,30 @@ fn actor(s: Option<Line>) -> usize
     }
 }
 
-// Its place in the array of desks, and 0 for a number that is no desk: the step then leaves the desk there as it is.
-fn seat(i: usize) -> usize
-    ensures { (result ≡ seat_of i) × (result < places) }
+// A line on a table of n desks and m cells: desk is the one that it names first, own each desk's own count, list has the cells of a trip.
+fn act(
+    n: usize,
+    m: usize,
+    desk: &mut Desk,
+    own: [u16; PLACES],
+    cells: &mut Cells,
+    opens: &mut Opens,
+    s: Option<Line>,
+    list: &[u16; LIST],
+    names: &mut [Name; APPLIED],
+) -> Result<Answer, Refusal>
+    requires { (cell_count s ≤ most_listed) × (Acting n m cells.old opens.old own (line_actor s) desk.old) }
+    ensures { LineActs n m desk.old own cells.old opens.old list.now s (turned desk.new result) cells.new opens.new names.new }
 {
-    if table::inside(PLACES, i) { i - 1 } else { 0 }
+    match s {
+        Some(Line::Deliver(i, u, k)) => {
+            steps::deliver::deliver_at(n, desk, own, cells, opens, names, i, u, k)
+        }
+        Some(Line::Read(i, x)) => steps::look::read_at(n, m, desk, cells, i, x),
+        Some(Line::Write(i, x, v)) => steps::write::write_at(n, m, desk, cells, opens, i, x, v),
+        Some(Line::Trip(i, count)) => steps::look::trip_at(n, m, desk, cells, i, &list[..count]),
+        Some(Line::New(_, _)) | None => Err(Refusal::NoStep),
+    }
 }
 
 // The table under way, n = 0 while there is none, and each desk's own count beside it. The two arrays are lent to each line.
@@ -51,50 +70,55 @@ struct Running {
 }
 
 impl Running {
-    // A line before there is a table. For N n m every number of the table is 0 already.
-    fn first(&mut self, s: Option<Line>) -> Answer
-        requires { (self.old.core.n ≡ 0) × (self.old.core.m ≡ 0) }
-        ensures { (d : Desk) → FirstOn self.old (first_turn d s) result self.new }
+    // A line before there is a table: with N n m every number of the table is 0 already.
+    fn first(&mut self, s: Option<Line>) -> Result<Answer, Refusal>
+        ensures core { self.new ≡ record { core = first_core self.old.core s; own = self.old.own } }
+        ensures answer { answer_in result ≡ first_answer s }
     {
-        match s {
-            Some(Line::New(n, m)) => {
-                if !table::begins(n, m) {
-                    return Answer::Refused(Refusal::NoSize);
-                }
-                self.core.n = n;
-                self.core.m = m;
-                Answer::Begun
-            }
-            _ => Answer::Refused(Refusal::NoStep),
+        let Some(Line::New(n, m)) = s else {
+            return Err(Refusal::NoStep);
+        };
+        if !table::begins(n, m) {
+            return Err(Refusal::NoSize);
         }
+        self.core.n = n;
+        self.core.m = m;
+        Ok(Answer::Begun)
     }
 
-    // A line on a table: d is the desk that it names first, list has the cells of a trip.
-    fn act(
-        &self,
-        d: Desk,
+    // A line on the table; the count of the desk that acts is brought along.
+    fn next(
+        &mut self,
         cells: &mut Cells,
         opens: &mut Opens,
         s: Option<Line>,
         list: &[u16; LIST],
         names: &mut [Name; APPLIED],
-    ) -> Turn
-        requires { (cell_count s ≤ most_listed) × (Acting self.now.core.n self.now.core.m cells.old opens.old self.now.own (line_actor s) d) }
-        ensures { LineActs self.now.core.n self.now.core.m d self.now.own cells.old opens.old list.now s result cells.new opens.new names.new }
+    ) -> Result<Answer, Refusal>
+        requires some { (cell_count s ≤ most_listed) × (SomeRunning self.old cells.old opens.old) }
+        requires begun { self.old.core.n ≡ 0 → ⊥ }
+        ensures { TurnsOn self.old cells.old opens.old list.now s (answer_in result) self.new cells.new opens.new names.new }
     {
+        // Kept: no other fact tells how long the arrays within the desks, the cells and the entries are.
+        table::desks_shape(self.core.desks);
+        table::cells_shape(cells);
+        table::opens_shape(opens);
         let Core { n, m, .. } = self.core;
-        match s {
-            Some(Line::Deliver(i, u, k)) => {
-                steps::deliver::deliver_at(n, d, self.own, cells, opens, names, i, u, k)
-            }
-            Some(Line::Read(i, x)) => steps::look::read_at(n, m, d, cells, i, x),
-            Some(Line::Write(i, x, v)) => steps::write::write_at(n, m, d, cells, opens, i, x, v),
-            Some(Line::Trip(i, count)) => steps::look::trip_at(n, m, d, cells, i, &list[..count]),
-            Some(Line::New(_, _)) | None => Turn {
-                desk: d,
-                answer: Answer::Refused(Refusal::NoStep),
-            },
-        }
+        let own = self.own;
+        let p = steps::seat(actor(s));
+        let made = act(
+            n,
+            m,
+            &mut self.core.desks[p],
+            own,
+            cells,
+            opens,
+            s,
+            list,
+            names,
+        );
+        self.own[p] = self.core.desks[p].applied[p];
+        made
     }
 
     // A line on what there is so far.
@@ -109,16 +133,11 @@ impl Running {
         requires { (cell_count s ≤ most_listed) × (SomeRunning self.old cells.old opens.old) }
         ensures { TurnsOn self.old cells.old opens.old list.now s result self.new cells.new opens.new names.new }
     {
-        // Kept: no other fact tells how long the arrays within the desks are.
-        table::desks_shape(self.core.desks);
         if self.core.n == 0 {
-            return self.first(s);
+            steps::said(self.first(s))
+        } else {
+            steps::said(self.next(cells, opens, s, list, names))
         }
-        let p = seat(actor(s));
-        let Turn { desk, answer } = self.act(self.core.desks[p], cells, opens, s, list, names);
-        self.core.desks[p] = desk;
-        self.own[p] = desk.applied[p];
-        answer
     }
 }
 
@@ -179,7 +198,7 @@ pub fn run(
     let mut place = at;
     let mut len = 0;
     while place < text.len() && LONGEST_ANSWER <= out.len() - len {
-        // Kept: a Reader looks for the LF in each of `line`, `ended` and `after`: 2,000 lines of one desk take 1,223,544 instructions, so 1,016,174.
+        // Kept: a Reader would look for the line's end three times, in `line`, `ended` and `after`.
         let line = reader::first_line(text, place);
         let end = place + line.len();
         let s = said(line, end < text.len(), &mut list);

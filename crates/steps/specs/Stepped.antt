@@ -1,13 +1,12 @@
--- What a step on a desk by value and the two lent arrays must do: the machine's step.
+-- What a step on a desk and the two lent arrays must do: the machine's step.
 use Rattle.std.specs.Prelude.{◌≡◌, ◌-◌}
 use Rattle.reply.specs.{declared.Name.{Name}, Unique.{name_for}}
 use Rattle.laws.specs.{Kit.{List, [], map, ℕ, get_or, set, set-get_or}, Loop.{pick, cases}}
 use Rattle.clock.specs.Vectors.{places, place}
 use Rattle.machine.specs.Answer as machine
 use Rattle.machine.specs.{Steps.{Step, within, step}, Rules.{In}, Within.{says-within}}
-use Rattle.table.specs.{declared.Cell.{Cell}, declared.Open.{Open}}
-use Rattle.table.specs.{declared.Core.{Core}, declared.Desk.{Desk}, declared.Table.{Table}, Value.{desk0, CellsShape, OpensShape}}
-use Rattle.table.specs.{TypeShape.{DesksShape}, Model.{applied_m, model_of, table_of}, Sound.{SoundTable}}
+use Rattle.table.specs.{declared.Cell.{Cell}, declared.Core.{Core}, declared.Desk.{Desk}, declared.Open.{Open}, declared.Table.{Table}}
+use Rattle.table.specs.{Value.{desk0, CellsShape, OpensShape}, TypeShape.{DesksShape}, Model.{applied_m, model_of, table_of}, Sound.{SoundTable}}
 
 -- d is desk i of a table that keeps the rules (any desk where i is none), and own holds each desk's own count
 pub record Placed (t : Table) (own : List ℕ) (i : ℕ) (d : Desk) : Type 0 where

@@ -8,15 +8,14 @@ use Rattle.machine.specs.{Table.{State}, Rules.{In}, Steps.{Step, Read, Write, D
 use Rattle.machine.proofs.Refusals.{says-within, refusal-exactly, step_cases}
 use Rattle.reply.specs.{declared.Name.{Name}, declared.Answer.{Answer}, declared.Answer.TheVariants.{Refused}, declared.Refusal.{Refusal}}
 use Rattle.reply.specs.{Meaning.{answer_of, refusal_of, Counted}, Unique.{answer_is, Silent, silent_counted}}
-use Rattle.table.specs.{declared.Cell.{Cell}, declared.Open.{Open}}
-use Rattle.table.specs.{declared.Core.{Core}, declared.Desk.{Desk}, declared.Table.{Table}, Value.{desk0, CellsShape, OpensShape}}
-use Rattle.table.specs.{TypeShape.{DeskShape, DesksShape, Shaped}, Model.{model_of, table_of}, Unique.{StandsIn}}
+use Rattle.table.specs.{declared.Cell.{Cell}, declared.Core.{Core}, declared.Desk.{Desk}, declared.Open.{Open}, declared.Table.{Table}}
+use Rattle.table.specs.{Value.{desk0, CellsShape, OpensShape}, TypeShape.{DeskShape, DesksShape, Shaped}, Model.{model_of, table_of}, Unique.{StandsIn}}
 use Rattle.table.specs.Unique.{same-core, same-opens}
 use Rattle.table.proofs.Unique.{same-cells}
-use Rattle.steps.specs.{declared.Turn.{Turn}, Stepped.{Placed, Stepped, put_desk, table_after}, Link.LookStepped.{in_places}}
+use Rattle.steps.specs.{Turn.{Turn}, Stepped.{Placed, Stepped, put_desk, table_after}, Link.LookStepped.{in_places}}
 use Rattle.steps.specs.{Mirror.Look.{SomeLook, Looks}, Mirror.Write.{SomeTable, Writes}, Link.Deliver.{Part, Delivers}}
 
-outside : (s : State) (a : Step) → (In s.setup.desks (actor a) → ⊥) → (step s a).answer ≡ machine.refused machine.no_desk
+pub outside : (s : State) (a : Step) → (In s.setup.desks (actor a) → ⊥) → (step s a).answer ≡ machine.refused machine.no_desk
 outside s (Read i x) f = (refusal-exactly s (Read i x) machine.no_desk).1 (inl (f, refl))
 outside s (Write i x v) f = (refusal-exactly s (Write i x v) machine.no_desk).1 (inl (f, refl))
 outside s (Deliver i u k) f = (refusal-exactly s (Deliver i u k) machine.no_desk).1 (inl (λ h. f h.0, refl))

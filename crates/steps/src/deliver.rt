@@ -1,26 +1,18 @@
 // Deliver: a write is held or applied, and then every held write that becomes ready.
 ghost use Rattle.std.specs.Prelude.{◌<◌, ◌≤◌};
-ghost use Rattle.clock.specs.Vectors.{places};
+ghost use Rattle.clock.specs.Vectors.{places, place};
 ghost use Rattle.machine.specs.Rules.{In};
 ghost use Rattle.table.specs.Value.{desk_cells, entries, open_at};
 ghost use Rattle.table.specs.Link.OpensModel.{Unique};
 ghost use Rattle.steps.specs.Link.Cascade.{AppliedAt, DueSays, CascadeStarts, CascadeDoes};
-ghost use Rattle.steps.specs.Link.DeliverReceive.{Arriving, ReceivedAs};
-ghost use Rattle.steps.specs.Mirror.Look.{turn_of};
+ghost use Rattle.steps.specs.Link.DeliverReceive.{MissingOf, Arriving, ReceivedAs};
+ghost use Rattle.steps.specs.Turn.{turned, done};
 ghost use Rattle.steps.specs.Link.Deliver.{Part, Delivers, Tested};
 
-use crate::Turn;
-use crate::common::{answered, need};
+use crate::common::need;
 use clock::PLACES;
 use reply::{APPLIED, Answer, Name, Refusal};
 use table::{Cell, Cells, DONE, Desk, HELD, Open, Opens};
-
-// The counts after a cascade, and how many names it listed.
-#[derive(Drop)]
-struct Applied {
-    pub counts: [u16; PLACES],
-    pub len: usize,
-}
 
 // Entry e applied at desk i of n, and handed back when all have applied it.
 fn apply_at(cells: &mut Cells, opens: &mut Opens, n: usize, i: usize, e: usize)
@@ -34,12 +26,11 @@ fn apply_at(cells: &mut Cells, opens: &mut Opens, n: usize, i: usize, e: usize)
         vector,
         ..
     } = opens[e];
-    let shown = Cell {
+    cells[table::slot_of(i, usize::from(cell))] = Cell {
         writer,
         status,
         vector,
     };
-    cells[table::slot_of(i, usize::from(cell))] = shown;
     table::put_mark(opens, e, i - 1, DONE);
     if table::all_applied(opens, e, n) {
         opens[e].writer = 0;
@@ -63,11 +54,11 @@ fn due_of(a: [u16; PLACES], own: [u16; PLACES], opens: &Opens, i: usize, u: usiz
 }
 
 // An entry, a ready write of a writer, applied at desk i where the counts are these, and then every held write that becomes ready,
-// smallest writer first.
+// smallest writer first: how many names were listed.
 // Kept: the loop is labelled and its search yields the entry by break, as the project has every cascade.
 fn cascade(
     n: usize,
-    mut counts: [u16; PLACES],
+    counts: &mut [u16; PLACES],
     own: [u16; PLACES],
     cells: &mut Cells,
     opens: &mut Opens,
@@ -75,9 +66,9 @@ fn cascade(
     i: usize,
     mut writer: usize,
     mut entry: usize,
-) -> Applied
-    requires { CascadeStarts n i writer entry counts own cells.old opens.old }
-    ensures { CascadeDoes n i writer entry counts own cells.old opens.old names.old result.counts result.len cells.new opens.new names.new }
+) -> usize
+    requires { CascadeStarts n i writer entry counts.old own cells.old opens.old }
+    ensures { CascadeDoes n i writer entry counts.old own cells.old opens.old names.old counts.new result cells.new opens.new names.new }
 {
     let mut len = 0;
     'apply: loop {
@@ -91,7 +82,7 @@ fn cascade(
         len += 1;
         let found = 'search: {
             for t in 1..=n {
-                if let Some(x) = due_of(counts, own, opens, i, t) {
+                if let Some(x) = due_of(*counts, own, opens, i, t) {
                     break 'search Some((t, x));
                 }
             }
@@ -102,13 +93,25 @@ fn cascade(
         };
         (writer, entry) = due;
     }
-    Applied { counts, len }
+    len
+}
+
+// The name that a write of desk u waits for; none where it is ready. a: the desk's counts, v: the write's vector.
+fn missing(a: [u16; PLACES], v: [u16; PLACES], u: usize) -> Option<Name>
+    requires { place a u < place v u }
+    ensures { MissingOf a v u result }
+{
+    let missing = clock::readiness(a, v, u)?;
+    Some(Name {
+        writer: missing.desk as u16,
+        number: missing.number as u16,
+    })
 }
 
 // Entry e, a write of desk u that desk i has not received: held or applied.
 fn receive(
     n: usize,
-    d: Desk,
+    desk: &mut Desk,
     own: [u16; PLACES],
     cells: &mut Cells,
     opens: &mut Opens,
@@ -116,33 +119,20 @@ fn receive(
     i: usize,
     u: usize,
     e: usize,
-) -> Turn
-    requires { Arriving n i u e d.applied own cells.old opens.old }
-    ensures { ReceivedAs n i u e d own cells.old opens.old names.old result cells.new opens.new names.new }
+) -> Answer
+    requires { Arriving n i u e desk.old.applied own cells.old opens.old }
+    ensures { ReceivedAs n i u e desk.old own cells.old opens.old names.old (done desk.new result) cells.new opens.new names.new }
 {
     let v = opens[e].vector;
     // (That it is ready is told sooner than that nothing is missing.)
-    if !clock::ready(d.applied, v, u)
-        && let Some(missing) = clock::readiness(d.applied, v, u)
+    if !clock::ready(desk.applied, v, u)
+        && let Some(name) = missing(desk.applied, v, u)
     {
         table::put_mark(opens, e, i - 1, HELD);
-        let name = Name {
-            writer: missing.desk as u16,
-            number: missing.number as u16,
-        };
-        return Turn {
-            desk: d,
-            answer: Answer::Held(name),
-        };
+        return Answer::Held(name);
     }
-    let Applied { counts, len } = cascade(n, d.applied, own, cells, opens, names, i, u, e);
-    Turn {
-        desk: Desk {
-            applied: counts,
-            ..d
-        },
-        answer: Answer::Applied(len),
-    }
+    let count = cascade(n, &mut desk.applied, own, cells, opens, names, i, u, e);
+    Answer::Applied(count)
 }
 
 // Refusals 1, 6, 7, and 8 of a write that is applied at the desk: no entry is looked at. a: the desk's counts.
@@ -163,30 +153,10 @@ fn tests(
     need(usize::from(a[u - 1]) < k, Refusal::Received)
 }
 
-fn deliver(
-    n: usize,
-    d: Desk,
-    own: [u16; PLACES],
-    cells: &mut Cells,
-    opens: &mut Opens,
-    names: &mut [Name; APPLIED],
-    i: usize,
-    u: usize,
-    k: usize,
-) -> Result<Turn, Refusal>
-    requires { Part n d own cells.old opens.old i }
-    ensures { Delivers n d own cells.old opens.old names.old i u k (turn_of d result) cells.new opens.new names.new }
-{
-    tests(n, d.applied, own, i, u, k)?;
-    let e = table::find(opens, u, k as u16).ok_or(Refusal::Received)?;
-    need(opens[e].marks[i - 1] == 0, Refusal::Received)?;
-    Ok(receive(n, d, own, cells, opens, names, i, u, e))
-}
-
-// Write k of desk u delivered to desk i of n: d is that desk, own each desk's own count; the names of an answer stand in names.
+// Write k of desk u delivered to desk i of n: desk is that one, own each desk's own count; the names of an answer stand in names.
 pub fn deliver_at(
     n: usize,
-    d: Desk,
+    desk: &mut Desk,
     own: [u16; PLACES],
     cells: &mut Cells,
     opens: &mut Opens,
@@ -194,9 +164,12 @@ pub fn deliver_at(
     i: usize,
     u: usize,
     k: usize,
-) -> Turn
-    requires { Part n d own cells.old opens.old i }
-    ensures { Delivers n d own cells.old opens.old names.old i u k result cells.new opens.new names.new }
+) -> Result<Answer, Refusal>
+    requires { Part n desk.old own cells.old opens.old i }
+    ensures { Delivers n desk.old own cells.old opens.old names.old i u k (turned desk.new result) cells.new opens.new names.new }
 {
-    answered(d, deliver(n, d, own, cells, opens, names, i, u, k))
+    tests(n, desk.applied, own, i, u, k)?;
+    let e = table::find(opens, u, k as u16).ok_or(Refusal::Received)?;
+    need(opens[e].marks[i - 1] == 0, Refusal::Received)?;
+    Ok(receive(n, desk, own, cells, opens, names, i, u, e))
 }

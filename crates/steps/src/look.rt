@@ -6,11 +6,11 @@ ghost use Rattle.machine.specs.Steps.{within, Read, Trip};
 ghost use Rattle.clock.specs.Vectors.{places};
 ghost use Rattle.table.specs.Value.{desk_cells, cell_at};
 ghost use Rattle.table.specs.Model.{slot};
-ghost use Rattle.steps.specs.Mirror.Look.{clock_turn, shown_cell, look_turn, turn_of, SomeLook, Looks};
+ghost use Rattle.steps.specs.Turn.{turned, done};
+ghost use Rattle.steps.specs.Mirror.Look.{shown_cell, look_turn, SomeLook, Looks};
 ghost use Rattle.steps.specs.Mirror.Trip.{seen_nothing, see_cell, see_all, verdict_of, trip_turn};
 
-use crate::Turn;
-use crate::common::{answered, need};
+use crate::common::need;
 use clock::Clock;
 use reply::{Answer, Name, Refusal};
 use table::{Cell, Cells, Desk};
@@ -18,8 +18,8 @@ use table::{Cell, Cells, Desk};
 // The most cells of a trip.
 const TRIP: usize = 16;
 
-fn shown(c: Cell) -> Answer
-    ensures { result ≡ shown_cell c }
+fn shown(c: &Cell) -> Answer
+    ensures { result ≡ shown_cell c.now }
 {
     if c.writer == 0 {
         return Answer::Unset;
@@ -31,38 +31,30 @@ fn shown(c: Cell) -> Answer
     Answer::Shown(c.status, name)
 }
 
-fn with_clock(d: Desk, clock: Clock, answer: Answer) -> Turn
-    ensures { result ≡ clock_turn d clock answer }
-{
-    Turn {
-        desk: Desk { clock, ..d },
-        answer,
-    }
-}
-
 // The read of cell x at desk i, both in range.
-fn looked(d: Desk, cells: &Cells, i: usize, x: usize) -> Turn
+fn look(desk: &mut Desk, cells: &Cells, i: usize, x: usize) -> Answer
     requires { (In places i) × (In desk_cells x) }
-    ensures { result ≡ look_turn d (cell_at cells.now (slot i x)) }
+    ensures { done desk.new result ≡ look_turn desk.old (cell_at cells.now (slot i x)) }
 {
-    let c = cells[table::slot_of(i, x)];
-    with_clock(d, d.clock.join(c.vector), shown(c))
+    let cell = &cells[table::slot_of(i, x)];
+    desk.clock = desk.clock.join(cell.vector);
+    shown(cell)
 }
 
-fn look(n: usize, m: usize, d: Desk, cells: &Cells, i: usize, x: usize) -> Result<Turn, Refusal>
-    requires { SomeLook n m cells.now i d }
-    ensures { Looks n m cells.now i d (Read i x) (turn_of d result) }
+pub fn read_at(
+    n: usize,
+    m: usize,
+    desk: &mut Desk,
+    cells: &Cells,
+    i: usize,
+    x: usize,
+) -> Result<Answer, Refusal>
+    requires { SomeLook n m cells.now i desk.old }
+    ensures { Looks n m cells.now i desk.old (Read i x) (turned desk.new result) }
 {
     need(table::inside(n, i), Refusal::NoDesk)?;
     need(table::inside(m, x), Refusal::NoCell)?;
-    Ok(looked(d, cells, i, x))
-}
-
-pub fn read_at(n: usize, m: usize, d: Desk, cells: &Cells, i: usize, x: usize) -> Turn
-    requires { SomeLook n m cells.now i d }
-    ensures { Looks n m cells.now i d (Read i x) result }
-{
-    answered(d, look(n, m, d, cells, i, x))
+    Ok(look(desk, cells, i, x))
 }
 
 // What a trip has seen so far: the clock, whether a cell read 2, whether all read 1.
@@ -81,8 +73,8 @@ fn all_inside(m: usize, list: &[u16]) -> bool
 }
 
 // An unset cell has status 0 and a vector of zeros.
-fn see(s: Seen, c: Cell) -> Seen
-    ensures { result ≡ see_cell s c }
+fn see(s: Seen, c: &Cell) -> Seen
+    ensures { result ≡ see_cell s c.now }
 {
     Seen {
         clock: s.clock.join(c.vector),
@@ -102,7 +94,7 @@ fn see_all(clock: Clock, cells: &Cells, i: usize, list: &[u16]) -> Seen
         one: true,
     };
     for x in list {
-        s = see(s, cells[table::slot_of(i, usize::from(*x))]);
+        s = see(s, &cells[table::slot_of(i, usize::from(*x))]);
     }
     s
 }
@@ -120,34 +112,28 @@ fn verdict(s: Seen) -> Answer
 }
 
 // The trip of desk i over the listed cells, all in range.
-fn travelled(d: Desk, cells: &Cells, i: usize, list: &[u16]) -> Turn
+fn travel(desk: &mut Desk, cells: &Cells, i: usize, list: &[u16]) -> Answer
     requires { (In places i) × (every (within desk_cells) list.now ≡ true) }
-    ensures { result ≡ trip_turn d cells.now i list.now }
+    ensures { done desk.new result ≡ trip_turn desk.old cells.now i list.now }
 {
-    let s = see_all(d.clock, cells, i, list);
-    with_clock(d, s.clock, verdict(s))
+    let s = see_all(desk.clock, cells, i, list);
+    desk.clock = s.clock;
+    verdict(s)
 }
 
-fn travel(
+pub fn trip_at(
     n: usize,
     m: usize,
-    d: Desk,
+    desk: &mut Desk,
     cells: &Cells,
     i: usize,
     list: &[u16],
-) -> Result<Turn, Refusal>
-    requires { SomeLook n m cells.now i d }
-    ensures { Looks n m cells.now i d (Trip i list.now) (turn_of d result) }
+) -> Result<Answer, Refusal>
+    requires { SomeLook n m cells.now i desk.old }
+    ensures { Looks n m cells.now i desk.old (Trip i list.now) (turned desk.new result) }
 {
     need(table::inside(n, i), Refusal::NoDesk)?;
     need(table::inside(TRIP, list.len()), Refusal::TripSize)?;
     need(all_inside(m, list), Refusal::NoCell)?;
-    Ok(travelled(d, cells, i, list))
-}
-
-pub fn trip_at(n: usize, m: usize, d: Desk, cells: &Cells, i: usize, list: &[u16]) -> Turn
-    requires { SomeLook n m cells.now i d }
-    ensures { Looks n m cells.now i d (Trip i list.now) result }
-{
-    answered(d, travel(n, m, d, cells, i, list))
+    Ok(travel(desk, cells, i, list))
 }

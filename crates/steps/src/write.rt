@@ -5,11 +5,10 @@ ghost use Rattle.machine.specs.Rules.{In};
 ghost use Rattle.machine.specs.Steps.{Write};
 ghost use Rattle.clock.specs.Vectors.{places, place};
 ghost use Rattle.table.specs.Value.{desk_cells};
-ghost use Rattle.steps.specs.Mirror.Look.{turn_of};
+ghost use Rattle.steps.specs.Turn.{turned, done};
 ghost use Rattle.steps.specs.Mirror.Write.{new_marks, Spotted, SpotIn, enter_at, Wrote, SomeTable, Writes};
 
-use crate::Turn;
-use crate::common::{answered, need};
+use crate::common::need;
 use clock::{MOST_WRITES, PLACES};
 use reply::{Answer, Name, Refusal};
 use table::{Cell, Cells, DONE, Desk, MOST_STATUS, Open, Opens};
@@ -44,31 +43,29 @@ fn enter(opens: &mut Opens, spot: Option<usize>, o: Open)
 }
 
 // The write of desk i at cell x, all tests passed.
-fn written(
-    d: Desk,
+fn write(
+    desk: &mut Desk,
     cells: &mut Cells,
     opens: &mut Opens,
     i: usize,
     x: usize,
     status: u16,
     spot: Option<usize>,
-) -> Turn
+) -> Answer
     requires within { (In places i) × ((In desk_cells x) × (SpotIn spot)) }
-    requires not_spent { get_or d.applied (i - 1) 0 < most_writes }
-    ensures { Wrote d cells.old opens.old i x status spot result cells.new opens.new }
+    requires not_spent { get_or desk.old.applied (i - 1) 0 < most_writes }
+    ensures { Wrote desk.old cells.old opens.old i x status spot (done desk.new result) cells.new opens.new }
 {
     let writer = i as u16;
-    let mut applied = d.applied;
-    let number = applied[i - 1] + 1;
-    applied[i - 1] = number;
-    let clock = d.clock.raise(i);
-    let vector = clock.at;
-    let cell = Cell {
+    let number = desk.applied[i - 1] + 1;
+    desk.applied[i - 1] = number;
+    desk.clock = desk.clock.raise(i);
+    let vector = desk.clock.at;
+    cells[table::slot_of(i, x)] = Cell {
         writer,
         status,
         vector,
     };
-    cells[table::slot_of(i, x)] = cell;
     let open = Open {
         writer,
         status,
@@ -77,46 +74,27 @@ fn written(
         marks: new_marks(i),
     };
     enter(opens, spot, open);
-    Turn {
-        desk: Desk { applied, clock },
-        answer: Answer::Wrote(Name { writer, number }),
-    }
-}
-
-fn write(
-    n: usize,
-    m: usize,
-    d: Desk,
-    cells: &mut Cells,
-    opens: &mut Opens,
-    i: usize,
-    x: usize,
-    v: usize,
-) -> Result<Turn, Refusal>
-    requires { SomeTable n m cells.old opens.old i d }
-    ensures { Writes n m cells.old opens.old i d (Write i x v) (turn_of d result) cells.new opens.new }
-{
-    need(table::inside(n, i), Refusal::NoDesk)?;
-    need(table::inside(m, x), Refusal::NoCell)?;
-    need(v <= MOST_STATUS, Refusal::NoStatus)?;
-    let k = table::at_place(d.applied, i);
-    need(k < MOST_WRITES, Refusal::Spent)?;
-    let spot = spot_for(n, opens, i, k + 1)?;
-    Ok(written(d, cells, opens, i, x, v as u16, spot))
+    Answer::Wrote(Name { writer, number })
 }
 
 pub fn write_at(
     n: usize,
     m: usize,
-    d: Desk,
+    desk: &mut Desk,
     cells: &mut Cells,
     opens: &mut Opens,
     i: usize,
     x: usize,
     v: usize,
-) -> Turn
-    requires { SomeTable n m cells.old opens.old i d }
-    ensures { Writes n m cells.old opens.old i d (Write i x v) result cells.new opens.new }
+) -> Result<Answer, Refusal>
+    requires { SomeTable n m cells.old opens.old i desk.old }
+    ensures { Writes n m cells.old opens.old i desk.old (Write i x v) (turned desk.new result) cells.new opens.new }
 {
-    answered(d, write(n, m, d, cells, opens, i, x, v))
+    need(table::inside(n, i), Refusal::NoDesk)?;
+    need(table::inside(m, x), Refusal::NoCell)?;
+    need(v <= MOST_STATUS, Refusal::NoStatus)?;
+    let k = table::at_place(desk.applied, i);
+    need(k < MOST_WRITES, Refusal::Spent)?;
+    let spot = spot_for(n, opens, i, k + 1)?;
+    Ok(write(desk, cells, opens, i, x, v as u16, spot))
 }

@@ -1,10 +1,11 @@
 use Rattle.std.proofs.Common.{rules}
+use Rattle.laws.specs.Kit.{refl}
 use Rattle.machine.specs.Steps.{Read}
 use Rattle.access.specs.Acted.{met_looked, part_of_look}
 use Rattle.access.proofs.read.Goals as goal
 
 pub acted-answer-requires : goal.acted-answer-requires
-acted-answer-requires c d p a b n ea eb en = search (rules, part_of_look)
+acted-answer-requires c d p z a b n ez ea eb en = search (rules, part_of_look)
 
 pub returns : goal.returns
-returns c = met_looked c.acted-answer.ensures (Read c.args.i c.args.x) (λ d turn cs os names y. let h = y.met in search rules)
+returns c = met_looked c.acted-answer.ensures (Read c.args.i c.args.x) refl (λ d made left cs os names y. let h = y.met in search rules)

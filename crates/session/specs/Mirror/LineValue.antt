@@ -1,9 +1,7 @@
--- A line as the code has it: its value and the array of a trip's cells beside it; the desk that acts, and where that stands.
-use Rattle.std.specs.Prelude.{◌≡◌, ◌-◌, ◌≤◌, Some, None}
+-- A line as the code has it: its value and the array of a trip's cells beside it; the desk that acts.
+use Rattle.std.specs.Prelude.{◌≡◌, ◌≤◌, Some, None}
 use Rattle.std.specs.Prelude as std
-use Rattle.laws.specs.{Kit.{ap, ◌∙◌, List, Option, ℕ, length, take}, Loop.{pick}}
-use Rattle.clock.specs.Vectors.{places}
-use Rattle.machine.specs.Steps.{within}
+use Rattle.laws.specs.Kit.{ap, ◌∙◌, List, Option, ℕ, length, take}
 use Rattle.schedule.specs.{Grammar.{Line as Said}, LineValue.{line_value, trip_cells, most_listed, line_back, line-back, cell_count, count_is}}
 use Rattle.schedule.specs.{declared.Line.{Line}, declared.Line.TheVariants.{New, Read, Write, Deliver, Trip}}
 
@@ -29,7 +27,3 @@ line_actor (Some (Write i x v)) = i
 line_actor (Some (Deliver i u k)) = i
 line_actor (Some (Trip i n)) = i
 line_actor None = 0
-
--- its place in the array of desks, and the first for a number that is no desk: the step then leaves that one as it is
-abbrev pub seat_of : ℕ → ℕ
-seat_of i = pick (within places i) (i - 1) 0

@@ -159,9 +159,8 @@ module _ {b : State} {n i : ℕ} {a own : List ℕ} {cs : List Cell} {os : List 
 
       shape-after : OpensShape os'
       shape-after =
-          entry_cases OpensShape
-          (λ t. shape-free_entry (put_mark os e (i - 1) done) e d.small (shape-put_mark os e d.small r.opens_shape (i - 1) done))
-          (λ t. shape-put_mark os e d.small r.opens_shape (i - 1) done)
+          let h = shape-put_mark os e d.small r.opens_shape (i - 1) done in
+          entry_cases OpensShape (λ t. shape-free_entry (put_mark os e (i - 1) done) e d.small h) (λ t. h)
 
       blanks-after : (z : ℕ) → z < all_cells → (cell_at cs' z).writer ≡ 0 → AllZero (cell_at cs' z)
       blanks-after z hz =

@@ -1,7 +1,7 @@
 -- What the cascade's search yields.
-use Rattle.table.specs.{declared.Open.{Open}}
 use Rattle.std.specs.Prelude.{◌+◌, ◌-◌, ◌≤◌, ◌≡◌, Option, Some, None}
 use Rattle.laws.specs.{Kit.{ℕ, ap, Bool, arith, List, none, some}, Loop.{scan}}
+use Rattle.table.specs.declared.Open.{Open}
 use Rattle.steps.specs.Link.Cascade.{due_in, DueAt}
 
 -- the first writer with a write that is due, and the write's entry; or that there is none

@@ -10,13 +10,12 @@ use Rattle.machine.specs.{Steps.{Out, Deliver, step}, Rules.{In}, Refusals.{Row,
 use Rattle.machine.proofs.RulesKept.{done-counted}
 use Rattle.machine.proofs.Refusals.{refusal-exactly, accepted-effect, effect_of, deliver_effect}
 use Rattle.machine.specs.Answer as machineAnswer
-use Rattle.reply.specs.{declared.Name.{Name}, declared.Refusal.{Refusal}, Meaning.{refusal_of, answer_of, Counted}}
-use Rattle.table.specs.{declared.Cell.{Cell}, declared.Open.{Open}}
-use Rattle.table.specs.{declared.Desk.{Desk}, declared.Table.{Table}, Value.{entries, open_at}, EntryNames.{named_at}, Model.{applied_m}}
+use Rattle.reply.specs.{declared.Answer.{Answer}, declared.Name.{Name}, declared.Refusal.{Refusal}, Meaning.{refusal_of, answer_of, Counted}}
+use Rattle.table.specs.{declared.Cell.{Cell}, declared.Desk.{Desk}, declared.Open.{Open}, declared.Table.{Table}, Value.{entries, open_at}, EntryNames.{named_at}, Model.{applied_m}}
 use Rattle.table.specs.{Model.{open_m, cells_m, opens_m, applied_put, clock_keep, model_of, table_of}, Link.OpensModel.{opens_at}}
-use Rattle.steps.specs.declared.Turn.{Turn}
+use Rattle.steps.specs.Turn.{Turn, turned}
 use Rattle.steps.specs.{Stepped.{Placed, names_beside, Stepped}, Link.Cascade.{midst}}
-use Rattle.steps.specs.{Link.DeliverReceive.{Arrival, ReceivesAs, effect}, Mirror.Look.{refused_turn, turn_of}, Link.LookStepped.{in_desks}}
+use Rattle.steps.specs.{Link.DeliverReceive.{Arrival, ReceivesAs, effect}, Mirror.Look.{refused_turn}, Link.LookStepped.{in_desks}}
 use Rattle.steps.specs.{Link.LookStepped.{desk-shape, refused-stepped, taken-stepped}, Link.Look.{counts_start}}
 
 -- the part of a table that a delivery is handed
@@ -75,8 +74,8 @@ module _ {whole : Table} {own : List ℕ} {i : ℕ} {d : Desk} (p : Placed whole
   }
 
   -- a refusal handed on by `?`
-  pub meets_refused_on : (u k : ℕ) (r : Refusal) {y : Refusal} (names : List Name) (made : Result Turn Refusal) → IsErrAnd made (λ x. x ≡ y) → y ≡ r
-      → FirstFails (rows_of s (Deliver i u k)) (refusal_of r) → Meets whole d names i u k (turn_of d made) cs os names
+  pub meets_refused_on : (u k : ℕ) (r : Refusal) {y : Refusal} (names : List Name) (made : Result Answer Refusal) → IsErrAnd made (λ x. x ≡ y) → y ≡ r
+      → FirstFails (rows_of s (Deliver i u k)) (refusal_of r) → Meets whole d names i u k (turned d made) cs os names
   meets_refused_on u k r names made h e f =
       let q = err_from_is_err_and made h in
       rw (q.1, q.2, e) (meets_refused u k r names f)

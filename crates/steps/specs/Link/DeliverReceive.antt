@@ -1,19 +1,19 @@
 -- A write is received: held or applied, on the values as in the machine.
-use Rattle.std.specs.Prelude.{◌-◌, ◌<◌, ◌≤◌, ◌≡◌}
+use Rattle.std.specs.Prelude.{◌-◌, ◌<◌, ◌≡◌}
+use Rattle.std.specs.Prelude as std
 use Rattle.laws.specs.{Kit.{ℕ, suc, refl, sym, ap, subst, ◌∙◌, List, map, true, Option, some, arith, sets}, Update.{upd_same}}
 use Rattle.clock.specs.{Vectors.{places, place}, Readiness.{ready_at, failing-narrow}}
 use Rattle.machine.specs.Table as machine
-use Rattle.machine.specs.{Table.{State, Name as MachineName, most_open, most_writes, away, held}, Answer.{applies}, Steps.{Out, Settled, failing, hold}}
+use Rattle.machine.specs.{Table.{State, Name as MachineName, most_open, away, held}, Answer.{applies}, Steps.{Out, Settled, failing, hold}}
 use Rattle.machine.specs.Steps.{deliver_by, with_opens}
 use Rattle.machine.specs.Rules.{In}
 use Rattle.machine.proofs.Ready.{is-none, not-applied}
 use Rattle.machine.proofs.RulesKept.{ReadyAt, ready-next}
 use Rattle.machine.proofs.Apply.{to_be_open}
 use Rattle.reply.specs.{declared.Name.{Name}, Unique.{name_for}, declared.Answer.{Answer}, declared.Answer.TheVariants.{Held, Applied}, Meaning.{answer_of, Counted}}
-use Rattle.table.specs.{declared.Cell.{Cell}, declared.Open.{Open}}
-use Rattle.table.specs.{declared.Desk.{Desk}, Value.{all_cells, cell_at, entries, open_at, put_mark}, EntryNames.{named_at}}
+use Rattle.table.specs.{declared.Cell.{Cell}, declared.Desk.{Desk}, declared.Open.{Open}, Value.{all_cells, cell_at, entries, open_at, put_mark}, EntryNames.{named_at}}
 use Rattle.table.specs.{Model.{open_m, opens_m}, Link.OpensModel.{Unique, opens_at, opens-mark, unique-mark}, Sound.{AllZero}}
-use Rattle.steps.specs.{declared.Turn.{Turn}, Stepped.{names_beside}, Link.Cascade.{midst, Running, NextReady, CascadeDoes, from}}
+use Rattle.steps.specs.{Turn.{Turn}, Stepped.{names_beside}, Link.Cascade.{midst, Running, NextReady, CascadeDoes, from}}
 use Rattle.steps.specs.Link.Cascade.{in_places, small_n, narrow, flat, here}
 
 -- entry e holds u.k, which desk i has not received
@@ -28,6 +28,18 @@ pub record Waits (a v : List ℕ) (u : ℕ) (r : Answer) : Type 0 where
   pub what : MachineName
   pub named : failing places (place a) u (place v) ≡ some what
   pub is : r ≡ Held (name_for what)
+
+-- whether there is one
+abbrev pub MissingOf : List ℕ → List ℕ → ℕ → std.Option Name → Type 0
+MissingOf a v u (std.Some w) = Waits a v u (Held w)
+MissingOf a v u std.None = ready_at a v u ≡ true
+
+module _ (a v : List ℕ) (u : ℕ) (r : std.Option Name) (h : MissingOf a v u r) where
+  pub missing-some : {w : Name} → r ≡ std.Some w → Waits a v u (Held w)
+  missing-some e = rw e at h
+
+  pub missing-none : r ≡ std.None → ready_at a v u ≡ true
+  missing-none e = rw e at h
 
 -- what the machine does with it
 abbrev pub effect : State → ℕ → ℕ → ℕ → machine.Open → Out
@@ -92,9 +104,6 @@ module _ {b : State} {n i u k e : ℕ} {a own : List ℕ} {cs : List Cell} {os :
   -- not ready --
 
   -- its own number is above the count
-  pub number_small : (t : ℕ) → place (open_at os e).vector t ≤ most_writes
-  number_small t = omega (arith, (r.running.mid.frame.open-write u k w stands_open).issued t, r.running.mid.frame.ranges.written t)
-
   pub late_here : place a u < place (open_at os e).vector u
   late_here = rw (upd_same b.applied i (place a)) at (not-applied (r.running.mid.frame.open-write u k w stands_open) i (rw r.running.count r.running.desk) (λ d. omega (arith, r.is_away)))
 

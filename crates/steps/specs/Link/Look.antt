@@ -1,5 +1,5 @@
 -- What a desk reads joins its clock as the machine says, for one cell and for the cells of a trip.
-use Rattle.std.specs.Prelude.{◌-◌, ◌<◌, ◌≡◌}
+use Rattle.std.specs.Prelude.{◌-◌, ◌≡◌}
 use Rattle.laws.specs.{Kit.{ℕ, sym, ap, ◌∙◌, fun_ext, List, [], arith, eqb-true, eqb, length, set}, Loop.{cases}}
 use Rattle.machine.specs.Table as states
 use Rattle.machine.specs.Answer as machine
@@ -8,7 +8,7 @@ use Rattle.machine.specs.Steps.{Step, Read, read_clock, with_clock}
 use Rattle.machine.specs.Refusals.{rows_of, AllPass}
 use Rattle.machine.proofs.Refusals.{effect_of}
 use Rattle.clock.specs.{declared.Clock.{Clock}, Vectors.{places, place, joined, join_clock, place-joined}}
-use Rattle.table.specs.{declared.Cell.{Cell}, declared.Desk.{Desk}, declared.Table.{Table}, Value.{all_cells, cell_at, FullCell}}
+use Rattle.table.specs.{declared.Cell.{Cell}, declared.Desk.{Desk}, declared.Table.{Table}, Value.{cell_at, FullCell}}
 use Rattle.table.specs.Model.{cell_m, slot, clock_m, cells_m, opens_m, clock_vec, cell_in, clock-at, clock_put, applied_keep, model_of, table_of}
 use Rattle.table.specs.{Model.{applied_m, applied_vec, applied-at}, Sound.{AllZero}}
 use Rattle.reply.specs.Meaning.{answer_of}
@@ -44,11 +44,8 @@ module _ {t : Table} {own : List ℕ} {i : ℕ} {d : Desk} (p : Placed t own i d
   pub cell-here : {x : ℕ} → In t.core.m x → cells_m cs i x ≡ cell_m (cell_at cs (slot i x))
   cell-here {x} hx = cell_in cs i x (in_places p hi) (in_cells p hx)
 
-  pub slot_in : {x : ℕ} → In t.core.m x → slot i x < all_cells
-  slot_in hx = omega (arith, in_places p hi, in_cells p hx)
-
   pub blank-here : {x : ℕ} → In t.core.m x → Blank0 (cell_at cs (slot i x))
-  blank-here {x} hx = p.sound.blanks (slot i x) (slot_in hx)
+  blank-here {x} hx = p.sound.blanks (slot i x) (omega (arith, in_places p hi, in_cells p hx))
 
   -- only the clock changes
   pub clock-stepped : (a : Step) (k : Clock) (answer : machine.Answer) → AllPass (rows_of (model_of t) a)
@@ -71,4 +68,4 @@ module _ {t : Table} {own : List ℕ} {i : ℕ} {d : Desk} (p : Placed t own i d
       clock-stepped (Read i x) (join_clock d.clock c.vector) (answer_of (shown_cell c) []) (hi, (hx, tt))
       (shown-cell c ∙ rw (cell-here hx))
       (ap (λ (v : states.Vec). with_clock (model_of t) i v)
-      (join-cell d.clock.at c (desk-shape p hi).clock (p.cells_shape.each (slot i x) (slot_in hx)) (blank-here hx) ∙ rw (clock-start, cell-here hx)))
+      (join-cell d.clock.at c (desk-shape p hi).clock (p.cells_shape.each (slot i x) (omega (arith, in_places p hi, in_cells p hx))) (blank-here hx) ∙ rw (clock-start, cell-here hx)))

@@ -8,11 +8,11 @@ use Rattle.machine.specs.{Refusals.{rows_of, FirstFails, AllPass, Accepted}, Rul
 use Rattle.machine.proofs.Refusals.{says-within, refusal-exactly, refused-leaves-table, accepted-effect, accepted-exactly, effect_of}
 use Rattle.machine.proofs.RulesKept.{step-keeps-rules}
 use Rattle.clock.specs.Vectors.{places}
-use Rattle.table.specs.{declared.Cell.{Cell}, declared.Open.{Open}}
-use Rattle.table.specs.{declared.Desk.{Desk}, declared.Table.{Table}, Value.{desk_cells, all_cells, cell_at}, TypeShape.{DeskShape}}
+use Rattle.table.specs.{declared.Cell.{Cell}, declared.Desk.{Desk}, declared.Open.{Open}, declared.Table.{Table}}
+use Rattle.table.specs.{Value.{desk_cells, all_cells, cell_at}, TypeShape.{DeskShape}}
 use Rattle.table.specs.{Link.OpensModel.{Unique}, Sound.{AllZero}, Model.{model_of, table_of}}
-use Rattle.reply.specs.{Meaning.{answer_of, refusal_of}, declared.Refusal.{Refusal}}
-use Rattle.steps.specs.{declared.Turn.{Turn}, Mirror.Look.{refused_turn, turn_of}, Stepped.{Placed, Stepped, put_desk, put_back, table_after}}
+use Rattle.reply.specs.{Meaning.{answer_of, refusal_of}, declared.Answer.{Answer}, declared.Refusal.{Refusal}}
+use Rattle.steps.specs.{Turn.{Turn, turned}, Mirror.Look.{refused_turn}, Stepped.{Placed, Stepped, put_desk, put_back, table_after}}
 
 -- what a test of the code, `if !b`, says
 pub stops : {b p : Bool} {P : Type 0} → Says p P → b ≡ p → not b ≡ true → P → ⊥
@@ -20,6 +20,11 @@ stops {b} {p} s e t h = apart p (s.from h) (sym e ∙ not-true b t)
 
 pub passes : {b p : Bool} {P : Type 0} → Says p P → b ≡ p → not b ≡ false → P
 passes {b} s e t = s.to (sym e ∙ not-false b t)
+
+-- of equal turns
+pub stepped_as : {t : Table} {i : ℕ} {d : Desk} {a : Step} {r s : Turn} {cs : List Cell} {os : List Open} → r ≡ s
+    → Stepped t i d a s.desk cs os (answer_of s.answer []) → Stepped t i d a r.desk cs os (answer_of r.answer [])
+stepped_as e h = rw e h
 
 module _ {whole : Table} {own : List ℕ} {i : ℕ} {d : Desk} (p : Placed whole own i d) where
   abbrev n : ℕ
@@ -63,11 +68,11 @@ module _ {whole : Table} {own : List ℕ} {i : ℕ} {d : Desk} (p : Placed whole
     refused-turn r e f = rw e (refused-stepped (refusal_of r) f)
 
     -- a refusal handed on by `?`
-    pub refused_on : (r : Refusal) {y : Refusal} (made : Result Turn Refusal) → IsErrAnd made (λ x. x ≡ y) → y ≡ r → FirstFails (rows_of (model_of whole) a) (refusal_of r)
-        → Stepped whole i d a (turn_of d made).desk whole.cells whole.opens (answer_of (turn_of d made).answer [])
+    pub refused_on : (r : Refusal) {y : Refusal} (made : Result Answer Refusal) → IsErrAnd made (λ x. x ≡ y) → y ≡ r → FirstFails (rows_of (model_of whole) a) (refusal_of r)
+        → Stepped whole i d a (turned d made).desk whole.cells whole.opens (answer_of (turned d made).answer [])
     refused_on r made h e f =
         let q = err_from_is_err_and made h in
-        refused-turn r (ap (turn_of d) (q.1 ∙ ap Err (q.2 ∙ e))) f
+        refused-turn r (ap (turned d) (q.1 ∙ ap Err (q.2 ∙ e))) f
 
     -- every test has passed, and the model becomes what the effect says
     pub taken-stepped : {d' : Desk} {cs' : List Cell} {os' : List Open} {answer : machine.Answer} → In n i → AllPass (rows_of (model_of whole) a)

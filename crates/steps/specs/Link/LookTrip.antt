@@ -13,9 +13,9 @@ use Rattle.clock.specs.Vectors.{places, place, length-joined}
 use Rattle.table.specs.{declared.Cell.{Cell}, declared.Desk.{Desk}, declared.Table.{Table}, Value.{cell_at}, Model.{cell_m}}
 use Rattle.table.specs.Model.{slot, cells_m, model_of}
 use Rattle.reply.specs.Meaning.{answer_of}
-use Rattle.steps.specs.{declared.look.Seen.{Seen}, Stepped.{Placed, Stepped}, Link.LookStepped.{desk-shape}}
+use Rattle.steps.specs.{declared.look.Seen.{Seen}, Stepped.{Placed, Stepped}, Link.LookStepped.{in_places, in_cells, desk-shape}}
 use Rattle.steps.specs.{Mirror.Trip.{seen_nothing, see_cell, see_all, verdict_of, trip_turn}, Link.Look.{Blank0, join-cell, clock-start}}
-use Rattle.steps.specs.Link.Look.{cell-here, slot_in, blank-here, clock-stepped}
+use Rattle.steps.specs.Link.Look.{cell-here, blank-here, clock-stepped}
 
 -- the machine's reads: only the clock changes, and every cell shows what it showed before --
 
@@ -80,7 +80,7 @@ module _ {whole : Table} {own : List ℕ} {i : ℕ} {d : Desk} (p : Placed whole
       let hx = h x (Memᴰ-head refl) in
       let c = cell_at cs (slot i x) in
       seen-clock (see_cell s c) xs (length-joined s.clock.at c.vector ∙ l) (λ y g. h y (Memᴰ-tail g))
-      ∙ ap (λ (v : Vec). clock_after (cells_m cs i) v xs) (join-cell s.clock.at c l (p.cells_shape.each (slot i x) (slot_in p hi hx)) (blank-here p hi hx) ∙ rw (cell-here p hi hx))
+      ∙ ap (λ (v : Vec). clock_after (cells_m cs i) v xs) (join-cell s.clock.at c l (p.cells_shape.each (slot i x) (omega (arith, in_places p hi, in_cells p hx))) (blank-here p hi hx) ∙ rw (cell-here p hi hx))
 
   seen-two : (s : Seen) (xs : List ℕ) → Inside xs → (see_all cs i s xs).two ≡ pick (any (shows 2) xs) true s.two
   unfolding see_all any

@@ -9,8 +9,7 @@ use Rattle.machine.specs.{Rules.{In}, Steps.{Write, open_count, everywhere, stil
 use Rattle.machine.proofs.OneDesk.{alone_none_open}
 use Rattle.machine.proofs.Paper.{new-number, new_somewhere}
 use Rattle.clock.specs.{declared.Clock.{Clock}, Vectors.{places, place, place_set, place-raised, raised, raise_clock}}
-use Rattle.table.specs.{declared.Open.{Open}}
-use Rattle.table.specs.{declared.Cell.{Cell}, declared.Desk.{Desk}, declared.Table.{Table}, Value.{all_cells, cell_at, put_cell}}
+use Rattle.table.specs.{declared.Cell.{Cell}, declared.Desk.{Desk}, declared.Open.{Open}, declared.Table.{Table}, Value.{all_cells, cell_at, put_cell}}
 use Rattle.table.specs.{Value.{cell_at_put, cell_at-other}, EntryNames.{entry_number}, Model.{open_m, slot, opens_m, applied_m, clock_m, cells_m}}
 use Rattle.table.specs.{Model.{applied_put, clock_put, cell_put, model_of}, Link.OpensModel.{Unique, opens_store, unique_store}}
 use Rattle.table.specs.Sound.{AllZero}

@@ -1,21 +1,15 @@
 -- What read and trip make, as values, and what they ask.
-use Rattle.std.specs.Prelude.{Result, Ok, Err}
+use Rattle.std.specs.Prelude.{Err}
 use Rattle.laws.specs.{Kit.{ℕ, List, [], eqb}, Loop.{pick}}
 use Rattle.clock.specs.{declared.Clock.{Clock}, Vectors.{place, join_clock}}
-use Rattle.table.specs.{declared.Open.{Open}}
-use Rattle.table.specs.{declared.Cell.{Cell}, declared.Desk.{Desk}, Model.{table_of}}
-use Rattle.reply.specs.{declared.Answer.{Answer}, declared.Answer.TheVariants.{Unset, Shown, Refused}, declared.Refusal.{Refusal}}
+use Rattle.table.specs.{declared.Cell.{Cell}, declared.Desk.{Desk}, declared.Open.{Open}, Model.{table_of}}
+use Rattle.reply.specs.{declared.Answer.{Answer}, declared.Answer.TheVariants.{Unset, Shown}, declared.Refusal.{Refusal}}
 use Rattle.reply.specs.Meaning.{answer_of}
-use Rattle.steps.specs.{declared.Turn.{Turn}, Stepped.{Placed, Stepped}}
+use Rattle.steps.specs.{Turn.{Turn, turned}, Stepped.{Placed, Stepped}}
 use Rattle.machine.specs.Steps.{Step}
 
 abbrev pub refused_turn : Desk → Refusal → Turn
-refused_turn d r = record { desk = d; answer = Refused r }
-
--- the turn made; or the refusal, which leaves the desk as it came
-abbrev pub turn_of : Desk → Result Turn Refusal → Turn
-turn_of d (Ok t) = t
-turn_of d (Err r) = refused_turn d r
+refused_turn d r = turned d (Err r)
 
 -- the desk with another clock
 abbrev pub with_desk_clock : Desk → Clock → Desk

@@ -5,7 +5,7 @@ use Rattle.laws.specs.{Lists.{drop-next}, Loop.{pick}}
 use Rattle.clock.specs.{declared.Clock.{Clock}, Vectors.{join_clock}}
 use Rattle.table.specs.{declared.Cell.{Cell}, declared.Desk.{Desk}, Value.{cell_at}, Model.{slot}}
 use Rattle.reply.specs.{declared.Answer.{Answer}, declared.Answer.TheVariants.{Yes, No, Unknown}}
-use Rattle.steps.specs.{declared.Turn.{Turn}, declared.look.Seen.{Seen}, Mirror.Look.{clock_turn}}
+use Rattle.steps.specs.{Turn.{Turn}, declared.look.Seen.{Seen}, Mirror.Look.{clock_turn}}
 
 abbrev pub seen_nothing : Clock → Seen
 seen_nothing k = record { clock = k; two = false; one = true }

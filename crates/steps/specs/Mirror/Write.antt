@@ -7,7 +7,7 @@ use Rattle.table.specs.{declared.Cell.{Cell}, declared.Desk.{Desk}, declared.Ope
 use Rattle.table.specs.{EntryNames.{free_at}, Model.{slot, table_of}}
 use Rattle.reply.specs.{declared.Answer.TheVariants.{Wrote as WroteAnswer}, declared.Refusal.{Refusal}, declared.Refusal.TheVariants.{Full}}
 use Rattle.reply.specs.Meaning.{answer_of}
-use Rattle.steps.specs.declared.Turn.{Turn}
+use Rattle.steps.specs.Turn.{Turn}
 use Rattle.steps.specs.Stepped.{Placed, Stepped}
 
 -- where a new write goes: nowhere with one desk; else into a free entry, if there is one

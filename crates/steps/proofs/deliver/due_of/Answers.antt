@@ -16,14 +16,18 @@ entry : (c : goal.In_ok-e) → (let g = c.args in
     (c.in_ok-e.e < entries) × (named_at g.opens.now g.u (suc (place g.a g.u)) c.in_ok-e.e ≡ true))
 entry c = let f = c.in_ok-e.ensures in (f.0, rw (← next-is c.args.u c.args.a c.requires.1.0.0) f.1)
 
+-- with the count below the writer's own
 due : (c : goal.In_ok-e) → (let g = c.args in
-    due_in g.a g.own g.opens.now g.i g.u ≡ (eqb (get_or (open_at g.opens.now c.in_ok-e.e).marks (g.i - 1) 0) held && ready_at g.a (open_at g.opens.now c.in_ok-e.e).vector g.u))
-due c =
+    place g.a g.u < place g.own g.u
+    → due_in g.a g.own g.opens.now g.i g.u ≡ (eqb (get_or (open_at g.opens.now c.in_ok-e.e).marks (g.i - 1) 0) held && ready_at g.a (open_at g.opens.now c.in_ok-e.e).vector g.u))
+due c l =
     let g = c.args in
     let p = c.requires in
     let h = entry c in
-    let l : place g.a g.u < place g.own g.u = omega (arith, place_at g.a g.u p.1.0.0, place_at g.own g.u p.1.0.0, c.if-own-u.false) in
     due-held g.a g.own g.opens.now g.i g.u _ _ p.0.0 l p.1.1 h.0 h.1 refl
+
+late : (u : ℕ) (a own : List ℕ) → 1 ≤ u → get_or a (u - 1) 0 < get_or own (u - 1) 0 → place a u < place own u
+late u a own h f = omega (arith, place_at a u h, place_at own u h, f)
 
 pub returns-then-own-u : goal.returns-then-own-u
 returns-then-own-u c =
@@ -39,13 +43,15 @@ returns-in_err-e c =
 
 pub returns-then-opens-e-ne-HELD : goal.returns-then-opens-e-ne-HELD
 returns-then-opens-e-ne-HELD c =
-    due (goal.at.returns-then-opens-e-ne-HELD c).In_ok-e ∙ rw (ne_eqb _ _ c.if-opens-e-ne-HELD.true)
+    let g = c.args in
+    due (goal.at.returns-then-opens-e-ne-HELD c).In_ok-e (late g.u g.a g.own c.requires.1.0.0 c.if-own-u.false) ∙ rw (ne_eqb _ _ c.if-opens-e-ne-HELD.true)
 
 pub returns : goal.returns
 returns c =
-    let w = goal.at.returns c in
-    let h = entry w.In_ok-e in
-    let d = due w.In_ok-e ∙ rw (eq-eqb _ _ c.if-opens-e-ne-HELD.false) (sym c.ready.ensures) in
+    let g = c.args in
+    let w = (goal.at.returns c).In_ok-e in
+    let h = entry w in
+    let d = due w (late g.u g.a g.own c.requires.1.0.0 c.if-own-u.false) ∙ rw (eq-eqb _ _ c.if-opens-e-ne-HELD.false) (sym c.ready.ensures) in
     rw c.then_some.ensures (cases c.ready.result
     (λ t. rw t (record { is_due = d ∙ t; small = h.0; holds = h.1; is_ready = sym c.ready.ensures ∙ t }))
     (λ t. rw t (d ∙ t)))

@@ -1,4 +1,25 @@
+use Rattle.laws.specs.Kit.{refl, inl, inr, ap, not}
+use Rattle.machine.specs.Within.{says-within}
+use Rattle.reply.specs.declared.Refusal.TheVariants.{NoDesk, NoCell}
+use Rattle.steps.specs.{Link.LookStepped.{stops, passes, refused_on, stepped_as}, Link.Look.{read-stepped}}
 use Rattle.steps.proofs.look.read_at.Goals as goal
 
+pub returns-in_err-need : goal.returns-in_err-need
+returns-in_err-need c ds os own p =
+    let f = c.in_err-need.ensures.fails in
+    refused_on p _ NoDesk _ c.from_residual.ensures.1 f.1 (inl (stops (says-within _ _) c.inside.ensures (ap not f.0), refl))
+
+pub returns-in_err-need-2 : goal.returns-in_err-need-2
+returns-in_err-need-2 c ds os own p =
+    let f = c.in_err-need-2.ensures.fails in
+    refused_on p _ NoCell _ c.from_residual-in_err-need-2.ensures.1 f.1
+    (inr (
+      passes (says-within _ _) c.inside.ensures (ap not c.in_ok-need.ensures.passes),
+      inl (stops (says-within _ _) c.inside-2.ensures (ap not f.0), refl),
+    ))
+
 pub returns : goal.returns
-returns c ds os own p = rw c.answered.ensures (c.look.ensures ds os own p)
+returns c ds os own p =
+    stepped_as c.look.ensures
+    (read-stepped p (passes (says-within _ _) c.inside.ensures (ap not c.in_ok-need.ensures.passes)) _
+    (passes (says-within _ _) c.inside-2.ensures (ap not c.in_ok-need-2.ensures.passes)))

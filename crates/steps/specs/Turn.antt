@@ -1,0 +1,21 @@
+-- A turn: the acting desk after a step, and the answer.
+use Rattle.std.specs.Prelude.{Result, Ok, Err}
+use Rattle.table.specs.declared.Desk.{Desk}
+use Rattle.reply.specs.{declared.Answer.{Answer}, declared.Answer.TheVariants.{Refused}, declared.Refusal.{Refusal}}
+
+pub record Turn : Type 0 where
+  pub desk : Desk
+  pub answer : Answer
+
+-- a step's answer; or its refusal, as an answer
+abbrev pub answer_in : Result Answer Refusal → Answer
+answer_in (Ok a) = a
+answer_in (Err r) = Refused r
+
+-- the desk as a step that is not refused leaves it, and its answer
+abbrev pub done : Desk → Answer → Turn
+done d a = record { desk = d; answer = a }
+
+-- the desk as a step leaves it, and what the step hands back
+abbrev pub turned : Desk → Result Answer Refusal → Turn
+turned d r = done d (answer_in r)
