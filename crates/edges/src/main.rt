@@ -131,7 +131,7 @@ fn alone(rt: &impl Print) -> io::Result<()> {
 // A table value that breaks the rules: 13 before all else.
 fn broken(rt: &impl Print) -> io::Result<()> {
     let mut t = begin(rt, 2, 1)?;
-    t.cells[1] = 1;
+    t.cells[0].status = 1;
     let t = read(rt, t, 9, 9)?;
     write(rt, t, 1, 1, 0)?;
     Ok(())
