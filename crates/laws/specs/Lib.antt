@@ -14,9 +14,7 @@ pub mod Each
 pub mod Tests
 pub mod Stores
 pub mod Text
-pub mod Rows
 pub mod FromOne
 pub mod Owned
-pub mod StoresRead
 pub mod FirstNot
 pub mod Chains
