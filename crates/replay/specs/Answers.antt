@@ -4,7 +4,7 @@ use Rattle.laws.specs.{Kit.{length, take, drop, length-append, take_at, drop_at}
 use Rattle.laws.specs.Kit.{take-add, take_all}
 use Rattle.std.specs.Prelude.{◌≡◌, ◌++◌, ◌+◌, ◌-◌, ◌*◌, ◌<◌, ◌≤◌, Result, Option, None as Unknown, Some as Known}
 use Rattle.std.specs.{Io.{ReadsAtMost}, Io.KnownBytes.{Appends}}
-use Rattle.table.specs.{declared.Core.{Core}, Model.{table_with}}
+use Rattle.table.specs.{declared.Cell.{Cell}, declared.Core.{Core}, declared.Open.{Open}, Model.{table_with}}
 use Rattle.session.specs.{Session.{Session}, Transcript.{transcript_from, most_text, transcript}}
 use Rattle.session.specs.{TranscriptLaws.{from_end, transcript-run, transcript-long}, Holds.{zero_cells, zero_opens, zero_core, Holds}}
 use Rattle.session.specs.Run.{Ran, ran_rest, ran_part}
@@ -17,7 +17,7 @@ pub record Comes (all : List ℕ) (sent next : ℕ) (part : List ℕ) : Type 0 w
   pub ends : next ≡ sent + length part
 
 -- the lines under way: what was handed over are the answers before the place
-pub record Reading (text : List ℕ) (core : Core) (cells opens : List ℕ) (at sent : ℕ) : Type 0 where
+pub record Reading (text : List ℕ) (core : Core) (cells : List Cell) (opens : List Open) (at sent : ℕ) : Type 0 where
   pub session : Session
   pub lines : List ℕ
   pub holds : Holds (table_with core cells opens) session
@@ -28,9 +28,9 @@ module _ {text : List ℕ} where
   pub reading_start : length text ≤ most_text → Reading text zero_core zero_cells zero_opens 0 0
   reading_start h = record { session = none; lines = []; holds = refl; sent_is = refl; rest = transcript-run text h }
 
-  module _ {core : Core} {cells opens : List ℕ} {at sent : ℕ} (g : Reading text core cells opens at sent) where
+  module _ {core : Core} {cells : List Cell} {opens : List Open} {at sent : ℕ} (g : Reading text core cells opens at sent) where
     -- one run more
-    module _ {out : List ℕ} {core' : Core} {cells' opens' : List ℕ} {at' len : ℕ} {out' : List ℕ}
+    module _ {out : List ℕ} {core' : Core} {cells' : List Cell} {opens' : List Open} {at' len : ℕ} {out' : List ℕ}
         (r : Ran g.session text at out (table_with core' cells' opens') at' len out') where
       all-is : transcript text ≡ (g.lines ++ r.lines) ++ transcript_from r.session text at'
       all-is = g.rest ∙ ap (λ (x : List ℕ). g.lines ++ x) (ran_rest r) ∙ sym (append_assoc g.lines r.lines (transcript_from r.session text at'))

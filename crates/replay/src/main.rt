@@ -9,7 +9,7 @@ ghost use Rattle.replay.specs.Answers.{Comes, Filled};
 use clock::PLACES;
 use std::io;
 use std::io::{Read, Write};
-use table::{CELL, CELLS, OPEN, OPENS};
+use table::{CELLS, Cell, OPENS, Open};
 
 // The most bytes of a schedule.
 const LONGEST_TEXT: usize = 65536;
@@ -37,8 +37,8 @@ fn lines<W: Write>(to: &mut W, text: &[u8]) -> io::Result<()>
     ensures { OnOk result (Appends (W.contents to.old) (W.contents to.new) (transcript text.now)) }
 {
     let mut core = session::start();
-    let mut cells = [0; PLACES * CELLS * CELL];
-    let mut opens = [0; OPENS * OPEN];
+    let mut cells = [Cell::UNSET; PLACES * CELLS];
+    let mut opens = [Open::FREE; OPENS];
     let mut out = [0; PART];
     let mut at = 0;
     let mut sent = 0;
