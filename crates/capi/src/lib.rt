@@ -14,7 +14,7 @@ ghost use Rattle.table.specs.Model.{table_with};
 
 use clock::PLACES;
 use load::{Fault, Sizes};
-use table::{CELL, CELLS, Cells, Core, OPEN, OPENS, Opens};
+use table::{CELLS, Cell, Cells, Core, OPENS, Open, Opens};
 
 // The most bytes of a schedule.
 const LONGEST_TEXT: usize = 65536;
@@ -271,8 +271,8 @@ fn run_saved(
 ) -> Result<(), Refused>
     ensures { left (status result) answers.new image_out.new lengths.new ≡ access_run image.now schedule.now answers.old image_out.old lengths.old }
 {
-    let mut cells = [0; PLACES * CELLS * CELL];
-    let mut opens = [0; OPENS * OPEN];
+    let mut cells = [Cell::UNSET; PLACES * CELLS];
+    let mut opens = [Open::FREE; OPENS];
     let core = start(image, &mut cells, &mut opens)?;
     run_from(
         core, &mut cells, &mut opens, schedule, answers, image_out, lengths,

@@ -44,7 +44,7 @@ module _ (ps : ℕ) (most : ps ≤ places) {t : Table} (ok : SoundTable t) (fits
   abbrev n : ℕ
   n = t.core.n
 
-  abbrev os : List ℕ
+  abbrev os : List Open
   os = t.opens
 
   r : Rules st

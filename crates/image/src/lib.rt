@@ -104,7 +104,7 @@ fn cell_block(p: usize, at: u16, cells: &Cells, i: usize, q: usize) -> [u8; BLOC
     let room = block::cells_in(p);
     let first = room * q;
     for j in 0..room.min(CELLS - first) {
-        let c = table::cell_at(cells, i * CELLS + (first + j));
+        let c = cells[i * CELLS + (first + j)];
         block::put_record(
             &mut b,
             PAYLOAD_AT + w * j,
@@ -137,7 +137,7 @@ fn open_block(
     let room = block::opens_in(p);
     let first = room * q;
     for j in 0..room.min(count.saturating_sub(first)) {
-        let o = table::open_at(opens, order[first + j]);
+        let o = opens[order[first + j]];
         put_open(&mut b, PAYLOAD_AT + w * j, o, p);
     }
     block::seal(&mut b);

@@ -6,7 +6,7 @@ use clock::{Clock, PLACES};
 use image::Unsaved;
 use load::Fault;
 use std::io;
-use table::{CELL, CELLS, Core, Desk, OPEN, OPENS, Table};
+use table::{CELLS, Cell, Core, DONE, Desk, OPENS, Open, Table};
 
 fn say(rt: &impl Print, line: &[u8]) -> io::Result<()> {
     rt.write_all(line)
@@ -51,18 +51,23 @@ fn one_write(entry: usize) -> Table {
     let mut desks = [second; PLACES];
     desks[0] = first;
     let core = Core { n: 2, m: 1, desks };
-    let mut cells = [0u16; PLACES * CELLS * CELL];
-    cells[0] = 1;
-    cells[1] = 2;
-    cells[2] = 1;
-    let mut opens = [0u16; OPENS * OPEN];
-    if entry < 64 {
-        let at = entry * OPEN;
-        opens[at] = 1;
-        opens[at + 1] = 2;
-        opens[at + 2] = 1;
-        opens[at + 3] = 1;
-        opens[at + 3 + PLACES] = 2;
+    let mut cells = [Cell::UNSET; PLACES * CELLS];
+    cells[0] = Cell {
+        writer: 1,
+        status: 2,
+        vector: one,
+    };
+    let mut opens = [Open::FREE; OPENS];
+    if entry < OPENS {
+        let mut marks = [0; PLACES];
+        marks[0] = DONE;
+        opens[entry] = Open {
+            writer: 1,
+            status: 2,
+            cell: 1,
+            vector: one,
+            marks,
+        };
     }
     Table { core, cells, opens }
 }

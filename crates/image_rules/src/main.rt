@@ -18,7 +18,7 @@ use image::IMAGE;
 use load::Fault;
 use std::io;
 use std::io::Read;
-use table::{CELL, CELLS, OPEN, OPENS, Table};
+use table::{CELLS, Cell, OPENS, Open, Table};
 
 // The most bytes of the input.
 const TEXT: usize = 65536;
@@ -151,8 +151,8 @@ fn broken(rt: &impl Print, good: &[u8; IMAGE], line: &[u8]) -> io::Result<()> {
 // The table that a schedule leaves, its answers said.
 fn replay(rt: &impl Print, text: &[u8]) -> io::Result<Table> {
     let core = session::start();
-    let mut cells = [0u16; PLACES * CELLS * CELL];
-    let mut opens = [0u16; OPENS * OPEN];
+    let mut cells = [Cell::UNSET; PLACES * CELLS];
+    let mut opens = [Open::FREE; OPENS];
     let mut out = [0u8; 16384];
     let p = session::run(core, &mut cells, &mut opens, text, 0, &mut out);
     emit(rt, &out, p.len)?;

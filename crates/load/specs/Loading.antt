@@ -1,9 +1,10 @@
 -- The answer to a load: document 01's number and values for every case of it.
-use Rattle.std.specs.Prelude.{◌+◌, ◌*◌, ◌<◌, ◌≤◌, ◌≡◌, Result, Ok, Err}
+use Rattle.std.specs.Prelude.{◌+◌, ◌<◌, ◌≤◌, ◌≡◌, Result, Ok, Err}
 use Rattle.laws.specs.Kit.{ℕ, ap, ◌∙◌, List, arith, zero-add, length, replicate, take, drop, sets, sets-eq}
 use Rattle.laws.specs.{Kit.{take-append_seam}, FirstNot.{FirstNot}}
+use Rattle.table.specs.{declared.Cell.{Cell}, declared.Open.{Open}}
 use Rattle.table.specs.{declared.Core.{Core}, declared.Table.{Table}, Beginning.{fresh_table}, Model.{model_of, table_with}}
-use Rattle.table.specs.{Sound.{SoundTable}, Value.{all_cells, cell_width, entries, open_width}}
+use Rattle.table.specs.{Sound.{SoundTable}, Value.{all_cells, unset_cell, entries, free_open}}
 use Rattle.block.specs.{Damage.{blocks_in, RightAt, WholeBlocks, Undamaged}, Stands.{StandsAt}}
 use Rattle.image.specs.{Encode.{encode}, Load.{Fault, length_fault, check_fault, rule_fault, Loaded, refused, loaded, NoImage, Loads, by_length}}
 use Rattle.image.specs.Load.{by_check, by_rule, as_saved}
@@ -30,7 +31,7 @@ Answers b (Err (fault.Damaged k)) = WholeBlocks b × (k < blocks_in b) × FirstN
 Answers b (Err (fault.Broken k)) = Undamaged b × NoImage b × FirstNot (StandsAt b) (blocks_in b) k
 
 -- where the arrays are lent: the parts together are the table, and a refusal hands back zeros
-abbrev pub AnswersInto : List ℕ → Result Core code.Fault → List ℕ → List ℕ → Type 0
+abbrev pub AnswersInto : List ℕ → Result Core code.Fault → List Cell → List Open → Type 0
 AnswersInto b (Ok c) cells opens = Answers b (Ok (table_with c cells opens))
 AnswersInto b (Err f) cells opens = Answers b (Err f) × (cells ≡ (fresh_table 0 0).cells) × (opens ≡ (fresh_table 0 0).opens)
 
@@ -51,16 +52,16 @@ saved_part out vs h =
     ap (λ (l : List ℕ). take (length vs) l) (sets-eq vs out 0 (rw zero-add h)) ∙ take-append_seam vs (drop (0 + length vs) out)
 
 -- zeros, part by part
-pub zeros_so : {c : Core} {l o : List ℕ} → c ≡ (fresh_table 0 0).core → l ≡ (fresh_table 0 0).cells → o ≡ (fresh_table 0 0).opens → table_with c l o ≡ fresh_table 0 0
+pub zeros_so : {c : Core} {l : List Cell} {o : List Open} → c ≡ (fresh_table 0 0).core → l ≡ (fresh_table 0 0).cells → o ≡ (fresh_table 0 0).opens → table_with c l o ≡ fresh_table 0 0
 zeros_so a b d = λ j. table_with (a j) (b j) (d j)
 
-pub cleared_cells : (l : List ℕ) {r : List ℕ} → r ≡ replicate (length l) 0 → length l ≡ all_cells * cell_width → r ≡ (fresh_table 0 0).cells
+pub cleared_cells : (l : List Cell) {r : List Cell} → r ≡ replicate (length l) unset_cell → length l ≡ all_cells → r ≡ (fresh_table 0 0).cells
 unfolding fresh_table
-cleared_cells l e h = e ∙ ap (λ (n : ℕ). replicate {A = ℕ} n 0) h
+cleared_cells l e h = e ∙ ap (λ (n : ℕ). replicate n unset_cell) h
 
-pub cleared_opens : (l : List ℕ) {r : List ℕ} → r ≡ replicate (length l) 0 → length l ≡ entries * open_width → r ≡ (fresh_table 0 0).opens
+pub cleared_opens : (l : List Open) {r : List Open} → r ≡ replicate (length l) free_open → length l ≡ entries → r ≡ (fresh_table 0 0).opens
 unfolding fresh_table
-cleared_opens l e h = e ∙ ap (λ (n : ℕ). replicate {A = ℕ} n 0) h
+cleared_opens l e h = e ∙ ap (λ (n : ℕ). replicate n free_open) h
 
 -- no check was found wrong
 pub all_right : (b : List ℕ) (k : ℕ) → WholeBlocks b → blocks_in b ≤ k → FirstNot (RightAt b) (blocks_in b) k → Undamaged b

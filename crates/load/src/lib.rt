@@ -25,7 +25,7 @@ use block::{BLOCK, PAYLOAD_AT, VECTOR_AT};
 use clock::{Clock, PLACES};
 use image::{APPLIED_AT, CELLS_AT, COUNT_AT, DESKS_AT};
 use std::array;
-use table::{CELL, CELLS, Cell, Cells, Core, Desk, OPEN, OPENS, Open, Opens, Table};
+use table::{CELLS, Cell, Cells, Core, Desk, OPENS, Open, Opens, Table};
 
 // Fields --
 
@@ -163,11 +163,7 @@ fn cell_or(b: &[u8], z: Layout, s: usize) -> Cell
         let at = field_place(z.n, z.c * i, x / room, w * (x % room));
         return read_cell(b, at, z.p);
     }
-    Cell {
-        writer: 0,
-        status: 0,
-        vector: [0; PLACES],
-    }
+    Cell::UNSET
 }
 
 // Into zeros: the rows past the n desks' stay.
@@ -176,7 +172,7 @@ fn read_cells(b: &[u8], z: Layout, cells: &mut Cells)
     ensures { CellsRead z.p b.now z.n z.m cells.new }
 {
     for s in 0..z.n * CELLS {
-        table::put_cell(cells, s, cell_or(b, z, s));
+        cells[s] = cell_or(b, z, s);
     }
 }
 
@@ -209,7 +205,7 @@ fn read_opens(b: &[u8], z: Layout, opens: &mut Opens)
         let Some(e) = table::find_free(opens, usize::from(o.writer), number_of(o)) else {
             return;
         };
-        table::put_open(opens, e, o);
+        opens[e] = o;
     }
 }
 
@@ -317,9 +313,9 @@ pub fn load_into(b: &[u8], cells: &mut Cells, opens: &mut Opens) -> Result<Core,
     if saved_as(core, cells, opens, b) {
         return Ok(core);
     }
-    // Zeros again, after what was no table.
-    cells.fill(0);
-    opens.fill(0);
+    // All unset and free again, after what was no table.
+    cells.fill(Cell::UNSET);
+    opens.fill(Open::FREE);
     Err(Fault::Broken(misplaced))
 }
 
@@ -327,8 +323,8 @@ pub fn load_into(b: &[u8], cells: &mut Cells, opens: &mut Opens) -> Result<Core,
 pub fn load(b: &[u8]) -> Result<Table, Fault>
     ensures { Answers b.now result }
 {
-    let mut cells = [0u16; PLACES * CELLS * CELL];
-    let mut opens = [0u16; OPENS * OPEN];
+    let mut cells = [Cell::UNSET; PLACES * CELLS];
+    let mut opens = [Open::FREE; OPENS];
     let core = load_into(b, &mut cells, &mut opens)?;
     Ok(Table { core, cells, opens })
 }
@@ -345,8 +341,8 @@ pub struct Sizes {
 pub fn inspect(b: &[u8]) -> Result<Sizes, Fault>
     ensures { finding_numbers result ≡ finding_of (load b.now) }
 {
-    let mut cells = [0u16; PLACES * CELLS * CELL];
-    let mut opens = [0u16; OPENS * OPEN];
+    let mut cells = [Cell::UNSET; PLACES * CELLS];
+    let mut opens = [Open::FREE; OPENS];
     load_into(b, &mut cells, &mut opens)?;
     let z = layout_of(b);
     Ok(Sizes {

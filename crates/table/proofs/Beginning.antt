@@ -20,7 +20,6 @@ fresh_vec g a b n =
     fun_ext (λ i. all-fresh g machine.zeros (a ∙ place-zeros places) (b ∙ place-zeros 0) n i)
 
 blank-at : (n s : ℕ) → cell_m (cell_at (replicate n unset_cell) s) ≡ machine.blank
-unfolding unset_cell
 blank-at = same-at cell_m unset_cell cell0 machine.blank refl refl
 
 fresh_cells : (n : ℕ) → cells_m (replicate n unset_cell) ≡ (λ i x. machine.blank)

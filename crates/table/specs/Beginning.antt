@@ -48,7 +48,6 @@ pub place-zeros : (n : ℕ) → place (replicate n 0) ≡ machine.zeros
 place-zeros n = fun_ext (λ t. zeros-at (suc n) t)
 
 pub free_zeros : (n e : ℕ) → is_free (open_at (replicate n free_open) e) ≡ true
-unfolding free_open
 free_zeros = same-at is_free free_open open0 true refl refl
 
 pub unique-zeros : (n : ℕ) → Unique (replicate n free_open)

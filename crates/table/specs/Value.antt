@@ -32,10 +32,10 @@ abbrev pub open0 : Open
 open0 = record { writer = 0; status = 0; cell = 0; vector = []; marks = [] }
 
 -- an unset cell and a free entry, all zero
-unfoldable pub unset_cell : Cell
+abbrev pub unset_cell : Cell
 unset_cell = record { writer = 0; status = 0; vector = replicate places 0 }
 
-unfoldable pub free_open : Open
+abbrev pub free_open : Open
 free_open = record { writer = 0; status = 0; cell = 0; vector = replicate places 0; marks = replicate places 0 }
 
 -- Cells --

@@ -2,6 +2,7 @@
 use Rattle.std.specs.Prelude.{◌≡◌, ◌∷◌, Result, Ok, Err}
 use Rattle.laws.specs.Kit.{refl, ap, ◌∙◌, List, [], none, some, ℕ, arith, length}
 use Rattle.machine.specs.Answer.{Refusal, number_of}
+use Rattle.table.specs.{declared.Cell.{Cell}, declared.Open.{Open}}
 use Rattle.table.specs.{declared.Core.{Core}, declared.Table.{Table}, Beginning.{fresh_table}, Model.{model_of, table_with}}
 use Rattle.image.specs.Load.{load}
 use Rattle.image.proofs.Load.{one-load, load_loads}
@@ -24,7 +25,7 @@ pub empty_starts : (saved : List ℕ) (t : Table) → length saved ≡ 0 → t �
 unfolding fresh_table
 empty_starts saved t h e = rw e (record { session = none; starts = start_empty saved h; holds = refl })
 
-pub image-starts : (saved : List ℕ) (r : Result Core Fault) (cells opens : List ℕ) → (length saved ≡ 0 → ⊥) → AnswersInto saved r cells opens → ImageStarts saved r cells opens
+pub image-starts : (saved : List ℕ) (r : Result Core Fault) (cells : List Cell) (opens : List Open) → (length saved ≡ 0 → ⊥) → AnswersInto saved r cells opens → ImageStarts saved r cells opens
 image-starts saved r cells opens f h = go r h
   where
     told : (o : Result Table Fault) → Answers saved o → start_of saved ≡ started (loaded_of o)
@@ -36,7 +37,7 @@ image-starts saved r cells opens f h = go r h
         record { session = some (model_of t); starts = told (Ok t) h; holds = record { model_is = refl; sound = h.0 } }
     go (Err e) h = told (Err e) h.0
 
-pub start_by : (saved : List ℕ) (r : Result Core Fault) (cells opens : List ℕ) → ImageStarts saved r cells opens → (x : Result Core Fault) → r ≡ x → ImageStarts saved x cells opens
+pub start_by : (saved : List ℕ) (r : Result Core Fault) (cells : List Cell) (opens : List Open) → ImageStarts saved r cells opens → (x : Result Core Fault) → r ≡ x → ImageStarts saved x cells opens
 start_by saved r cells opens h x e = rw e at h
 
 -- the call from it

@@ -4,6 +4,7 @@ use Rattle.laws.specs.{Kit.{Bool, true, List, [], ℕ, length, sets}, Loop.{pick
 use Rattle.machine.specs.Answer.{number_of, short}
 use Rattle.image.specs.Load.{fault_refusal}
 use Rattle.capi.specs.{declared.Refused.{Refused}, declared.Refused.TheVariants.{Image, Short}}
+use Rattle.table.specs.{declared.Cell.{Cell}, declared.Open.{Open}}
 use Rattle.table.specs.{declared.Core.{Core}, declared.Table.{Table}, Model.{table_with}}
 use Rattle.load.specs.{declared.Fault.{Fault}, Loading.{fault_of}}
 use Rattle.session.specs.{Session.{Session}, Transcript.{transcript_from, session_from, most_text}, Holds.{Holds}}
@@ -37,12 +38,12 @@ RoomFor t text at put out from = (z : Session) → Holds t z → put ≡ true �
 -- the two arrays beside the desks are not at hand
 pub record SomeCore (core : Core) : Type 0 where
   pub session : Session
-  pub cells : List ℕ
-  pub opens : List ℕ
+  pub cells : List Cell
+  pub opens : List Open
   pub holds : Holds (table_with core cells opens) session
 
 abbrev pub ImageSize : Core → ℕ → Type 0
-ImageSize core r = (z : Session) (cs os : List ℕ) → Holds (table_with core cs os) z → r ≡ length (image_of z)
+ImageSize core r = (z : Session) (cs : List Cell) (os : List Open) → Holds (table_with core cs os) z → r ≡ length (image_of z)
 
 -- the image
 abbrev pub ImageRoom : Table → (out : List ℕ) → Type 0
@@ -58,12 +59,12 @@ BothSaved t all image lengths image' lengths' =
 
 -- whether so many bytes of answers and the image have room
 abbrev pub ImageFits : Core → (image : List ℕ) → Type 0
-ImageFits core image = (z : Session) (cs os : List ℕ) → Holds (table_with core cs os) z → length (image_of z) ≤ length image
+ImageFits core image = (z : Session) (cs : List Cell) (os : List Open) → Holds (table_with core cs os) z → length (image_of z) ≤ length image
 
 abbrev pub Roomy : {T : Type 0} → Core → (all : ℕ) (answers image : List ℕ) → Result T Refused → Type 0
 Roomy core all answers image (Ok x) = (all ≤ length answers) × ImageFits core image
 Roomy core all answers image (Err r) =
-    (r ≡ Short) × ((z : Session) (cs os : List ℕ) → Holds (table_with core cs os) z → all ≤ length answers → length (image_of z) ≤ length image → ⊥)
+    (r ≡ Short) × ((z : Session) (cs : List Cell) (os : List Open) → Holds (table_with core cs os) z → all ≤ length answers → length (image_of z) ≤ length image → ⊥)
 
 -- the answers before a place are at hand, and w is the session there
 pub record Behind (z w : Session) (text : List ℕ) (at : ℕ) (first : List ℕ) : Type 0 where
@@ -92,6 +93,6 @@ pub record SomeStart (saved : List ℕ) (t : Table) : Type 0 where
   pub starts : start_of saved ≡ begin session
   pub holds : Holds t session
 
-abbrev pub ImageStarts : List ℕ → Result Core Fault → (cells opens : List ℕ) → Type 0
+abbrev pub ImageStarts : List ℕ → Result Core Fault → (cells : List Cell) (opens : List Open) → Type 0
 ImageStarts saved (Ok core) cells opens = SomeStart saved (table_with core cells opens)
 ImageStarts saved (Err f) cells opens = start_of saved ≡ refuse (fault_refusal (fault_of f))

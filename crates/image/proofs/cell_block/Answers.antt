@@ -25,7 +25,7 @@ loop-j-preserved c =
     let A = c.args in
     let f = cell_piece A.p A.cells.now A.i A.q in
     let e = first (goal.at.loop-j-preserved c).After-cells_in-room in
-    let t = cell-there A.p A.cells.now A.i (cells_in A.p * A.q + L.j) _ c.cell_at-c.result c.requires.1.0 (omega (arith, e)) (omega (arith, e)) c.requires.1.1.1 c.cell_at-c.ensures in
+    let t = cell-there A.p A.cells.now A.i (cells_in A.p * A.q + L.j) (A.i * desk_cells + (c.cells_in-room.result * A.q + L.j)) _ c.requires.1.0 (omega (arith, e)) (omega (arith, e)) c.requires.1.1.1 refl in
     one_more f (cell_bytes A.p) (length-cell_piece A.p A.cells.now A.i A.q) _ payload_at L.j L.invariant (rw c.cell_bytes-w.ensures) t.bytes c.put_record.ensures
 
 pub returns : goal.returns

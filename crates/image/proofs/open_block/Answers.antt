@@ -2,7 +2,8 @@ use Rattle.block.specs.Limits.{payload_at, open_bytes, opens_in, payload_bytes, 
 use Rattle.block.specs.Mirror.Block.{made, zeros-behind}
 use Rattle.image.specs.Mirror.TableBytes.{open_piece, length-open_piece, open-there, open-past, one_more}
 use Rattle.std.specs.Prelude.{◌≡◌, ◌+◌, ◌*◌, ◌≤◌}
-use Rattle.laws.specs.{Cat.{cat, length-cat}, Kit.{ℕ, ap, refl, ◌∙◌, arith, mul-le-mul_left}}
+use Rattle.laws.specs.{Cat.{cat, length-cat}, Kit.{ℕ, ap, get_or, refl, ◌∙◌, arith, mul-le-mul_left}}
+use Rattle.table.specs.Value.{open_at}
 use Rattle.image.proofs.open_block.Goals as goal
 use Rattle.image.proofs.open_block.Goals.{After-opens_in-room}
 
@@ -21,7 +22,7 @@ put_open-requires c =
     let A = c.args in
     let inside : c.open_bytes-w.result * L.j + open_bytes A.p ≤ payload_bytes = rw c.open_bytes-w.ensures (piece_inside (open_bytes A.p) L.j (omega arith)) in
     let fits = c.requires.1.1.each (c.opens_in-room.result * A.q + L.j) (omega arith) in
-    (c.requires.0, (omega (arith, inside), rw c.open_at-o.ensures fits.1))
+    (c.requires.0, (omega (arith, inside), fits.1))
 
 pub loop-j-preserved : goal.loop-j-preserved
 loop-j-preserved c =
@@ -29,7 +30,7 @@ loop-j-preserved c =
     let A = c.args in
     let f = open_piece A.p A.opens.now A.order.now A.count A.q in
     let e = first (goal.at.loop-j-preserved c).After-opens_in-room in
-    one_more f (open_bytes A.p) (length-open_piece A.p A.opens.now A.order.now A.count A.q) _ payload_at L.j L.invariant (rw c.open_bytes-w.ensures) (open-there A.p A.opens.now A.order.now A.count A.q L.j (omega (arith, e)) (rw e at c.open_at-o.ensures)) c.put_open.ensures
+    one_more f (open_bytes A.p) (length-open_piece A.p A.opens.now A.order.now A.count A.q) _ payload_at L.j L.invariant (rw c.open_bytes-w.ensures) (open-there A.p A.opens.now A.order.now A.count A.q L.j (omega (arith, e)) (ap (λ (x : ℕ). open_at A.opens.now (get_or A.order.now (x + L.j) 0)) e)) c.put_open.ensures
 
 pub returns : goal.returns
 returns c =

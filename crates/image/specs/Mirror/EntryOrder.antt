@@ -4,6 +4,7 @@ use Rattle.laws.specs.Kit.{ℕ, zero, suc, min, refl, sym, ◌∙◌, true, List
 use Rattle.laws.specs.Kit.{none, arith, add-one, dec_lt, length, get_or, set, length-append, length-set, get_or-append, get_or-set_same}
 use Rattle.laws.specs.{Kit.{get_or-set_other, get_or-append-add}, Tab.{tab, tab_from, tab-more, length-tab}, Cat.{cat, cat-le}}
 use Rattle.machine.specs.Table.{Vec, Name, name}
+use Rattle.table.specs.{declared.Open.{Open}}
 use Rattle.table.specs.{declared.Desk.{Desk}, Value.{desk0, entries}, EntryNames.{named_at}, Model.{applied_m, opens_m}}
 use Rattle.image.specs.{OpenNames.{no_name}, Link.OrderFromCounts.{least, low, open_above, counted}}
 
@@ -41,18 +42,18 @@ ahead_more n ds u r s o l er eo el e =
     e ∙ rw (add-one u, length-append (ahead n ds u), length_above n ds u, er, eo, el, count_at_lem ds u u)
 
 -- the entry e holds the write w
-abbrev pub HoldsWrite : List ℕ → Name → ℕ → Type 0
+abbrev pub HoldsWrite : List Open → Name → ℕ → Type 0
 HoldsWrite os w e = (e < entries) × (named_at os w.writer w.number e ≡ true)
 
 -- the entries of the writes l, in their order
-pub record InOrder (os : List ℕ) (l : List Name) (order : List ℕ) (count : ℕ) : Type 0 where
+pub record InOrder (os : List Open) (l : List Name) (order : List ℕ) (count : ℕ) : Type 0 where
   pub size : count ≡ length l
   pub each : (p : ℕ) → p < length l → HoldsWrite os (get_or l p no_name) (get_or order p 0)
 
-pub ordered-none : (os order : List ℕ) → InOrder os [] order 0
+pub ordered-none : (os : List Open) (order : List ℕ) → InOrder os [] order 0
 ordered-none os order = record { size = refl; each = λ p h. absurd (omega arith) }
 
-ordered-one : (os : List ℕ) (l : List Name) (order : List ℕ) (count e : ℕ) (w : Name) → InOrder os l order count → count < length order → HoldsWrite os w e
+ordered-one : (os : List Open) (l : List Name) (order : List ℕ) (count e : ℕ) (w : Name) → InOrder os l order count → count < length order → HoldsWrite os w e
     → InOrder os (l ++ (w ∷ [])) (set order count e) (count + 1)
 ordered-one os l order count e w h room f =
     record { size = rw (length-append l) (omega (arith, h.size)); each = λ p z. at p (rw (length-append l) at z) (dec_lt p (length l)) }
@@ -69,16 +70,16 @@ abbrev pub writes_between : ℕ → ℕ → ℕ → List Name
 writes_between u lo k = tab (k - lo) (λ j. name u (suc (lo + j)))
 
 -- their entries put behind the p that are in order; r is the place behind them
-pub record Listed (os : List ℕ) (u lo k p : ℕ) (before after : List ℕ) (r : ℕ) : Type 0 where
+pub record Listed (os : List Open) (u lo k p : ℕ) (before after : List ℕ) (r : ℕ) : Type 0 where
   pub behind : r ≡ p + (k - lo)
   pub on : (l : List Name) → InOrder os l before p → InOrder os (l ++ writes_between u lo k) after r
   pub long : length after ≡ length before
 
-pub listed_none : (os : List ℕ) (u lo p : ℕ) (d : List ℕ) → Listed os u lo lo p d d p
+pub listed_none : (os : List Open) (u lo p : ℕ) (d : List ℕ) → Listed os u lo lo p d d p
 unfolding tab tab_from
 listed_none os u lo p d = let e : lo - lo ≡ 0 = omega arith in record { behind = omega arith; on = λ l h. rw (e, append-nil) h; long = refl }
 
-pub listed_more : (os : List ℕ) (u lo k p : ℕ) (b a : List ℕ) (r e : ℕ) → Listed os u lo k p b a r → lo ≤ k → r < length a → HoldsWrite os (name u (k + 1)) e
+pub listed_more : (os : List Open) (u lo k p : ℕ) (b a : List ℕ) (r e : ℕ) → Listed os u lo k p b a r → lo ≤ k → r < length a → HoldsWrite os (name u (k + 1)) e
     → Listed os u lo (k + 1) p b (set a r e) (r + 1)
 listed_more os u lo k p b a r e h l room f =
     let x : k + 1 - lo ≡ k - lo + 1 = omega arith in
@@ -90,18 +91,18 @@ listed_more os u lo k p b a r e h l room f =
     }
 
 -- what the search needs: the counts tell what is open, and it is there
-pub record Known (n : ℕ) (ds : List Desk) (os : List ℕ) : Type 0 where
+pub record Known (n : ℕ) (ds : List Desk) (os : List Open) : Type 0 where
   pub few : length (counted n (applied_m ds)) ≤ entries
   pub found : (u k : ℕ) → u < n → low n (applied_m ds) (suc u) < k → k ≤ applied_m ds (suc u) (suc u) → opens_m os (suc u) k ≡ none → ⊥
 
 -- one writer more fits
-pub known-room : (n : ℕ) (ds : List Desk) (os : List ℕ) (u : ℕ) → Known n ds os → u < n
+pub known-room : (n : ℕ) (ds : List Desk) (os : List Open) (u : ℕ) → Known n ds os → u < n
     → length (ahead n ds u) + (applied_m ds (suc u) (suc u) - low n (applied_m ds) (suc u)) ≤ entries
 unfolding counted
 known-room n ds os u h g = omega (arith, h.few, cat-le (λ u. open_above n (applied_m ds) (suc u)) n u g, length_above n ds u)
 
 -- one writer more, as the code goes on
-pub ordered-next : (os : List ℕ) (n : ℕ) (ds : List Desk) (b a : List ℕ) (u lo own p r : ℕ) → InOrder os (ahead n ds u) b p → lo ≡ low n (applied_m ds) (suc u)
+pub ordered-next : (os : List Open) (n : ℕ) (ds : List Desk) (b a : List ℕ) (u lo own p r : ℕ) → InOrder os (ahead n ds u) b p → lo ≡ low n (applied_m ds) (suc u)
     → own ≡ applied_m ds (suc u) (suc u) → Listed os (u + 1) lo own p b a r → InOrder os (ahead n ds (u + 1)) a r
 unfolding cat
 ordered-next os n ds b a u lo own p r h el eo g = rw (add-one u, ← el, ← eo) (rw (add-one u) at (g.on (ahead n ds u) h))

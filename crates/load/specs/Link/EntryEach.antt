@@ -1,10 +1,10 @@
 -- The open writes of an image, each put into an entry of its own: whichever entry that is makes no difference.
-use Rattle.std.specs.Prelude.{◌+◌, ◌*◌, ◌<◌, ◌≡◌}
+use Rattle.std.specs.Prelude.{◌+◌, ◌<◌, ◌≡◌}
 use Rattle.laws.specs.Kit.{ℕ, refl, sym, ap, ◌∙◌, Bool, true, false, not, List, arith, eq-eqb, ne_eqb, eqb, set}
-use Rattle.laws.specs.{Kit.{replicate}, Loop.{pick}, Says.{apart}, Update.{same_or}, Count.{count, count-all, count_none, count-more}}
-use Rattle.table.specs.{declared.Open.{Open}, Value.{entries, open_width, open0, open_at, open-writer, is_free, entries_of, entries_of_put}}
-use Rattle.table.specs.{Value.{get_or-entries_of, length-entries_of, open_at-stored, open_at-kept, OpenPut}, EntryNames.{free_at}}
-use Rattle.table.specs.Beginning.{zeros-at}
+use Rattle.laws.specs.{Kit.{replicate, length}, Loop.{pick}, Says.{apart}, Update.{same_or}, Count.{count, count-all, count_none, count-more}}
+use Rattle.table.specs.{declared.Open.{Open}, Value.{entries, open0, free_open, open_at, put_open, is_free, entries_of, entries_of_put}}
+use Rattle.table.specs.{Value.{get_or-entries_of, length-entries_of, open_at-stored, open_at-kept}, EntryNames.{free_at}}
+use Rattle.table.specs.Beginning.{free_zeros}
 use Rattle.image.specs.Decode.{open_place}
 use Rattle.load.specs.Mirror.ImageRead.{open_from}
 
@@ -17,14 +17,10 @@ pub record AmongFirst (first : ℕ) (at : ℕ → ℕ) (e : ℕ) : Type 0 where
   pub small : p < first
   pub is : e ≡ at p
 
--- the start: nothing is in use
-free_zeros : (k e : ℕ) → is_free (open_at (replicate k 0) e) ≡ true
-free_zeros k e = eq-eqb (open_at (replicate k 0) e).writer 0 (open-writer (replicate k 0) e ∙ zeros-at k (e * open_width))
-
 -- where a vector takes ps places in the image
 module _ (ps : ℕ) where
   -- the first of the image's open writes stand in entries of their own, and every other entry is free
-  pub record Spread (b : List ℕ) (n m first : ℕ) (os : List ℕ) : Type 0 where
+  pub record Spread (b : List ℕ) (n m first : ℕ) (os : List Open) : Type 0 where
     pub at : ℕ → ℕ
     pub inside : (p : ℕ) → p < first → at p < entries
     pub there : (p : ℕ) → p < first → open_at os (at p) ≡ open_from ps b (open_place ps n m p)
@@ -35,19 +31,20 @@ module _ (ps : ℕ) where
   abbrev pub Writers : List ℕ → ℕ → ℕ → ℕ → Type 0
   Writers b n m first = (p : ℕ) → p < first → (open_from ps b (open_place ps n m p)).writer ≡ 0 → ⊥
 
-  abbrev pub OpensRead : List ℕ → ℕ → ℕ → ℕ → List ℕ → Type 0
+  abbrev pub OpensRead : List ℕ → ℕ → ℕ → ℕ → List Open → Type 0
   OpensRead b n m first os = Writers b n m first → Spread b n m first os
 
-  pub spread_start : (b : List ℕ) (n m k : ℕ) → Spread b n m 0 (replicate k 0)
+  -- the start: nothing is in use
+  pub spread_start : (b : List ℕ) (n m k : ℕ) → Spread b n m 0 (replicate k free_open)
   spread_start b n m k = record {
     at = λ p. 0;
     inside = λ p h. absurd (omega arith);
     there = λ p h. absurd (omega arith);
-    rest = λ e h f. absurd (apart (is_free (open_at (replicate k 0) e)) (free_zeros k e) f);
-    used = count_none in_use (entries_of (replicate k 0)) open0 (λ j h. let z : j < entries = rw length-entries_of at h in rw (get_or-entries_of (replicate k 0) j z, free_zeros k j));
+    rest = λ e h f. absurd (apart (is_free (open_at (replicate k free_open) e)) (free_zeros k e) f);
+    used = count_none in_use (entries_of (replicate k free_open)) open0 (λ j h. let z : j < entries = rw length-entries_of at h in rw (get_or-entries_of (replicate k free_open) j z, free_zeros k j));
   }
 
-  module _ (b : List ℕ) (n m first : ℕ) (os : List ℕ) (w : Writers b n m (first + 1)) (s : Spread b n m first os) where
+  module _ (b : List ℕ) (n m first : ℕ) (os : List Open) (w : Writers b n m (first + 1)) (s : Spread b n m first os) where
     -- while there are fewer than 64 an entry is free
     pub spread_room : first < entries → ((e : ℕ) → e < entries → free_at os e ≡ false) → ⊥
     spread_room h f =
@@ -55,9 +52,12 @@ module _ (ps : ℕ) where
         omega (arith, s.used, length-entries_of os)
 
     -- one more
-    module _ (e : ℕ) (o : Open) (r : List ℕ) (h : e < entries) (f : free_at os e ≡ true) (put : OpenPut os e o r) (is : o ≡ open_from ps b (open_place ps n m first)) where
+    module _ (e : ℕ) (o : Open) (h : e < entries) (f : free_at os e ≡ true) (size : length os ≡ entries) (is : o ≡ open_from ps b (open_place ps n m first)) where
+      abbrev r : List Open
+      r = put_open os e o
+
       st : entries_of r ≡ set (entries_of os) e o
-      st = rw put.is (entries_of_put os e h put.size o put.full)
+      st = entries_of_put os e h size o
 
       used-at : (p : ℕ) → p < first → is_free (open_at os (s.at p)) ≡ false
       used-at p l = ne_eqb (open_at os (s.at p)).writer 0 (λ q. w p (omega arith) (sym (ap (λ (x : Open). x.writer) (s.there p l)) ∙ q))

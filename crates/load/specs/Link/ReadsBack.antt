@@ -70,7 +70,7 @@ module _ (ps : ℕ) where
         (clock_m (tab places (desk_for ps b n))) (place-zeros 0) (λ i. refl)
 
   -- cells
-  module _ (b : List ℕ) (n m : ℕ) (hn : n ≤ places) (hm : m ≤ desk_cells) (cs : List ℕ) (read : CellsRead ps b n m cs) where
+  module _ (b : List ℕ) (n m : ℕ) (hn : n ≤ places) (hm : m ≤ desk_cells) (cs : List Cell) (read : CellsRead ps b n m cs) where
     row_of : (i x : ℕ) → x < desk_cells → ((i * desk_cells + x) / desk_cells ≡ i) × ((i * desk_cells + x) % desk_cells ≡ x)
     row_of i x h = (omega arith, omega arith)
 
@@ -136,7 +136,7 @@ module _ (ps : ℕ) where
     has-writer p h e = let w = (name-from p h).0 in let i = (stands_open p h).writer_in.0 in omega arith
 
     -- the entries, wherever they stand
-    module _ (os : List ℕ) (read : OpensRead ps (encode_at ps s) s.setup.desks s.setup.cells (open_count s) os) where
+    module _ (os : List Open) (read : OpensRead ps (encode_at ps s) s.setup.desks s.setup.cells (open_count s) os) where
       spread : Spread ps (encode_at ps s) s.setup.desks s.setup.cells (open_count s) os
       spread = read has-writer
 
@@ -210,7 +210,7 @@ module _ (ps : ℕ) where
         let c : u ≡ 0 = sym (ap (λ (l : List ℕ). get_or l 0 0) e) ∙ a in
         absurd (omega (arith, (ok.frame.cell i x v u y q).writer_in.0))
 
-    pub blanks-read : (cs : List ℕ) → CellsRead ps (encode_at ps s) s.setup.desks s.setup.cells cs → (t : ℕ) → t < all_cells → (cell_at cs t).writer ≡ 0 → AllZero (cell_at cs t)
+    pub blanks-read : (cs : List Cell) → CellsRead ps (encode_at ps s) s.setup.desks s.setup.cells cs → (t : ℕ) → t < all_cells → (cell_at cs t).writer ≡ 0 → AllZero (cell_at cs t)
     unfolding cell_part
     blanks-read cs read t h =
         rw (read t h)

@@ -4,9 +4,9 @@ use Rattle.laws.specs.Kit.{ℕ, zero, suc, refl, sym, ap, ◌∙◌, false, List
 use Rattle.laws.specs.Kit.{dec_lt, ltb-true, lt-ltb, le-ltb, length-append, ltb, mul-le-mul, mul-le-mul_left, mod-lt, length, get_or, take, drop, replicate}
 use Rattle.laws.specs.Kit.{get_or-take, get_or-drop, take-take, drop-drop, get_or-append, get_or-append-add, ext_get_or, length-replicate}
 use Rattle.laws.specs.{Loop.{pick, cases}, Says.{Says, clash}, Update.{same_or}, FromOne.{from1-is}, Tab.{tab, get_or-tab, length-tab}}
-use Rattle.laws.specs.{Cat.{part}, Rows.{numbers_from, length_part, part_at}}
+use Rattle.laws.specs.{Cat.{part}}
 use Rattle.table.specs.{Beginning.{zeros-at}, declared.Cell.{Cell}, declared.Desk.{Desk}, declared.Open.{Open}, Value.{desk_cells}}
-use Rattle.table.specs.{Value.{all_cells, cell_at, cell_at_put, cell_at-other, cell_of, cell_width, entries, CellPut}, Model.{cell_m, open_m}}
+use Rattle.table.specs.{Value.{all_cells, unset_cell, cell_at, put_cell, cell_at_put, cell_at-other, entries}, Model.{cell_m, open_m}}
 use Rattle.clock.specs.Vectors.{places, place, clock_of}
 use Rattle.load.specs.declared.Layout.{Layout}
 use Rattle.block.specs.{Link.BlockFill.{drop-replicate}, Limits.{Wide, wide, fit, some-cells, some-opens, block_of_lem, few_for, block_bytes}}
@@ -86,15 +86,10 @@ zeros-tab n =
     ext_get_or 0 (tab n f) (replicate n 0) (length-tab f n ∙ sym (length-replicate {A = ℕ} n 0))
     (λ i h. get_or-tab f n i 0 (rw (length-tab f n) at h) ∙ sym (zeros-at n i))
 
-numbers-zero : (n p w : ℕ) → numbers_from (replicate n 0) p w ≡ replicate w 0
-numbers-zero n p w =
-    ext_get_or 0 (numbers_from (replicate n 0) p w) (replicate w 0) (length_part (replicate n 0) p w ∙ sym (length-replicate {A = ℕ} w 0))
-    (λ k h. part_at (replicate n 0) p w k (rw (length_part (replicate n 0) p w) at h) ∙ zeros-at n (p + k) ∙ sym (zeros-at w k))
-
--- a row of zeros
-pub zero_row : (n s : ℕ) → cell_at (replicate n 0) s ≡ empty_cell
-unfolding cell_at
-zero_row n s = ap cell_of (numbers-zero n (s * cell_width) cell_width) ∙ (λ j. record { writer = 0; status = 0; vector = numbers-zero cell_width 2 places j })
+pub zero_row : (n s : ℕ) → s < n → cell_at (replicate n unset_cell) s ≡ empty_cell
+zero_row zero s h = absurd (omega arith)
+zero_row (suc n) zero h = refl
+zero_row (suc n) (suc s) h = zero_row n s (omega arith)
 
 -- where a vector takes ps places in the image
 module _ (ps : ℕ) where
@@ -135,7 +130,7 @@ module _ (ps : ℕ) where
     pub size : length b ≡ block_bytes * blocks_of ps (n_in b) (m_in b) (count_in b)
 
   -- the rows that were read
-  abbrev pub CellsRead : List ℕ → ℕ → ℕ → List ℕ → Type 0
+  abbrev pub CellsRead : List ℕ → ℕ → ℕ → List Cell → Type 0
   CellsRead b n m cs = (s : ℕ) → s < all_cells → cell_at cs s ≡ cell_for b n m s
 
   -- where a cell and an open write stand, and that they lie within
@@ -194,27 +189,27 @@ module _ (ps : ℕ) where
   cells_end b n m s h = rw (le-ltb (s / desk_cells) n (omega arith))
 
   -- one row more
-  pub cells-more : (b : List ℕ) (n m s : ℕ) (l r : List ℕ) (c : Cell) → ((t : ℕ) → t < s → cell_at l t ≡ cell_for b n m t) → s < all_cells → c ≡ cell_for b n m s → CellPut l s c r
-      → (t : ℕ) → t < s + 1 → cell_at r t ≡ cell_for b n m t
-  cells-more b n m s l r c h hs e p t ht =
-      rw p.is (same_or t s
-      (λ q. rw q (cell_at_put l s c p.full hs p.size ∙ e))
-      (λ q. cell_at-other l s c p.full t q ∙ h t (less q)))
+  pub cells-more : (b : List ℕ) (n m s : ℕ) (l : List Cell) (c : Cell) → ((t : ℕ) → t < s → cell_at l t ≡ cell_for b n m t) → s < all_cells → c ≡ cell_for b n m s → length l ≡ all_cells
+      → (t : ℕ) → t < s + 1 → cell_at (put_cell l s c) t ≡ cell_for b n m t
+  cells-more b n m s l c h hs e size t ht =
+      same_or t s
+      (λ q. rw q (cell_at_put l s c hs size ∙ e))
+      (λ q. cell_at-other l s c t q ∙ h t (less q))
     where
       less : (t ≡ s → ⊥) → t < s
       less q = omega arith
 
   -- a row behind it stays
-  pub cells_left : (s : ℕ) (l r : List ℕ) (c : Cell) → ((t : ℕ) → s ≤ t → cell_at l t ≡ empty_cell) → CellPut l s c r → (t : ℕ) → s + 1 ≤ t → cell_at r t ≡ empty_cell
-  cells_left s l r c h p t ht = rw p.is (cell_at-other l s c p.full t (λ q. omega arith) ∙ h t (omega arith))
+  pub cells_left : (s : ℕ) (l : List Cell) (c : Cell) → ((t : ℕ) → s ≤ t → t < all_cells → cell_at l t ≡ empty_cell) → (t : ℕ) → s + 1 ≤ t → t < all_cells → cell_at (put_cell l s c) t ≡ empty_cell
+  cells_left s l c h t ht b = cell_at-other l s c t (λ q. omega arith) ∙ h t (omega arith) b
 
   -- the rows of the n desks read, and the others left
-  pub cells-all : (b : List ℕ) (n m s : ℕ) (l : List ℕ) → n * desk_cells ≤ s → ((t : ℕ) → t < s → cell_at l t ≡ cell_for b n m t) → ((t : ℕ) → s ≤ t → cell_at l t ≡ empty_cell) → CellsRead b n m l
-  cells-all b n m s l e h r t _ = go (dec_lt t s)
+  pub cells-all : (b : List ℕ) (n m s : ℕ) (l : List Cell) → n * desk_cells ≤ s → ((t : ℕ) → t < s → cell_at l t ≡ cell_for b n m t) → ((t : ℕ) → s ≤ t → t < all_cells → cell_at l t ≡ empty_cell) → CellsRead b n m l
+  cells-all b n m s l e h r t hb = go (dec_lt t s)
     where
       go : Dec (t < s) → cell_at l t ≡ cell_for b n m t
       go (yes y) = h t y
-      go (no y) = r t (omega arith) ∙ sym (cells_end b n m t (omega arith))
+      go (no y) = r t (omega arith) hb ∙ sym (cells_end b n m t (omega arith))
 
   -- what is read is what the definitions of document 01's fields read --
 

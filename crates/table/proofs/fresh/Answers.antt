@@ -3,5 +3,5 @@ use Rattle.table.specs.{Beginning.{fresh_table}, Value.{all_cells, unset_cell, e
 use Rattle.table.proofs.fresh.Goals as goal
 
 pub returns : goal.returns
-unfolding fresh_table unset_cell free_open
+unfolding fresh_table
 returns c = λ j. record { core = c.fresh_core.ensures j; cells = replicate all_cells unset_cell; opens = replicate entries free_open }
