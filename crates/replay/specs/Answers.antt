@@ -4,8 +4,7 @@ use Rattle.laws.specs.{Kit.{length, take, drop, length-append, take_at, drop_at}
 use Rattle.laws.specs.Kit.{take-add, take_all}
 use Rattle.std.specs.Prelude.{◌≡◌, ◌++◌, ◌+◌, ◌-◌, ◌*◌, ◌<◌, ◌≤◌, Result, Option, None as Unknown, Some as Known}
 use Rattle.std.specs.{Io.{ReadsAtMost}, Io.KnownBytes.{Appends}}
-use Rattle.table.specs.{declared.Cell.{Cell}, declared.Open.{Open}}
-use Rattle.table.specs.{declared.Core.{Core}, Model.{table_with}}
+use Rattle.table.specs.{declared.Cell.{Cell}, declared.Core.{Core}, declared.Open.{Open}, Model.{table_with}}
 use Rattle.session.specs.{Session.{Session}, Transcript.{transcript_from, most_text, transcript}}
 use Rattle.session.specs.{TranscriptLaws.{from_end, transcript-run, transcript-long}, Holds.{zero_cells, zero_opens, zero_core, Holds}}
 use Rattle.session.specs.Run.{Ran, ran_rest, ran_part}

@@ -1,11 +1,13 @@
 use Rattle.std.specs.Prelude.{◌≤◌}
 use Rattle.laws.specs.Kit.{ap, ◌∙◌, arith, rules, length, length-sets, length-take-le}
 use Rattle.session.specs.{Transcript.{transcript}, Run.{ran_progress}}
+use Rattle.table.specs.Value.{unset_cell, free_open}
 use Rattle.replay.specs.Answers.{reading_start, reading_comes, reading_sum, reading_on, reading_end}
 use Rattle.replay.specs.Answers.{written-none, written-on, written-all}
 use Rattle.replay.proofs.lines.Goals as goal
 
 pub loop-at-init : goal.loop-at-init
+unfolding unset_cell free_open
 loop-at-init g c = record {
   going = rw c.start-core.ensures (reading_start c.requires);
   room = search rules;
