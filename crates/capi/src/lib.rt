@@ -14,6 +14,7 @@ ghost use Rattle.table.specs.Model.{table_with};
 
 use clock::PLACES;
 use load::{Finding, Outcome, Taken};
+use reply::Refusal;
 use table::{CELL, CELLS, Cells, Core, OPEN, OPENS, Opens};
 
 // The most bytes of a schedule.
@@ -36,25 +37,13 @@ struct Ended {
     len: usize,
 }
 
-// Why a call is refused.
-#[derive(Clone, Copy)]
-enum Refusal {
-    WrongLength,
-    Damaged,
-    Broken,
-    Short,
-}
-
 // The number that a call returns.
 fn number(done: Result<(), Refusal>) -> u64
     ensures { result ≡ status done }
 {
     match done {
         Ok(()) => 0,
-        Err(Refusal::Damaged) => 12,
-        Err(Refusal::Broken) => 13,
-        Err(Refusal::Short) => 14,
-        Err(Refusal::WrongLength) => 15,
+        Err(r) => u64::from(u16::from(r)),
     }
 }
 

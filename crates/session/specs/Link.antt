@@ -1,2 +1,3 @@
 pub mod SessionRules
 pub mod LineTurn
+pub mod RunningTurn

@@ -1,12 +1,11 @@
 -- A run over the lines of a text: how far it got, what it wrote, and the session it left.
-use Rattle.std.specs.Prelude.{◌≡◌, ◌++◌, ◌+◌, ◌<◌, ◌≤◌}
+use Rattle.std.specs.Prelude.{◌≡◌, ◌++◌, ◌+◌, ◌<◌, ◌≤◌, Option, Some, None}
 use Rattle.laws.specs.Kit.{refl, sym, ap, ◌∙◌, List, [], append_assoc, append-nil, none, Bool, true, ℕ}
 use Rattle.laws.specs.Kit.{min, max, arith, leb, ltb, length, take, drop, length-append, sets, sets-eq, take_at, le-leb}
 use Rattle.laws.specs.{Loop.{pick}, Update.{same_or}, Stores.{Stored}}
 use Rattle.schedule.specs.{Grammar.{line_of}, Lines.{line_at, ended_at, next_at}, Link.LineLaws.{ended_is, next-is, next_more}}
 use Rattle.schedule.specs.Link.LineLaws.{next_le}
-use Rattle.answer.specs.{Bytes.{answer_line, most_answer}, Outcome.{upto, written_of, put_answer, buffer}, declared.Written.{Written}}
-use Rattle.answer.specs.declared.Written.TheVariants.{Upto, Short}
+use Rattle.answer.specs.{Bytes.{answer_line, most_answer}, Outcome.{upto, written_of, put_answer, buffer}}
 use Rattle.table.specs.declared.Table.{Table}
 use Rattle.rules.specs.Mirror.Test.{owns}
 use Rattle.session.specs.{Session.{Session}, Transcript.{transcript_from, session_from}}
@@ -155,22 +154,22 @@ next_place text at {line} {end} {at'} h el ee ea =
     ea ∙ ap (λ (x : ℕ). min (x + 1) (length text)) q ∙ sym (next-is text at h)
 
 -- a line that has room
-module _ (out : List ℕ) (at : ℕ) (line out' : List ℕ) (w : Written) (h : at + most_answer ≤ length out)
+module _ (out : List ℕ) (at : ℕ) (line out' : List ℕ) (w : Option ℕ) (h : at + most_answer ≤ length out)
     (e : (written_of w ≡ put_answer out at line) × ((out' ≡ buffer out at line) × (length line ≤ most_answer))) where
   room : leb (at + length line) (length out) ≡ true
   room = le-leb (at + length line) (length out) (omega (arith, e.1.1))
 
-  pub print_upto : (p : ℕ) → w ≡ Upto p → Stored out at line out' p × (p ≤ length out)
+  pub print_upto : (p : ℕ) → w ≡ Some p → Stored out at line out' p × (p ≤ length out)
   print_upto p q =
       let a : written_of w ≡ upto (at + length line) = rw room at e.0 in
       let b : written_of w ≡ upto p = ap written_of q in
       let r : p ≡ at + length line = cc in
       (record { stored = rw room at e.1.0; behind = r }, omega (arith, e.1.1))
 
-  pub print_short : {R : Type 0} → w ≡ Short → R
+  pub print_short : {R : Type 0} → w ≡ None → R
   print_short q =
       let a : written_of w ≡ upto (at + length line) = rw room at e.0 in
-      let b : written_of w ≡ written_of Short = ap written_of q in
+      let b : written_of w ≡ written_of None = ap written_of q in
       absurd (let z : ◌≡◌ {A = ℕ} 0 1 = cc in omega arith)
 
 -- the part of the buffer that a run filled

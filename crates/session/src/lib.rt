@@ -11,6 +11,7 @@ ghost use Rattle.schedule.specs.LineValue.{most_listed, cell_count};
 ghost use Rattle.session.specs.Mirror.LineValue.{Means, line_actor, seat_of};
 ghost use Rattle.session.specs.Holds.{zero_core, SomeSession};
 ghost use Rattle.session.specs.Link.LineTurn.{Acting, LineActs, SomeSeat, Turns, next_of, first_begun, no_step_of, first_turn};
+ghost use Rattle.session.specs.Link.RunningTurn.{SomeRunning, TurnsOn};
 ghost use Rattle.reply.specs.declared.Answer.TheVariants.{Refused};
 ghost use Rattle.answer.specs.Bytes.{answer_line, most_answer};
 ghost use Rattle.reply.specs.Meaning.{answer_of};
@@ -18,9 +19,9 @@ ghost use Rattle.laws.specs.Stores.{Stored};
 ghost use Rattle.session.specs.Run.{Runs};
 ghost use Rattle.table.specs.Model.{table_with};
 
-use answer::{LONGEST_ANSWER, Written};
+use answer::LONGEST_ANSWER;
 use clock::PLACES;
-use reply::{Answer, NAMES, Refusal};
+use reply::{APPLIED, Answer, Name, Refusal};
 use schedule::{LIST, Line};
 use steps::Turn;
 use table::{Cells, Core, Desk, Opens};
@@ -35,12 +36,13 @@ struct Next {
 }
 
 // The desk that a line names first; 0 where it names none.
-fn actor(s: Line) -> usize
+fn actor(s: Option<Line>) -> usize
     ensures { result ≡ line_actor s }
 {
     match s {
-        Line::Read(i, _) | Line::Write(i, _, _) | Line::Deliver(i, _, _) | Line::Trip(i, _) => i,
-        Line::New(_, _) | Line::NoStep => 0,
+        Some(Line::Read(i, _) | Line::Write(i, _, _) | Line::Deliver(i, _, _) | Line::Trip(i, _)) =>
+            i,
+        Some(Line::New(_, _)) | None => 0,
     }
 }
 
@@ -80,11 +82,11 @@ fn begun(desk: Desk, n: usize, m: usize) -> Next
 }
 
 // A line before there is a table.
-fn first(d: Desk, s: Line) -> Next
+fn first(d: Desk, s: Option<Line>) -> Next
     ensures { result ≡ first_turn d s }
 {
     match s {
-        Line::New(n, m) => begun(d, n, m),
+        Some(Line::New(n, m)) => begun(d, n, m),
         _ => none_yet(d, Refusal::NoStep),
     }
 }
@@ -98,75 +100,102 @@ fn no_step(desk: Desk) -> Turn
     }
 }
 
-// A line on a table of n desks and m cells: d is the desk that it names first, list has the cells of a trip.
-fn act(
-    n: usize,
-    m: usize,
-    d: Desk,
+// The table under way, n = 0 while there is none, and each desk's own count beside it. The two arrays are lent to each line.
+#[derive(Drop)]
+struct Running {
+    core: Core,
     own: [u16; PLACES],
-    cells: &mut Cells,
-    opens: &mut Opens,
-    names: &mut [u16; NAMES],
-    list: &[u16; LIST],
-    s: Line,
-) -> Turn
-    requires { (cell_count s ≤ most_listed) × (Acting n m cells.old opens.old own (line_actor s) d) }
-    ensures { LineActs n m d own cells.old opens.old list.now s result cells.new opens.new names.new }
-{
-    match s {
-        Line::Deliver(i, u, k) => {
-            steps::deliver::deliver_at(n, d, own, cells, opens, names, i, u, k)
-        }
-        Line::Read(i, x) => steps::look::read_at(n, m, d, cells, i, x),
-        Line::Write(i, x, v) => steps::write::write_at(n, m, d, cells, opens, i, x, v),
-        Line::Trip(i, count) => steps::look::trip_at(n, m, d, cells, i, &list[..count]),
-        Line::New(_, _) | Line::NoStep => no_step(d),
-    }
 }
 
-// A line on what there is so far.
-fn turn(
-    n: usize,
-    m: usize,
-    d: Desk,
-    own: [u16; PLACES],
-    cells: &mut Cells,
-    opens: &mut Opens,
-    names: &mut [u16; NAMES],
-    list: &[u16; LIST],
-    s: Line,
-) -> Next
-    requires { (cell_count s ≤ most_listed) × (SomeSeat n m cells.old opens.old own (line_actor s) d) }
-    ensures { Turns n m d own cells.old opens.old list.now s result cells.new opens.new names.new }
-{
-    if n == 0 {
-        return first(d, s);
+impl Running {
+    // A line on a table: d is the desk that it names first, list has the cells of a trip.
+    fn act(
+        &self,
+        d: Desk,
+        cells: &mut Cells,
+        opens: &mut Opens,
+        s: Option<Line>,
+        list: &[u16; LIST],
+        names: &mut [Name; APPLIED],
+    ) -> Turn
+        requires { (cell_count s ≤ most_listed) × (Acting self.now.core.n self.now.core.m cells.old opens.old self.now.own (line_actor s) d) }
+        ensures { LineActs self.now.core.n self.now.core.m d self.now.own cells.old opens.old list.now s result cells.new opens.new names.new }
+    {
+        let Core { n, m, .. } = self.core;
+        match s {
+            Some(Line::Deliver(i, u, k)) => {
+                steps::deliver::deliver_at(n, d, self.own, cells, opens, names, i, u, k)
+            }
+            Some(Line::Read(i, x)) => steps::look::read_at(n, m, d, cells, i, x),
+            Some(Line::Write(i, x, v)) => steps::write::write_at(n, m, d, cells, opens, i, x, v),
+            Some(Line::Trip(i, count)) => steps::look::trip_at(n, m, d, cells, i, &list[..count]),
+            Some(Line::New(_, _)) | None => no_step(d),
+        }
     }
-    let Turn { desk, answer } = act(n, m, d, own, cells, opens, names, list, s);
-    Next { n, m, desk, answer }
+
+    // A line on what there is so far.
+    fn next(
+        &self,
+        d: Desk,
+        cells: &mut Cells,
+        opens: &mut Opens,
+        s: Option<Line>,
+        list: &[u16; LIST],
+        names: &mut [Name; APPLIED],
+    ) -> Next
+        requires { (cell_count s ≤ most_listed) × (SomeSeat self.now.core.n self.now.core.m cells.old opens.old self.now.own (line_actor s) d) }
+        ensures { Turns self.now.core.n self.now.core.m d self.now.own cells.old opens.old list.now s result cells.new opens.new names.new }
+    {
+        let Core { n, m, .. } = self.core;
+        if n == 0 {
+            return first(d, s);
+        }
+        let Turn { desk, answer } = self.act(d, cells, opens, s, list, names);
+        Next { n, m, desk, answer }
+    }
+
+    // The same, with the table and the count brought along.
+    fn turn(
+        &mut self,
+        cells: &mut Cells,
+        opens: &mut Opens,
+        s: Option<Line>,
+        list: &[u16; LIST],
+        names: &mut [Name; APPLIED],
+    ) -> Answer
+        requires { (cell_count s ≤ most_listed) × (SomeRunning self.old cells.old opens.old) }
+        ensures { TurnsOn self.old cells.old opens.old list.now s result self.new cells.new opens.new names.new }
+    {
+        let p = seat(actor(s));
+        // Kept: no other fact tells how long the arrays within the desks are.
+        table::desks_shape(self.core.desks);
+        let next = self.next(self.core.desks[p], cells, opens, s, list, names);
+        self.core.n = next.n;
+        self.core.m = next.m;
+        self.core.desks[p] = next.desk;
+        self.own[p] = next.desk.applied[p];
+        next.answer
+    }
 }
 
 // What a line says: nothing where no LF ended it. The cells of a trip go to the list.
-fn said(line: &[u8], ended: bool, list: &mut [u16; LIST]) -> Line
+fn said(line: &[u8], ended: bool, list: &mut [u16; LIST]) -> Option<Line>
     ensures { Means (pick ended (line_of line.now) none) result list.new }
 {
     if ended {
         schedule::line_of(line, list)
     } else {
-        Line::NoStep
+        None
     }
 }
 
 // The line of an answer, where a line of any answer has room.
-fn print(out: &mut [u8], at: usize, a: Answer, names: &[u16; NAMES]) -> usize
+fn print(out: &mut [u8], at: usize, a: Answer, names: &[Name; APPLIED]) -> usize
     requires { at + most_answer ≤ length out.old }
     ensures stored { Stored out.old at (answer_line (answer_of a names.now)) out.new result }
     ensures within { result ≤ length out.old }
 {
-    match answer::put(out, at, a, names) {
-        Written::Upto(p) => p,
-        Written::Short => at,
-    }
+    answer::put(out, at, a, names).unwrap_or(at)
 }
 
 // The table, n = 0 while there is none, how far the text is read, and how many bytes of answers there are.
@@ -196,13 +225,12 @@ pub fn run(
     requires { SomeSession (table_with core cells.old opens.old) }
     ensures { Runs (table_with core cells.old opens.old) text.now at out.old (table_with result.core cells.new opens.new) result.at result.len out.new }
 {
-    let Core {
-        mut n,
-        mut m,
-        mut desks,
-    } = core;
-    let mut own = rules::own_counts(desks);
-    let mut names = [0; NAMES];
+    let own = rules::own_counts(core.desks);
+    let mut running = Running { core, own };
+    let mut names = [Name {
+        writer: 0,
+        number: 0,
+    }; APPLIED];
     let mut list = [0; LIST];
     let mut place = at;
     let mut len = 0;
@@ -211,19 +239,12 @@ pub fn run(
         let line = reader::first_line(text, place);
         let end = place + line.len();
         let s = said(line, end < text.len(), &mut list);
-        let p = seat(actor(s));
-        // Kept: nothing that a loop keeps tells how long the arrays within the desks are.
-        table::desks_shape(desks);
-        let t = turn(n, m, desks[p], own, cells, opens, &mut names, &list, s);
-        n = t.n;
-        m = t.m;
-        desks[p] = t.desk;
-        own[p] = t.desk.applied[p];
-        len = print(out, len, t.answer, &names);
+        let answer = running.turn(cells, opens, s, &list, &mut names);
+        len = print(out, len, answer, &names);
         place = (end + 1).min(text.len());
     }
     Progress {
-        core: Core { n, m, desks },
+        core: running.core,
         at: place,
         len,
     }

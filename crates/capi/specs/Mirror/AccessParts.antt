@@ -1,21 +1,12 @@
 -- The parts of `access_run`, for every session that the values at hand hold.
 use Rattle.std.specs.Prelude.{◌≡◌, ◌∷◌, ◌++◌, ◌+◌, ◌*◌, ◌≤◌, Result, Ok, Err}
 use Rattle.laws.specs.{Kit.{Bool, true, List, [], ℕ, length, sets}, Loop.{pick}}
-use Rattle.machine.specs.Answer as machine
 use Rattle.machine.specs.Answer.{number_of, wrong_length, damaged, broken}
-use Rattle.capi.specs.declared.Refusal.{Refusal}
-use Rattle.capi.specs.declared.Refusal.TheVariants as refusal
+use Rattle.reply.specs.{declared.Refusal.{Refusal}, declared.Refusal.TheVariants.{Short}, Meaning.{refusal_of}}
 use Rattle.table.specs.{declared.Core.{Core}, declared.Table.{Table}, Model.{table_with}}
 use Rattle.load.specs.{declared.Outcome.{Outcome}, declared.Outcome.TheVariants.{Accepted, WrongLength, Damaged, Broken}}
 use Rattle.session.specs.{Session.{Session}, Transcript.{transcript_from, session_from, most_text}, Holds.{Holds}}
 use Rattle.capi.specs.Access.{Left, image_of, refuse, begin, start_of, run_from}
-
--- why a call is refused
-abbrev pub refusal_of : Refusal → machine.Refusal
-refusal_of refusal.WrongLength = machine.wrong_length
-refusal_of refusal.Damaged = machine.damaged
-refusal_of refusal.Broken = machine.broken
-refusal_of refusal.Short = machine.short
 
 -- the number that a call returns
 abbrev pub status : {T : Type 0} → Result T Refusal → ℕ
@@ -70,7 +61,7 @@ ImageFits core image = (z : Session) (cs os : List ℕ) → Holds (table_with co
 abbrev pub Roomy : {T : Type 0} → Core → (all : ℕ) (answers image : List ℕ) → Result T Refusal → Type 0
 Roomy core all answers image (Ok x) = (all ≤ length answers) × ImageFits core image
 Roomy core all answers image (Err r) =
-    (r ≡ refusal.Short) × ((z : Session) (cs os : List ℕ) → Holds (table_with core cs os) z → all ≤ length answers → length (image_of z) ≤ length image → ⊥)
+    (r ≡ Short) × ((z : Session) (cs os : List ℕ) → Holds (table_with core cs os) z → all ≤ length answers → length (image_of z) ≤ length image → ⊥)
 
 -- the answers before a place are at hand, and w is the session there
 pub record Behind (z w : Session) (text : List ℕ) (at : ℕ) (first : List ℕ) : Type 0 where

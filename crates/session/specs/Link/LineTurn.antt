@@ -1,5 +1,6 @@
 -- A line against the code's values: what it asks of them, and that it is the session's turn.
-use Rattle.std.specs.Prelude.{◌≡◌, ◌-◌, ◌*◌}
+use Rattle.std.specs.Prelude.{◌≡◌, ◌-◌, ◌*◌, Some, None}
+use Rattle.std.specs.Prelude as std
 use Rattle.laws.specs.Kit.{refl, sym, ap, subst, ◌∙◌, List, [], Option, none, some, Bool, true, false, ℕ, arith, length}
 use Rattle.laws.specs.{Kit.{get_or, set, set-get_or}, Loop.{pick, cases}, Says.{apart}}
 use Rattle.clock.specs.Vectors.{places}
@@ -9,9 +10,9 @@ use Rattle.machine.specs.Answer as machine
 use Rattle.machine.specs.Steps as steps
 use Rattle.reply.specs.{declared.Answer.{Answer}, declared.Answer.TheVariants.{Begun, Unset, Shown, Wrote, Held, Applied, Yes, No}}
 use Rattle.reply.specs.{declared.Answer.TheVariants.{Unknown, Refused}, declared.Refusal.TheVariants.{NoStep as NoStepAnswer, NoSize}}
-use Rattle.reply.specs.Meaning.{answer_of}
+use Rattle.reply.specs.{declared.Name.{Name}, Meaning.{answer_of}}
 use Rattle.schedule.specs.{Grammar.{Line as Said, step_line}, declared.Line.{Line}, declared.Line.TheVariants.{New, Read, Write, Deliver}}
-use Rattle.schedule.specs.declared.Line.TheVariants.{Trip, NoStep}
+use Rattle.schedule.specs.declared.Line.TheVariants.{Trip}
 use Rattle.table.specs.{declared.Desk.{Desk}, declared.Table.{Table}, Value.{desk0, all_cells, cell_width, entries, open_width}}
 use Rattle.table.specs.{TypeShape.{DesksShape}, Model.{table_of, model_of}, Sound.{SoundTable}}
 use Rattle.steps.specs.{declared.Turn.{Turn as DeskTurn}, Stepped.{Placed, put_desk, Stepped, table_after}}
@@ -39,7 +40,7 @@ pub record Acted (t : Table) (i : ℕ) (d : Desk) (o : Option Said) (d' : Desk) 
   pub sound : SoundTable (table_after t.core i d' cs' os')
   pub outside : within t.core.n i ≡ false → d' ≡ d
 
-abbrev pub LineActs : (n m : ℕ) (d : Desk) (own cs os list : List ℕ) (s : Line) (r : DeskTurn) (cs' os' names' : List ℕ) → Type 0
+abbrev pub LineActs : (n m : ℕ) (d : Desk) (own cs os list : List ℕ) (s : std.Option Line) (r : DeskTurn) (cs' os' : List ℕ) (names' : List Name) → Type 0
 LineActs n m d own cs os list s r cs' os' names' =
     (ds : List Desk) → Placed (table_of n m ds cs os) own (line_actor s) d → Acted (table_of n m ds cs os) (line_actor s) d (line_in s list) r.desk cs' os' (answer_of r.answer names')
 
@@ -70,12 +71,12 @@ is_applies (machine.applies l) = true
 is_applies (machine.judged v) = false
 is_applies (machine.refused r) = false
 
-beside : (a : Answer) (names : List ℕ) (x : machine.Answer) → answer_of a [] ≡ x → is_applies x ≡ false → answer_of a names ≡ x
+beside : (a : Answer) (names : List Name) (x : machine.Answer) → answer_of a [] ≡ x → is_applies x ≡ false → answer_of a names ≡ x
 beside Begun names x e h = e
 beside Unset names x e h = e
-beside (Shown v u k) names x e h = e
-beside (Wrote u k) names x e h = e
-beside (Held t j) names x e h = e
+beside (Shown v w) names x e h = e
+beside (Wrote w) names x e h = e
+beside (Held w) names x e h = e
 beside (Applied c) names x e h = apart (is_applies x) (sym (ap is_applies e)) h
 beside Yes names x e h = e
 beside No names x e h = e
@@ -94,7 +95,7 @@ quiet s (steps.Write i x v) e = step_cases s (steps.Write i x v) (λ o. is_appli
 quiet s (steps.Deliver i u k) e = apart true refl e
 quiet s (steps.Trip i xs) e = step_cases s (steps.Trip i xs) (λ o. is_applies o.answer ≡ false) (λ r. refl) (λ h. refl)
 
-module _ {t : Table} {d d' : Desk} {cs' os' : List ℕ} (a : Step) (answer : Answer) (names : List ℕ) where
+module _ {t : Table} {d d' : Desk} {cs' os' : List ℕ} (a : Step) (answer : Answer) (names : List Name) where
   pub acted_quiet : Delivery a ≡ false → Stepped t (desk_of a) d a d' cs' os' (answer_of answer [])
       → Acted t (desk_of a) d (some (step_line a)) d' cs' os' (answer_of answer names)
   acted_quiet q h =
@@ -141,7 +142,7 @@ abbrev pub table_seated : (n m : ℕ) (ds : List Desk) (i : ℕ) (d : Desk) (cs 
 table_seated n m ds i d cs os = table_of n m (set ds (seat_of i) d) cs os
 
 -- whatever the other desks, and whatever session the values hold
-abbrev pub Turns : (n m : ℕ) (d : Desk) (own cs os list : List ℕ) (s : Line) (r : Next) (cs' os' names' : List ℕ) → Type 0
+abbrev pub Turns : (n m : ℕ) (d : Desk) (own cs os list : List ℕ) (s : std.Option Line) (r : Next) (cs' os' : List ℕ) (names' : List Name) → Type 0
 Turns n m d own cs os list s r cs' os' names' =
     (ds : List Desk) (z : Session) → Seated (table_of n m ds cs os) own (line_actor s) d z
     → LineTurned (table_seated r.n r.m ds (line_actor s) r.desk cs' os') (answer_of r.answer names') (turn z (line_in s list))
@@ -153,13 +154,13 @@ abbrev pub first_begun : Desk → ℕ → ℕ → Next
 first_begun d n m = pick (begins n m) (next_of n m d Begun) (next_of 0 0 d (Refused NoSize))
 
 -- a line before there is a table
-abbrev pub first_turn : Desk → Line → Next
-first_turn d (New n m) = first_begun d n m
-first_turn d (Read i x) = next_of 0 0 d (Refused NoStepAnswer)
-first_turn d (Write i x v) = next_of 0 0 d (Refused NoStepAnswer)
-first_turn d (Deliver i u k) = next_of 0 0 d (Refused NoStepAnswer)
-first_turn d (Trip i n) = next_of 0 0 d (Refused NoStepAnswer)
-first_turn d NoStep = next_of 0 0 d (Refused NoStepAnswer)
+abbrev pub first_turn : Desk → std.Option Line → Next
+first_turn d (Some (New n m)) = first_begun d n m
+first_turn d (Some (Read i x)) = next_of 0 0 d (Refused NoStepAnswer)
+first_turn d (Some (Write i x v)) = next_of 0 0 d (Refused NoStepAnswer)
+first_turn d (Some (Deliver i u k)) = next_of 0 0 d (Refused NoStepAnswer)
+first_turn d (Some (Trip i n)) = next_of 0 0 d (Refused NoStepAnswer)
+first_turn d None = next_of 0 0 d (Refused NoStepAnswer)
 
 module _ {whole : Table} {own : List ℕ} {i : ℕ} {d : Desk} where
   stays : {z : Session} → Seated whole own i d z → set whole.core.desks (seat_of i) d ≡ whole.core.desks
@@ -217,7 +218,7 @@ unfolding begin
 begin-no a b t = rw (t, begin)
 
 -- before there is a table
-pub turned_first : {whole : Table} {own : List ℕ} {d : Desk} (s : Line) (list names : List ℕ) (z : Session) → whole.core.n ≡ 0 → Seated whole own (line_actor s) d z
+pub turned_first : {whole : Table} {own : List ℕ} {d : Desk} (s : std.Option Line) (list : List ℕ) (names : List Name) (z : Session) → whole.core.n ≡ 0 → Seated whole own (line_actor s) d z
     → (let r = first_turn d s in LineTurned (table_seated r.n r.m whole.core.desks (line_actor s) r.desk whole.cells whole.opens) (answer_of r.answer names) (turn z (line_in s list)))
 turned_first {whole} {own} {d} s list names z e h =
     let y = zero_of z e h in
@@ -230,15 +231,15 @@ turned_first {whole} {own} {d} s list names z e h =
         → LineTurned (table_seated 0 0 whole.core.desks i d whole.cells whole.opens) (machine.refused machine.no_step) (record { answer = machine.refused machine.no_step; session = none })
     stay i q y = record { answer_is = refl; holds = rw q (none_yet y) }
 
-    go : (s : Line) → set whole.core.desks (seat_of (line_actor s)) d ≡ whole.core.desks → whole ≡ zero_table
+    go : (s : std.Option Line) → set whole.core.desks (seat_of (line_actor s)) d ≡ whole.core.desks → whole ≡ zero_table
         → (let r = first_turn d s in LineTurned (table_seated r.n r.m whole.core.desks (line_actor s) r.desk whole.cells whole.opens) (answer_of r.answer names) (turn none (line_in s list)))
-    go (New a b) q y =
+    go (Some (New a b)) q y =
         cases (begins a b)
         (λ t. let w = (sizes_test a b).says.to t in
         rw (begin-yes a b t, t) (record { answer_is = refl; holds = rw q (begun-holds a b whole w.0 w.1 y) }))
         (λ t. rw (begin-no a b t, t) (record { answer_is = refl; holds = rw q (none_yet y) }))
-    go (Read i x) q y = stay i q y
-    go (Write i x v) q y = stay i q y
-    go (Deliver i u k) q y = stay i q y
-    go (Trip i n) q y = stay i q y
-    go NoStep q y = stay 0 q y
+    go (Some (Read i x)) q y = stay i q y
+    go (Some (Write i x v)) q y = stay i q y
+    go (Some (Deliver i u k)) q y = stay i q y
+    go (Some (Trip i n)) q y = stay i q y
+    go None q y = stay 0 q y

@@ -1,16 +1,17 @@
 -- A line as the code has it: its value and the array of a trip's cells beside it; the desk that acts, and where that stands.
-use Rattle.std.specs.Prelude.{◌≡◌, ◌-◌, ◌≤◌}
+use Rattle.std.specs.Prelude.{◌≡◌, ◌-◌, ◌≤◌, Some, None}
+use Rattle.std.specs.Prelude as std
 use Rattle.laws.specs.{Kit.{ap, ◌∙◌, List, Option, ℕ, length, take}, Loop.{pick}}
 use Rattle.clock.specs.Vectors.{places}
 use Rattle.machine.specs.Steps.{within}
 use Rattle.schedule.specs.{Grammar.{Line as Said}, LineValue.{line_value, trip_cells, most_listed, line_back, line-back, cell_count, count_is}}
-use Rattle.schedule.specs.{declared.Line.{Line}, declared.Line.TheVariants.{New, Read, Write, Deliver, Trip, NoStep}}
+use Rattle.schedule.specs.{declared.Line.{Line}, declared.Line.TheVariants.{New, Read, Write, Deliver, Trip}}
 
 -- what the value and the array say together
-abbrev pub line_in : Line → List ℕ → Option Said
+abbrev pub line_in : std.Option Line → List ℕ → Option Said
 line_in s list = line_back s (take (cell_count s) list)
 
-pub record Means (o : Option Said) (s : Line) (list : List ℕ) : Type 0 where
+pub record Means (o : Option Said) (s : std.Option Line) (list : List ℕ) : Type 0 where
   pub is : line_in s list ≡ o
   pub few : cell_count s ≤ most_listed
 
@@ -21,13 +22,13 @@ means o list h few = record {
 }
 
 -- the desk that a line names first; 0 where it names none
-abbrev pub line_actor : Line → ℕ
-line_actor (New n m) = 0
-line_actor (Read i x) = i
-line_actor (Write i x v) = i
-line_actor (Deliver i u k) = i
-line_actor (Trip i n) = i
-line_actor NoStep = 0
+abbrev pub line_actor : std.Option Line → ℕ
+line_actor (Some (New n m)) = 0
+line_actor (Some (Read i x)) = i
+line_actor (Some (Write i x v)) = i
+line_actor (Some (Deliver i u k)) = i
+line_actor (Some (Trip i n)) = i
+line_actor None = 0
 
 -- its place in the array of desks, and the first for a number that is no desk: the step then leaves that one as it is
 abbrev pub seat_of : ℕ → ℕ

@@ -1,5 +1,5 @@
 use Rattle.session.specs.{Mirror.LineValue.{line_in}, Link.LineTurn.{turned_first, turned_act, acting}}
-use Rattle.session.proofs.turn.Goals as goal
+use Rattle.session.proofs.Running.next.Goals as goal
 
 pub returns-then-n-eq0 : goal.returns-then-n-eq0
 returns-then-n-eq0 c ds z h = let g = c.args in rw c.first.ensures (turned_first g.s g.list.now g.names.now z c.if-n-eq0.true h)
