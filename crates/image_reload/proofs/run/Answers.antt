@@ -1,4 +1,4 @@
-use Rattle.std.proofs.Common.{◌≤◌, length, length-drop, sym, ap, ◌∙◌, arith}
+use Rattle.std.proofs.Common.{length, length-drop, sym, ap, ◌∙◌, arith}
 use Rattle.reader.specs.Ended.{ended_on}
 use Rattle.image_reload.proofs.run.Goals as goal
 
