@@ -2,18 +2,15 @@
 #![tactic(auto)]
 
 use access::{Delivered, Done};
+use answer::LONGEST_ANSWER;
 use reply::{APPLIED, Answer, Name, Refusal};
 use std::io;
 use table::Table;
 
 fn say_named(rt: &impl Print, a: Answer, names: &[Name; APPLIED]) -> io::Result<()> {
-    let mut out = [0; 800];
-    if let Some(len) = answer::put(&mut out, 0, a, names)
-        && len <= out.len()
-    {
-        rt.write_all(&out[..len])?;
-    }
-    Ok(())
+    let mut out = [0; LONGEST_ANSWER];
+    let len = answer::put(&mut out, 0, a, names).unwrap_or(0);
+    rt.write_all(&out[..len])
 }
 
 fn say(rt: &impl Print, a: Answer) -> io::Result<()> {

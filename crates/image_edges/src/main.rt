@@ -6,62 +6,54 @@ use clock::{Clock, PLACES};
 use image::Unsaved;
 use load::Fault;
 use std::io;
-use table::{CELLS, Cell, Core, DONE, Desk, OPENS, Open, Table};
+use table::{Cell, DONE, Desk, OPENS, Open, Table};
 
-fn say(rt: &impl Print, line: &[u8]) -> io::Result<()> {
-    rt.write_all(line)
-}
+// The bytes of the image of two desks.
+const SAVED: usize = 3072;
+// More than it needs.
+const ROOM: usize = 4000;
 
-fn saving(rt: &impl Print, s: Result<usize, Unsaved>) -> io::Result<()> {
-    match s {
-        Ok(3072) => say(rt, b"3072 bytes\n"),
-        Ok(_) => say(rt, b"another length\n"),
-        Err(Unsaved::Broken) => say(rt, b"13\n"),
-        Err(Unsaved::Short) => say(rt, b"14\n"),
+fn say_saving(rt: &impl Print, saving: Result<usize, Unsaved>) -> io::Result<()> {
+    match saving {
+        Ok(SAVED) => rt.println("3072 bytes"),
+        Ok(_) => rt.println("another length"),
+        Err(Unsaved::Broken) => rt.println("13"),
+        Err(Unsaved::Short) => rt.println("14"),
     }
 }
 
-fn say_place(rt: &impl Print, number: &[u8], place: usize) -> io::Result<()> {
-    say(rt, number)?;
-    say(rt, b" at block ")?;
-    rt.println(place)
+fn say_loading(rt: &impl Print, loading: Result<Table, Fault>) -> io::Result<()> {
+    match loading {
+        Ok(_) => rt.println("loaded"),
+        Err(Fault::WrongLength) => rt.println("15"),
+        Err(Fault::Damaged(k)) => println!(rt; "12 at block {k}"),
+        Err(Fault::Broken(k)) => println!(rt; "13 at block {k}"),
+    }
 }
 
-fn loading(rt: &impl Print, o: Result<Table, Fault>) -> io::Result<()> {
-    match o {
-        Ok(_) => say(rt, b"loaded\n"),
-        Err(Fault::WrongLength) => say(rt, b"15\n"),
-        Err(Fault::Damaged(k)) => say_place(rt, b"12", k),
-        Err(Fault::Broken(k)) => say_place(rt, b"13", k),
-    }
+fn say_same(rt: &impl Print, same: bool) -> io::Result<()> {
+    rt.println(if same { "yes" } else { "no" })
 }
 
 // Two desks and a cell: desk 1 has written status 2, which desk 2 has yet to receive. The open write is in the entry named.
 fn one_write(entry: usize) -> Table {
-    let mut one = [0u16; PLACES];
+    let mut one = [0; PLACES];
     one[0] = 1;
-    let first = Desk {
+    let mut t = table::fresh(2, 1);
+    t.core.desks[0] = Desk {
         applied: one,
         clock: Clock { at: one },
     };
-    let second = Desk {
-        applied: [0; PLACES],
-        clock: Clock { at: [0; PLACES] },
-    };
-    let mut desks = [second; PLACES];
-    desks[0] = first;
-    let core = Core { n: 2, m: 1, desks };
-    let mut cells = [Cell::UNSET; PLACES * CELLS];
-    cells[0] = Cell {
+    let cell = Cell {
         writer: 1,
         status: 2,
         vector: one,
     };
-    let mut opens = [Open::FREE; OPENS];
+    t.cells[0] = cell;
+    let mut marks = [0; PLACES];
+    marks[0] = DONE;
     if entry < OPENS {
-        let mut marks = [0; PLACES];
-        marks[0] = DONE;
-        opens[entry] = Open {
+        t.opens[entry] = Open {
             writer: 1,
             status: 2,
             cell: 1,
@@ -69,121 +61,69 @@ fn one_write(entry: usize) -> Table {
             marks,
         };
     }
-    Table { core, cells, opens }
-}
-
-fn tell(rt: &impl Print, b: bool) -> io::Result<()> {
-    say(rt, if b { b"yes\n" } else { b"no\n" })
-}
-
-// Save into the first n bytes.
-fn save_into(rt: &impl Print, t: Table, out: &mut [u8], n: usize) -> io::Result<()> {
-    if n <= out.len() {
-        saving(rt, image::save(t, &mut out[..n]))?;
-    }
-    Ok(())
-}
-
-// Load the first n bytes.
-fn load_from(rt: &impl Print, b: &[u8], n: usize) -> io::Result<()> {
-    if n <= b.len() {
-        loading(rt, load::load(&b[..n]))?;
-    }
-    Ok(())
-}
-
-// Are the bytes from n on the same?
-fn same_from(rt: &impl Print, a: &[u8], b: &[u8], n: usize) -> io::Result<()> {
-    if n <= a.len() && n <= b.len() {
-        tell(rt, a[n..] == b[n..])?;
-    }
-    Ok(())
-}
-
-fn same_upto(rt: &impl Print, a: &[u8], b: &[u8], n: usize) -> io::Result<()> {
-    if n <= a.len() && n <= b.len() {
-        tell(rt, a[..n] == b[..n])?;
-    }
-    Ok(())
-}
-
-// Load the first n bytes, and save what was loaded.
-fn reload(rt: &impl Print, b: &[u8], n: usize, out: &mut [u8]) -> io::Result<()> {
-    if n <= b.len() {
-        let t = load::load(&b[..n]).unwrap_or(table::fresh(0, 0));
-        saving(rt, image::save(t, out))?;
-    }
-    Ok(())
-}
-
-fn put(b: &mut [u8], at: usize, x: u8) {
-    if at < b.len() {
-        b[at] = x;
-    }
+    t
 }
 
 // A desk more in the first block, and its check made right.
-fn bend(b: &mut [u8]) {
-    if BLOCK <= b.len() {
-        let c = b[CHECK];
-        if c < 250 {
-            put(b, PAYLOAD_AT, 3);
-            put(b, CHECK, c + 5);
-        }
+fn bend(b: &mut [u8; SAVED]) {
+    let c = b[CHECK];
+    if c < 250 {
+        b[PAYLOAD_AT] = 3;
+        b[CHECK] = c + 5;
     }
 }
 
-fn short(rt: &impl Print, out: &mut [u8], found: &[u8]) -> io::Result<()> {
-    say(rt, b"a buffer one byte short: ")?;
-    save_into(rt, one_write(5), out, 3071)?;
-    say(rt, b"left as found: ")?;
-    same_from(rt, out, found, 0)
+fn short(rt: &impl Print, out: &mut [u8; ROOM], found: &[u8; ROOM]) -> io::Result<()> {
+    rt.print("a buffer one byte short: ")?;
+    say_saving(rt, image::save(one_write(5), &mut out[..SAVED - 1]))?;
+    rt.print("left as found: ")?;
+    say_same(rt, *out == *found)
 }
 
-fn long(rt: &impl Print, out: &mut [u8], found: &[u8]) -> io::Result<()> {
-    say(rt, b"long enough: ")?;
-    save_into(rt, one_write(5), out, 4000)?;
-    say(rt, b"bytes past the image stay: ")?;
-    same_from(rt, out, found, 3072)?;
-    say(rt, b"reloaded: ")?;
-    load_from(rt, out, 3072)
+fn long(rt: &impl Print, out: &mut [u8; ROOM], found: &[u8; ROOM]) -> io::Result<()> {
+    rt.print("long enough: ")?;
+    say_saving(rt, image::save(one_write(5), out))?;
+    rt.print("bytes past the image stay: ")?;
+    say_same(rt, out[SAVED..] == found[SAVED..])?;
+    rt.print("reloaded: ")?;
+    say_loading(rt, load::load(&out[..SAVED]))
 }
 
-fn saved_again(rt: &impl Print, out: &[u8], again: &mut [u8]) -> io::Result<()> {
-    say(rt, b"and saved again gives its bytes: ")?;
-    reload(rt, out, 3072, again)?;
-    same_upto(rt, out, again, 3072)
+fn saved_again(rt: &impl Print, out: &[u8; ROOM], again: &mut [u8; SAVED]) -> io::Result<()> {
+    rt.print("and saved again gives its bytes: ")?;
+    let t = load::load(&out[..SAVED]).unwrap_or(table::fresh(0, 0));
+    say_saving(rt, image::save(t, again))?;
+    say_same(rt, out[..SAVED] == again[..])
 }
 
-fn elsewhere(rt: &impl Print, other: &mut [u8], again: &[u8]) -> io::Result<()> {
-    say(rt, b"the write in another entry gives the same bytes: ")?;
-    save_into(rt, one_write(63), other, 3072)?;
-    same_upto(rt, other, again, 3072)
+fn elsewhere(rt: &impl Print, other: &mut [u8; SAVED], again: &[u8; SAVED]) -> io::Result<()> {
+    rt.print("the write in another entry gives the same bytes: ")?;
+    say_saving(rt, image::save(one_write(OPENS - 1), other))?;
+    say_same(rt, *other == *again)
 }
 
-fn lost(rt: &impl Print, other: &mut [u8]) -> io::Result<()> {
-    say(rt, b"the open write lost: ")?;
-    save_into(rt, one_write(64), other, 3072)
+fn lost(rt: &impl Print, other: &mut [u8; SAVED]) -> io::Result<()> {
+    rt.print("the open write lost: ")?;
+    say_saving(rt, image::save(one_write(OPENS), other))
 }
 
-fn changed(rt: &impl Print, out: &[u8], again: &mut [u8]) -> io::Result<()> {
-    say(rt, b"a byte more: ")?;
-    load_from(rt, out, 3073)?;
-    say(rt, b"a byte of a payload and the check changed: ")?;
+fn changed(rt: &impl Print, out: &[u8; ROOM], again: &mut [u8; SAVED]) -> io::Result<()> {
+    rt.print("a byte more: ")?;
+    say_loading(rt, load::load(&out[..SAVED + 1]))?;
+    rt.print("a byte of a payload and the check changed: ")?;
     bend(again);
-    load_from(rt, again, 3072)
+    say_loading(rt, load::load(again))
 }
 
 fn main(rt: HostRuntime) -> io::Result<()> {
-    let zeros = [0u8; BLOCK];
-    say(&rt, b"an all-zero block: ")?;
-    load_from(&rt, &zeros, BLOCK)?;
-    say(&rt, b"nothing: ")?;
-    load_from(&rt, &zeros, 0)?;
-    let found = [7u8; 4000];
-    let mut out = [7u8; 4000];
-    let mut again = [7u8; 3072];
-    let mut other = [7u8; 3072];
+    rt.print("an all-zero block: ")?;
+    say_loading(&rt, load::load(&[0; BLOCK]))?;
+    rt.print("nothing: ")?;
+    say_loading(&rt, load::load(&[]))?;
+    let found = [7; ROOM];
+    let mut out = found;
+    let mut again = [7; SAVED];
+    let mut other = [7; SAVED];
     short(&rt, &mut out, &found)?;
     long(&rt, &mut out, &found)?;
     saved_again(&rt, &out, &mut again)?;

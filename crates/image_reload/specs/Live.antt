@@ -4,9 +4,13 @@ use Rattle.std.specs.Prelude.{ℕ, Ok}
 use Rattle.table.specs.{declared.Table.{Table}, Beginning.{fresh_table}, Model.{model_of}}
 use Rattle.session.specs.Holds.{SomeSession, zero-holds}
 use Rattle.load.specs.Loading.{Answers}
+use Rattle.image_reload.specs.declared.Two.{Two}
 
 abbrev pub Live : Table → Type 0
 Live t = SomeSession t
+
+abbrev pub BothLive : Two → Type 0
+BothLive t = Live t.kept × Live t.reloaded
 
 pub live_none : Live (fresh_table 0 0)
 unfolding fresh_table

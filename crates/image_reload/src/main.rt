@@ -5,34 +5,23 @@
 // line Z goes back to no table.
 #![tactic(auto)]
 
-ghost use Rattle.std.specs.Prelude.{IfOk};
-ghost use Rattle.std.specs.Io.{ReadsAtMost};
-ghost use Rattle.image_reload.specs.Live.{Live};
+ghost use Rattle.std.specs.Prelude.{◌≡◌, IfOk};
+ghost use Rattle.image_reload.specs.Live.{Live, BothLive};
 
+use answer::LONGEST_ANSWER;
 use image::IMAGE;
-use load::Fault;
+use reader::Reader;
 use std::io;
-use std::io::Read;
 use table::Table;
 
 // The most bytes of the schedule.
 const TEXT: usize = 4096;
-// Bytes of answers: one of any length has room.
-const ANSWER: usize = 800;
 
-// What a step leaves: the table, and the answer's line.
+// What a step leaves: the table, and the answer without its LF.
 #[derive(Drop)]
-struct Said {
+struct Said<'a> {
     table: Table,
-    answer: [u8; ANSWER],
-    len: usize,
-}
-
-// An image: the first len of the bytes.
-#[derive(Drop)]
-struct Image {
-    bytes: [u8; IMAGE],
-    len: usize,
+    answer: &'a [u8],
 }
 
 // The table that was never saved, and the one that was.
@@ -42,24 +31,12 @@ struct Two {
     reloaded: Table,
 }
 
-fn say(rt: &impl Print, line: &[u8]) -> io::Result<()> {
-    rt.write_all(line)
-}
-
 fn say_same(rt: &impl Print, same: bool) -> io::Result<()> {
-    say(rt, if same { b" | same" } else { b" | DIFFERENT" })
+    rt.print(if same { " | same" } else { " | DIFFERENT" })
 }
 
-// The first bytes of a buffer, without their LF.
-fn emit(rt: &impl Print, all: &[u8], len: usize) -> io::Result<()> {
-    if 0 < len && len <= all.len() {
-        say(rt, &all[..len - 1])?;
-    }
-    Ok(())
-}
-
-// A step, the line with its LF.
-fn step(t: Table, line: &[u8]) -> Said
+// A step, the line with its LF. The answer stands in the buffer.
+fn step<'a>(t: Table, line: &[u8], buffer: &'a mut [u8; LONGEST_ANSWER]) -> Said<'a>
     requires { Live t }
     ensures { Live result.table }
 {
@@ -68,8 +45,7 @@ fn step(t: Table, line: &[u8]) -> Said
         mut cells,
         mut opens,
     } = t;
-    let mut answer = [0u8; ANSWER];
-    let p = session::run(core, &mut cells, &mut opens, line, 0, &mut answer);
+    let p = session::run(core, &mut cells, &mut opens, line, 0, buffer);
     let table = Table {
         core: p.core,
         cells,
@@ -77,30 +53,23 @@ fn step(t: Table, line: &[u8]) -> Said
     };
     Said {
         table,
-        answer,
-        len: p.len,
+        answer: &buffer[..p.len.saturating_sub(1)],
     }
 }
 
-// A table saved; no bytes where that is refused.
-fn saved(t: Table) -> Image {
-    let mut bytes = image::room();
-    let Ok(len) = image::save(t, &mut bytes) else {
-        return Image { bytes, len: 0 };
-    };
-    Image { bytes, len }
+// A table saved into the buffer, where it is not refused.
+fn saved(t: Table, buffer: &mut [u8; IMAGE]) -> Option<&[u8]> {
+    let len = image::save(t, buffer).ok()?;
+    buffer.get(..len)
 }
 
 // Do two tables have the same image, byte for byte?
 fn same_image(a: Table, b: Table) -> bool {
-    let x = saved(a);
-    let y = saved(b);
-    x.len != 0 && x.len == y.len && x.bytes == y.bytes
-}
-
-fn say_fault(rt: &impl Print, f: Fault) -> io::Result<()> {
-    say(rt, b" | NOT RELOADED: ")?;
-    rt.print(f.number())
+    let (mut first, mut second) = (image::room(), image::room());
+    match (saved(a, &mut first), saved(b, &mut second)) {
+        (Some(x), Some(y)) => x == y,
+        _ => false,
+    }
 }
 
 // The table of an image; none where it is refused.
@@ -109,43 +78,35 @@ fn loaded(rt: &impl Print, b: &[u8]) -> io::Result<Table>
 {
     match load::load(b) {
         Ok(t) => {
-            say(rt, b" | reloaded")?;
+            rt.print(" | reloaded")?;
             Ok(t)
         }
-        Err(f) => {
-            say_fault(rt, f)?;
+        Err(fault) => {
+            print!(rt; " | NOT RELOADED: {}", fault.number())?;
             Ok(table::fresh(0, 0))
         }
     }
 }
 
-fn load_first(rt: &impl Print, b: &[u8], len: usize) -> io::Result<Table>
-    ensures { IfOk result (λ t. Live t) }
-{
-    if b.len() < len {
-        return loaded(rt, b);
-    }
-    loaded(rt, &b[..len])
-}
-
-// A table saved and reloaded. What is not saved is not reloaded: no bytes are 12.
+// A table saved and reloaded. What is not saved is not reloaded: no bytes are 15.
 fn reload(rt: &impl Print, t: Table) -> io::Result<Table>
     ensures { IfOk result (λ u. Live u) }
 {
-    let x = saved(t);
-    load_first(rt, &x.bytes, x.len)
+    let mut buffer = image::room();
+    loaded(rt, saved(t, &mut buffer).unwrap_or_default())
 }
 
 // A step of both.
 fn both(rt: &impl Print, t: Two, line: &[u8]) -> io::Result<Two>
-    requires { Live t.kept × Live t.reloaded }
-    ensures { IfOk result (λ u. Live u.kept × Live u.reloaded) }
+    requires { BothLive t }
+    ensures { IfOk result (λ u. BothLive u) }
 {
-    let a = step(t.kept, line);
-    let b = step(t.reloaded, line);
-    emit(rt, &a.answer, a.len)?;
-    say(rt, b" | ")?;
-    emit(rt, &b.answer, b.len)?;
+    let (mut first, mut second) = ([0; LONGEST_ANSWER], [0; LONGEST_ANSWER]);
+    let a = step(t.kept, line, &mut first);
+    let b = step(t.reloaded, line, &mut second);
+    rt.write_all(a.answer)?;
+    rt.print(" | ")?;
+    rt.write_all(b.answer)?;
     say_same(rt, a.answer == b.answer)?;
     Ok(Two {
         kept: a.table,
@@ -155,8 +116,8 @@ fn both(rt: &impl Print, t: Two, line: &[u8]) -> io::Result<Two>
 
 // The second saved and reloaded.
 fn again(rt: &impl Print, t: Two) -> io::Result<Two>
-    requires { Live t.kept × Live t.reloaded }
-    ensures { IfOk result (λ u. Live u.kept × Live u.reloaded) }
+    requires { BothLive t }
+    ensures { IfOk result (λ u. BothLive u) }
 {
     Ok(Two {
         kept: t.kept,
@@ -164,14 +125,18 @@ fn again(rt: &impl Print, t: Two) -> io::Result<Two>
     })
 }
 
-fn compare(rt: &impl Print, t: Two) -> io::Result<()> {
+// Says whether both have the same image, and hands them on.
+fn compared(rt: &impl Print, t: Two) -> io::Result<Two>
+    ensures { IfOk result (λ u. u ≡ t) }
+{
     say_same(rt, same_image(t.kept, t.reloaded))?;
-    say(rt, b"\n")
+    rt.print("\n")?;
+    Ok(t)
 }
 
 // No table.
 fn nothing() -> Two
-    ensures { Live result.kept × Live result.reloaded }
+    ensures { BothLive result }
 {
     let none = table::fresh(0, 0);
     Two {
@@ -180,71 +145,55 @@ fn nothing() -> Two
     }
 }
 
-fn one(rt: &impl Print, t: Two, line: &[u8], every: bool) -> io::Result<Two>
-    requires { Live t.kept × Live t.reloaded }
-    ensures { IfOk result (λ u. Live u.kept × Live u.reloaded) }
+// A line, with its LF; `after` is what is done after a step.
+fn one<F: Fn(Two) -> io::Result<Two>>(
+    rt: &impl Print,
+    t: Two,
+    line: &[u8],
+    after: &F,
+) -> io::Result<Two>
+    requires live { BothLive t }
+    requires may { (u : _) → BothLive u → F.pre after.now u }
+    requires goes_on { (u r : _) → BothLive u → F.post after.now u r → IfOk r (λ w. BothLive w) }
+    ensures { IfOk result (λ u. BothLive u) }
 {
-    if line == b"S\n".as_slice() {
-        say(rt, b"S")?;
-        let u = again(rt, t)?;
-        compare(rt, u)?;
-        return Ok(u);
+    match line {
+        [b'Z', b'\n'] => {
+            rt.print("Z\n")?;
+            Ok(nothing())
+        }
+        [b'S', b'\n'] => {
+            rt.print("S")?;
+            compared(rt, again(rt, t)?)
+        }
+        _ => compared(rt, after(both(rt, t, line)?)?),
     }
-    if line == b"Z\n".as_slice() {
-        say(rt, b"Z\n")?;
-        return Ok(nothing());
-    }
-    let u = both(rt, t, line)?;
-    if every {
-        let w = again(rt, u)?;
-        compare(rt, w)?;
-        return Ok(w);
-    }
-    compare(rt, u)?;
-    Ok(u)
 }
 
-fn run(rt: &impl Print, text: &[u8], every: bool) -> io::Result<()> {
+// Each line that a LF ends.
+fn run<F: Fn(Two) -> io::Result<Two>>(rt: &impl Print, text: &[u8], after: F) -> io::Result<()>
+    requires may { (u : _) → BothLive u → F.pre after u }
+    requires goes_on { (u r : _) → BothLive u → F.post after u r → IfOk r (λ w. BothLive w) }
+{
     let mut t = nothing();
-    let mut at = 0;
-    // Kept: a line tells where the next one begins, which no `for` counts.
-    while at < text.len() {
-        let line = schedule::line_at(text, at);
-        let len = line.len();
-        if text.len() - at <= len {
-            return Ok(());
-        }
-        let next = at + len + 1;
-        t = one(rt, t, &text[at..next], every)?;
-        at = next;
+    let mut reader = Reader::new(text);
+    while reader.ended() {
+        let next = reader.after();
+        t = one(rt, t, &text[reader.at..next.at], &after)?;
+        reader = next;
     }
     Ok(())
 }
 
 fn twice(rt: &impl Print, text: &[u8]) -> io::Result<()> {
-    say(rt, b"Saved and reloaded at each S\n")?;
-    run(rt, text, false)?;
-    say(rt, b"Saved and reloaded after every step\n")?;
-    run(rt, text, true)
-}
-
-// Reads to the front of the buffer until it is full or the input ends, and returns how many bytes it read.
-fn fill(input: &mut impl Read, buffer: &mut [u8]) -> io::Result<usize>
-    ensures { ReadsAtMost result buffer.new }
-{
-    let mut n = 0;
-    while n < buffer.len() {
-        let more = input.read(&mut buffer[n..])?;
-        if more == 0 {
-            return Ok(n);
-        }
-        n += more;
-    }
-    Ok(n)
+    rt.println("Saved and reloaded at each S")?;
+    run(rt, text, |t| Ok(t))?;
+    rt.println("Saved and reloaded after every step")?;
+    run(rt, text, |t| again(rt, t))
 }
 
 fn main(rt: HostRuntime) -> io::Result<()> {
-    let mut text = [0u8; TEXT];
-    let n = fill(&mut rt.stdin(), &mut text)?;
+    let mut text = [0; TEXT];
+    let n = console::fill(&mut rt.stdin(), &mut text)?;
     twice(&rt, &text[..n])
 }

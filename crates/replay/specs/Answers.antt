@@ -2,8 +2,8 @@
 use Rattle.laws.specs.Kit.{refl, sym, ap, ◌∙◌, List, [], append_assoc, append-nil, none, ℕ, arith}
 use Rattle.laws.specs.{Kit.{length, take, drop, length-append, take_at, drop_at}, Text.{text as bytes}}
 use Rattle.laws.specs.Kit.{take-add, take_all}
-use Rattle.std.specs.Prelude.{◌≡◌, ◌++◌, ◌+◌, ◌-◌, ◌*◌, ◌<◌, ◌≤◌, Result, Option, None as Unknown, Some as Known}
-use Rattle.std.specs.{Io.{ReadsAtMost}, Io.KnownBytes.{Appends}}
+use Rattle.std.specs.Prelude.{◌≡◌, ◌++◌, ◌+◌, ◌-◌, ◌*◌, ◌<◌, ◌≤◌, Option, None as Unknown, Some as Known}
+use Rattle.std.specs.Io.KnownBytes.{Appends}
 use Rattle.table.specs.{declared.Cell.{Cell}, declared.Core.{Core}, declared.Open.{Open}, Model.{table_with}}
 use Rattle.session.specs.{Session.{Session}, Transcript.{transcript_from, most_text, transcript}}
 use Rattle.session.specs.{TranscriptLaws.{from_end, transcript-run, transcript-long}, Holds.{zero_cells, zero_opens, zero_core, Holds}}
@@ -65,10 +65,6 @@ module _ {text : List ℕ} where
     reading_end h =
         let e : transcript text ≡ g.lines = g.rest ∙ ap (λ (x : List ℕ). g.lines ++ x) (from_end g.session text at h) ∙ append-nil g.lines in
         g.sent_is ∙ ap length (sym e)
-
--- so many bytes stand at the front of the buffer, where the input could be read
-abbrev pub Filled : {E : Type 0} → Result ℕ E → List ℕ → Type 0
-Filled r buffer = ReadsAtMost r buffer
 
 -- the one line for a text that is too long
 pub long_comes : (text : List ℕ) → most_text < length text → Comes (transcript text) 0 5 (bytes "E 14\n")

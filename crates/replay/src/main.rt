@@ -4,7 +4,7 @@
 ghost use Rattle.std.specs.Prelude.{◌≡◌, ◌<◌, ◌≤◌, length, OnOk};
 ghost use Rattle.std.specs.Io.KnownBytes.{Appends};
 ghost use Rattle.session.specs.Transcript.{most_text, transcript};
-ghost use Rattle.replay.specs.Answers.{Comes, Filled};
+ghost use Rattle.replay.specs.Answers.{Comes};
 
 use clock::PLACES;
 use std::io;
@@ -84,22 +84,6 @@ fn reply(rt: &(impl Print + Eprint), text: &[u8]) -> io::Result<()> {
     answered
 }
 
-// Reads to the front of the buffer until it is full or the input ends, and returns how many bytes it read.
-// Kept: the loop is by hand, since `read_exact` fails where the input ends sooner and `read_to_end` needs the heap.
-fn fill(input: &mut impl Read, buffer: &mut [u8]) -> io::Result<usize>
-    ensures { Filled result buffer.new }
-{
-    let mut n = 0;
-    while n < buffer.len() {
-        let more = input.read(&mut buffer[n..])?;
-        if more == 0 {
-            break;
-        }
-        n += more;
-    }
-    Ok(n)
-}
-
 // Reads the rest of the input and throws it away, so that no writer finds its pipe broken.
 fn drain(input: &mut impl Read) -> io::Result<()> {
     io::copy(input, &mut io::sink())?;
@@ -117,7 +101,7 @@ fn unread(rt: &impl Eprint, error: io::Error) -> io::Result<()> {
 fn main(rt: HostRuntime) -> io::Result<()> {
     let mut input = rt.stdin();
     let mut text = [0; LONGEST_TEXT + 1];
-    let n = match fill(&mut input, &mut text) {
+    let n = match console::fill(&mut input, &mut text) {
         Ok(n) => n,
         Err(error) => return unread(&rt, error),
     };

@@ -1,8 +1,8 @@
 use Rattle.image_reload.specs.Live.{live_none, live_loaded}
 use Rattle.image_reload.proofs.loaded.Goals as goal
 
-pub returns-in_ok-say-in-Ok : goal.returns-in_ok-say-in-Ok
-returns-in_ok-say-in-Ok g c = live_loaded c.args.b.now c.in-Ok.t c.in-Ok.ensures
+pub returns-in_ok-print-in-Ok : goal.returns-in_ok-print-in-Ok
+returns-in_ok-print-in-Ok g c = live_loaded _ c.in-Ok.t c.in-Ok.ensures
 
-pub returns-in_ok-say_fault-in-Err : goal.returns-in_ok-say_fault-in-Err
-returns-in_ok-say_fault-in-Err g c = rw c.fresh.ensures live_none
+pub returns-in_ok-print-in-Err : goal.returns-in_ok-print-in-Err
+returns-in_ok-print-in-Err g c = rw c.fresh.ensures live_none

@@ -1,9 +1,9 @@
-use Rattle.std.proofs.Common.{◌-◌, ◌≤◌, length}
-use Rattle.image_reload.specs.Live.{Live}
+use Rattle.std.specs.Prelude.{◌≡◌, ◌≤◌, ◌-◌, length}
+use Rattle.image_reload.specs.Live.{BothLive}
 use Rattle.image_reload.proofs.run.Given as goal
 
-abbrev pub invariant-loop-at : goal.invariant-loop-at
-invariant-loop-at g l = (l.at ≤ length l.text) × (Live l.t.kept × Live l.t.reloaded)
+abbrev pub invariant-loop-reader : goal.invariant-loop-reader
+invariant-loop-reader g l = (l.reader.text.now ≡ l.text) × (l.reader.at ≤ length l.text) × BothLive l.t
 
-abbrev pub decreases-loop-at : goal.decreases-loop-at
-decreases-loop-at g l = length l.text - l.at
+abbrev pub decreases-loop-reader : goal.decreases-loop-reader
+decreases-loop-reader g l = length l.text - l.reader.at

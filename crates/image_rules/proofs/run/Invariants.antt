@@ -1,8 +1,8 @@
-use Rattle.std.proofs.Common.{◌-◌, ◌≤◌, length}
+use Rattle.std.specs.Prelude.{◌≡◌, ◌≤◌, ◌-◌, length}
 use Rattle.image_rules.proofs.run.Given as goal
 
-abbrev pub invariant-loop-at : goal.invariant-loop-at
-invariant-loop-at g l = (l.from ≤ l.at) × (l.at ≤ length l.text)
+abbrev pub invariant-loop-reader : goal.invariant-loop-reader
+invariant-loop-reader g l = (l.reader.text.now ≡ l.text) × (l.from ≤ l.reader.at) × (l.reader.at ≤ length l.text)
 
-abbrev pub decreases-loop-at : goal.decreases-loop-at
-decreases-loop-at g l = length l.text - l.at
+abbrev pub decreases-loop-reader : goal.decreases-loop-reader
+decreases-loop-reader g l = length l.text - l.reader.at
