@@ -51,7 +51,6 @@ zero-holds = record { session = none; holds = refl }
 -- "N n m" needs nothing but the two numbers --
 
 zero-cell : (s : ℕ) → AllZero (cell_at zero_cells s)
-unfolding unset_cell
 zero-cell s = record {
   status = same-at (λ (c : Cell). c.status) unset_cell cell0 0 refl refl all_cells s;
   vector = λ t. same-at (λ (c : Cell). place c.vector t) unset_cell cell0 0 (zeros-at (1 + places) t) (zeros-at 1 t) all_cells s;

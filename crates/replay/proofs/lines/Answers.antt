@@ -7,7 +7,6 @@ use Rattle.replay.specs.Answers.{written-none, written-on, written-all}
 use Rattle.replay.proofs.lines.Goals as goal
 
 pub loop-at-init : goal.loop-at-init
-unfolding unset_cell free_open
 loop-at-init g c = record {
   going = rw c.start-core.ensures (reading_start c.requires);
   room = search rules;
