@@ -13,6 +13,7 @@ ghost use Rattle.table.specs.declared.Desk.{Desk};
 use reply::{APPLIED, Answer, Name, Refusal};
 use table::{Cells, Core, Desk, Opens, Table};
 
+// Kept: the answer may be a refusal, and the table stays beside it: `Met` and `Brought` promise both.
 #[derive(Drop)]
 pub struct Done {
     pub table: Table,

@@ -1,2 +1,1 @@
-pub mod Puts
-pub mod FromFn
+pub mod Chunks

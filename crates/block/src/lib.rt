@@ -30,7 +30,7 @@ pub const DESK_KIND: u8 = 2;
 pub const CELL_KIND: u8 = 3;
 
 pub const OPEN_KIND: u8 = 4;
-// The editions.
+// The editions. (Kept: bytes, as the kinds.)
 const EDITION_1: u8 = 1;
 
 const EDITION_2: u8 = 2;
@@ -210,7 +210,7 @@ pub fn put_marks(b: &mut [u8; BLOCK], at: usize, v: [u16; PLACES], p: usize)
     }
 }
 
-// What begins with 4 bytes and a vector: a desk, a cell, an open write.
+// What begins with 4 bytes and a vector: a desk, a cell, an open write. (Kept: `as`, since the numbers fit, and TryFrom is for what may not.)
 pub fn put_record(
     b: &mut [u8; BLOCK],
     at: usize,

@@ -81,6 +81,7 @@ fn lines(
     let mut part = [0; PART];
     let mut place = at;
     let mut len = 0;
+    // Kept: each turn goes on where the run before it stopped.
     while place < text.len() {
         let p = session::run(core, cells, opens, text, place, &mut part);
         if put {
@@ -144,6 +145,7 @@ fn save(
     ensures { BothSaved (table_with core cells.now opens.now) all image_out.old lengths.old image_out.new lengths.new }
 {
     let size = save_image(core, cells, opens, image_out);
+    // Kept: `as` for the numbers that C reads.
     lengths[0] = all as u64;
     lengths[1] = size as u64;
 }

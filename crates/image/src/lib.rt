@@ -79,7 +79,7 @@ fn desk_block(p: usize, k: u16, d: Desk) -> [u8; BLOCK]
     b
 }
 
-// The block of the sizes.
+// The block of the sizes. (Kept: `as` where a number fits, here and below, since TryFrom is for what may not.)
 fn size_block(p: usize, n: u16, m: u16, count: u16) -> [u8; BLOCK]
     requires { (n < 256) × ((m < 256) × (count < 256)) }
     ensures { result ≡ block_of p 1 0 (n ∷ m ∷ count ∷ []) }

@@ -177,6 +177,7 @@ fn run<F: Fn(Two) -> io::Result<Two>>(rt: &impl Print, text: &[u8], after: F) ->
 {
     let mut t = nothing();
     let mut reader = Reader::new(text);
+    // Kept: a line tells where the next one begins; `split_inclusive` does not check in a function with type parameters.
     while reader.ended() {
         let next = reader.after();
         t = one(rt, t, &text[reader.at..next.at], &after)?;

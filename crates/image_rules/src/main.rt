@@ -41,6 +41,7 @@ fn seal(image: &mut [u8]) {
     }
 }
 
+// Kept: a count beside the list, since a number that has not ended is the number of blocks too.
 // A byte of a line's numbers: a digit of the number at hand, or its end. The result is the number at hand then.
 fn take(list: &mut [u16; LIST], count: usize, b: u8) -> usize {
     let Some(v) = list.get_mut(count) else {
@@ -159,6 +160,7 @@ fn run(rt: &impl Print, text: &[u8]) -> io::Result<()> {
     let mut good = image::room();
     let mut from = 0;
     let mut reader = Reader::new(text);
+    // Kept: a line tells where the next one begins.
     while reader.ended() {
         from = one(rt, &mut good, from, reader)?;
         reader = reader.after();

@@ -141,6 +141,7 @@ fn field_place(n: usize, k: usize, q: usize, r: usize) -> usize
 }
 
 // The write's number, and 0 where its writer is no desk.
+// Kept: it only tells where the search for a free entry begins, and any would do.
 fn number_of(o: Open) -> u16 {
     match usize::from(o.writer) {
         w @ 1..=PLACES => o.vector[w - 1],

@@ -43,6 +43,7 @@ fn lines<W: Write>(to: &mut W, text: &[u8]) -> io::Result<()>
     let mut out = [0; PART];
     let mut at = 0;
     let mut sent = 0;
+    // Kept: each turn goes on where the run before it stopped.
     while at < text.len() {
         let p = session::run(core, &mut cells, &mut opens, text, at, &mut out);
         let next = sent + p.len;

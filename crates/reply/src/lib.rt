@@ -72,5 +72,6 @@ pub enum Answer {
     Yes,
     No,
     Unknown,
+    // Kept: a refusal is an answer too, line E, and `answer_of` has it.
     Refused(Refusal),
 }

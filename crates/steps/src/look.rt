@@ -58,6 +58,7 @@ pub fn read_at(
 }
 
 // What a trip has seen so far: the clock, whether a cell read 2, whether all read 1.
+// Kept: two flags, of which neither tells whether the other counts.
 #[derive(Drop)]
 struct Seen {
     pub clock: Clock,

@@ -56,6 +56,7 @@ fn write(
     requires not_spent { get_or desk.old.applied (i - 1) 0 < most_writes }
     ensures { Wrote desk.old cells.old opens.old i x status spot (done desk.new result) cells.new opens.new }
 {
+    // Kept: `as` where a number fits, here and in `deliver`, since TryFrom is for what may not.
     let writer = i as u16;
     let number = desk.applied[i - 1] + 1;
     desk.applied[i - 1] = number;

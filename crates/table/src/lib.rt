@@ -18,6 +18,7 @@ pub const CELLS: usize = 64;
 // Entries for open writes.
 pub const OPENS: usize = 64;
 // The mark of a desk that holds an open write, and of one that has applied it; 0 where it was not received.
+// Kept: marks, statuses and writers are numbers, and so are n and m. A table value that is handed in may hold any, and 13 is the answer to it.
 pub const HELD: u16 = 1;
 
 pub const DONE: u16 = 2;
@@ -41,7 +42,7 @@ pub struct Core {
     pub desks: [Desk; PLACES],
 }
 
-// Writer 0: unset.
+// Writer 0: unset. (Kept: an Option would shut out the unset cell with a status, which is 13.)
 #[derive(Clone, Copy, Debug, PartialEq, Eq)]
 pub struct Cell {
     pub writer: u16,
@@ -49,7 +50,7 @@ pub struct Cell {
     pub vector: [u16; PLACES],
 }
 
-// Writer 0: the entry is free. A mark: 0 not received, 1 held, 2 applied.
+// Writer 0: the entry is free. A mark: 0 not received, 1 held, 2 applied. (Kept: a free entry has its old numbers, which two tables may differ in.)
 #[derive(Clone, Copy, Debug, PartialEq, Eq)]
 pub struct Open {
     pub writer: u16,

@@ -1,4 +1,4 @@
-use Rattle.block.proofs.Puts.{get_or-first_chunks}
+use Rattle.block.proofs.Chunks.{get_or-first_chunks}
 use Rattle.std.specs.Prelude.{◌≡◌, ◌/◌, ◌<◌}
 use Rattle.laws.specs.Kit.{ℕ, arith, below_more, get_or, length, []}
 use Rattle.block.specs.{Limits.{block_bytes}, Damage.{block_in, blocks_in}}

@@ -1,4 +1,4 @@
-use Rattle.block.proofs.Puts.{put_mid-sets}
+use Rattle.laws.specs.Stores.{put_mid-sets}
 use Rattle.block.specs.Block.{word}
 use Rattle.std.specs.Prelude.{◌+◌, ◌-◌, ◌≡◌, ◌/◌, ◌%◌}
 use Rattle.laws.specs.Kit.{arith, ap, ◌∙◌, sets, length, mod-eq_of_lt}
@@ -10,4 +10,4 @@ returns c =
     let w = c.copy_from_slice in
     let h : A.x / 256 % 256 ≡ A.x / 256 = mod-eq_of_lt (omega arith) in
     let e : w.new.self ≡ word A.x = w.ensures.after ∙ c.to_le_bytes.ensures ∙ rw h in
-    put_mid-sets A.b.now w.new.self A.at (A.at + 2 - A.at) (ap length e ∙ omega arith) (omega arith) ∙ ap (sets A.b.now A.at) e
+    put_mid-sets A.at (A.at + 2 - A.at) A.b.now (word A.x) _ e (omega arith) (omega arith)

@@ -1,5 +1,5 @@
 use Rattle.std.proofs.Common.{rules}
-use Rattle.block.proofs.FromFn.{from_fn-tab}
+use Rattle.laws.specs.Chains.{tab_of_from_fn}
 use Rattle.load.specs.Mirror.ImageRead.{padded_is, up_to}
 use Rattle.std.specs.Prelude.{◌+◌}
 use Rattle.laws.specs.Kit.{ℕ, ◌∙◌, get_or}
@@ -9,4 +9,4 @@ pub returns : goal.returns
 returns c =
     let A = c.args in
     let f = λ (k : ℕ). get_or A.b.now (A.at + k) 0 in
-    from_fn-tab (up_to A.p f) 0 c.from_fn.ensures.items (λ i y q l h. search rules) ∙ padded_is A.p f c.requires.0
+    tab_of_from_fn 0 (up_to A.p f) c.from_fn.ensures.items (λ i y q l h. search rules) ∙ padded_is A.p f c.requires.0
