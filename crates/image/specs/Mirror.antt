@@ -1,3 +1,4 @@
 pub mod RawBytes
 pub mod TableBytes
 pub mod EntryOrder
+pub mod Filled

@@ -7,9 +7,10 @@ ghost use Rattle.std.proofs.lemmas.List.Edits.{sets};
 ghost use Rattle.laws.specs.Cat.{cat};
 ghost use Rattle.laws.specs.Says.{Says};
 ghost use Rattle.clock.specs.Vectors.{places, place};
-ghost use Rattle.block.specs.Limits.{broad, image_bytes, places_for, block_bytes, open_bytes, cells_in, opens_in, row_most, opens_most};
+ghost use Rattle.block.specs.Limits.{broad, image_bytes, places_for, payload_at, payload_bytes, block_bytes, open_bytes, cells_in, opens_in, row_most, opens_most};
 ghost use Rattle.block.specs.Block.{block_of};
 ghost use Rattle.image.specs.Encode.{bytes_of_desk, per_desk, blocks_of, encode};
+ghost use Rattle.image.specs.Mirror.Filled.{Filled};
 ghost use Rattle.image.specs.Mirror.RawBytes.{open_raw, SmallOpen};
 ghost use Rattle.image.specs.Mirror.TableBytes.{CellsFit, cell_piece, OrderFits, open_piece};
 ghost use Rattle.machine.specs.Table.{most_writes};
@@ -93,30 +94,40 @@ fn size_block(p: usize, n: u16, m: u16, count: u16) -> [u8; BLOCK]
     b
 }
 
+// A block of records of w bytes, as many as told: `put` stores record j at its place.
+fn records_block<F: Fn(&mut [u8; BLOCK], usize, usize)>(
+    p: usize,
+    kind: u8,
+    at: u16,
+    w: usize,
+    count: usize,
+    put: F,
+) -> [u8; BLOCK]
+    requires room { w * count ≤ payload_bytes }
+    requires callable { (j : ℕ) (b : _) → j < count → F.pre put b (payload_at + w * j) j }
+    ensures { Filled F.Fn put p kind at w count result }
+{
+    let mut b = [0u8; BLOCK];
+    block::put_head(&mut b, p, kind, at);
+    for j in 0..count {
+        put(&mut b, PAYLOAD_AT + w * j, j);
+    }
+    block::seal(&mut b);
+    b
+}
+
 // Block q of the cells of desk i, from 0.
 fn cell_block(p: usize, at: u16, cells: &Cells, i: usize, q: usize) -> [u8; BLOCK]
     requires { (p ≤ places) × ((i < places) × ((q < row_most p) × CellsFit p cells.now)) }
     ensures { result ≡ block_of p 3 at (cat (cell_piece p cells.now i q) (cells_in p)) }
 {
-    let mut b = [0u8; BLOCK];
-    block::put_head(&mut b, p, CELL_KIND, at);
-    let w = block::cell_bytes(p);
     let room = block::cells_in(p);
     let first = room * q;
-    for j in 0..room.min(CELLS - first) {
+    let some = room.min(CELLS - first);
+    records_block(p, CELL_KIND, at, block::cell_bytes(p), some, |b, at, j| {
         let c = cells[i * CELLS + (first + j)];
-        block::put_record(
-            &mut b,
-            PAYLOAD_AT + w * j,
-            c.writer,
-            c.status,
-            0,
-            c.vector,
-            p,
-        );
-    }
-    block::seal(&mut b);
-    b
+        block::put_record(b, at, c.writer, c.status, 0, c.vector, p);
+    })
 }
 
 // Block q of the open writes.
@@ -131,17 +142,13 @@ fn open_block(
     requires { (p ≤ places) × ((q < opens_most p) × OrderFits opens.now order.now count) }
     ensures { result ≡ block_of p 4 at (cat (open_piece p opens.now order.now count q) (opens_in p)) }
 {
-    let mut b = [0u8; BLOCK];
-    block::put_head(&mut b, p, OPEN_KIND, at);
-    let w = block::open_bytes(p);
     let room = block::opens_in(p);
     let first = room * q;
-    for j in 0..room.min(count.saturating_sub(first)) {
+    let some = room.min(count.saturating_sub(first));
+    records_block(p, OPEN_KIND, at, block::open_bytes(p), some, |b, at, j| {
         let o = opens[order[first + j]];
-        put_open(&mut b, PAYLOAD_AT + w * j, o, p);
-    }
-    block::seal(&mut b);
-    b
+        put_open(b, at, o, p);
+    })
 }
 
 // Blocks, one after the other --

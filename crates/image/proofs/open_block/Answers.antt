@@ -1,8 +1,11 @@
-use Rattle.block.specs.Limits.{payload_at, open_bytes, opens_in, payload_bytes, edition_of, fit, piece_inside}
-use Rattle.block.specs.Mirror.Block.{made, zeros-behind}
-use Rattle.image.specs.Mirror.TableBytes.{open_piece, length-open_piece, open-there, open-past, one_more}
-use Rattle.std.specs.Prelude.{◌≡◌, ◌+◌, ◌*◌, ◌≤◌}
-use Rattle.laws.specs.{Cat.{cat, length-cat}, Kit.{ℕ, ap, get_or, refl, ◌∙◌, arith, mul-le-mul_left}}
+use Rattle.block.specs.Limits.{payload_at, payload_bytes, block_bytes, open_bytes, opens_in, fit, piece_inside}
+use Rattle.image.specs.Mirror.Filled.{filled_block}
+use Rattle.image.specs.Mirror.RawBytes.{open_raw}
+use Rattle.image.specs.Mirror.TableBytes.{open_piece, length-open_piece, open-there, open-past}
+use Rattle.std.specs.Prelude.{◌≡◌, ◌+◌, ◌*◌, ◌≤◌, ◌<◌}
+use Rattle.std.proofs.Common.{rules}
+use Rattle.std.proofs.iter.Serving.{serving}
+use Rattle.laws.specs.Kit.{ℕ, ap, get_or, ◌∙◌, arith, sets}
 use Rattle.table.specs.Value.{open_at}
 use Rattle.image.proofs.open_block.Goals as goal
 use Rattle.image.proofs.open_block.Goals.{After-opens_in-room}
@@ -11,35 +14,29 @@ use Rattle.image.proofs.open_block.Goals.{After-opens_in-room}
 first : (c : After-opens_in-room) → (let A = c.args in c.opens_in-room.result * A.q ≡ opens_in A.p * A.q)
 first c = ap (λ (x : ℕ). x * c.args.q) c.opens_in-room.ensures.0
 
-pub loop-j-init : goal.loop-j-init
-unfolding cat
-loop-j-init c = refl
-
 -- the j-th of the block lies within it
-pub put_open-requires : goal.put_open-requires
-put_open-requires c =
-    let L = c.loop-j in
+pub records_block-requires-clause-callable : goal.records_block-requires-clause-callable
+records_block-requires-clause-callable c = λ j b h.
     let A = c.args in
-    let inside : c.open_bytes-w.result * L.j + open_bytes A.p ≤ payload_bytes = rw c.open_bytes-w.ensures (piece_inside (open_bytes A.p) L.j (omega arith)) in
-    let fits = c.requires.1.1.each (c.opens_in-room.result * A.q + L.j) (omega arith) in
-    (c.requires.0, (omega (arith, inside), fits.1))
-
-pub loop-j-preserved : goal.loop-j-preserved
-loop-j-preserved c =
-    let L = c.loop-j in
-    let A = c.args in
-    let f = open_piece A.p A.opens.now A.order.now A.count A.q in
-    let e = first (goal.at.loop-j-preserved c).After-opens_in-room in
-    one_more f (open_bytes A.p) (length-open_piece A.p A.opens.now A.order.now A.count A.q) _ payload_at L.j L.invariant (rw c.open_bytes-w.ensures) (open-there A.p A.opens.now A.order.now A.count A.q L.j (omega (arith, e)) (ap (λ (x : ℕ). open_at A.opens.now (get_or A.order.now (x + L.j) 0)) e)) c.put_open.ensures
+    let few : j < opens_in A.p = omega arith in
+    let k : c.open_bytes.result * j + open_bytes A.p ≤ payload_bytes = rw c.open_bytes.ensures (piece_inside (open_bytes A.p) j few) in
+    let inside : payload_at + c.open_bytes.result * j + open_bytes A.p ≤ block_bytes = omega (arith, k) in
+    let x : c.opens_in-room.result * A.q + j < A.count = omega arith in
+    let fits = c.requires.1.1.each (c.opens_in-room.result * A.q + j) x in
+    let there = fits.0 in
+    let small = fits.1 in
+    let most = c.requires.1.1.few in
+    grind serving
 
 pub returns : goal.returns
 returns c =
-    let L = c.loop-j in
     let A = c.args in
     let f = open_piece A.p A.opens.now A.order.now A.count A.q in
-    let l = length-open_piece A.p A.opens.now A.order.now A.count A.q in
-    let w = open_bytes A.p in
+    let w = c.open_bytes.result in
     let e = first (goal.at.returns c).After-opens_in-room in
-    let few : L.j ≤ opens_in A.p = omega arith in
-    made (edition_of A.p) 4 A.at _ (omega (arith, length-cat f w l L.j, mul-le-mul_left w few, fit w)) c.put_head.ensures L.invariant c.seal.ensures
-    ∙ zeros-behind (edition_of A.p) 4 A.at w L.j (opens_in A.p) f few l (fit w) (λ j g m. open-past A.p A.opens.now A.order.now A.count A.q j (omega (arith, e)))
+    filled_block _ _ f w (λ j. rw c.open_bytes.ensures (length-open_piece A.p A.opens.now A.order.now A.count A.q j)) (opens_in A.p) c.records_block.ensures (omega arith) (rw c.open_bytes.ensures (fit (open_bytes A.p)))
+    (λ j a b h m.
+    let t = open-there A.p A.opens.now A.order.now A.count A.q j (omega (arith, e)) (ap (λ (x : ℕ). open_at A.opens.now (get_or A.order.now (x + j) 0)) e) in
+    let z : b.now ≡ sets a.now (payload_at + w * j) (open_raw A.p (open_at A.opens.now (get_or A.order.now (c.opens_in-room.result * A.q + j) 0))) = search rules in
+    z ∙ ap (sets a.now (payload_at + w * j)) t)
+    (λ j g m. rw c.open_bytes.ensures (open-past A.p A.opens.now A.order.now A.count A.q j (omega (arith, e))))

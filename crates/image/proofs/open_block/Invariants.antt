@@ -1,8 +1,0 @@
-use Rattle.block.specs.Limits.{payload_at}
-use Rattle.image.specs.{Mirror.TableBytes.{open_piece}}
-use Rattle.std.specs.Prelude.{◌≡◌}
-use Rattle.laws.specs.{Cat.{cat}, Kit.{sets}}
-use Rattle.image.proofs.open_block.Given as goal
-
-abbrev pub invariant-loop-j : goal.invariant-loop-j
-invariant-loop-j l = l.b ≡ sets l.initial.b payload_at (cat (open_piece l.p l.opens l.order l.count l.q) l.j)
