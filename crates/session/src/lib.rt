@@ -8,7 +8,7 @@ ghost use Rattle.clock.specs.Vectors.{places};
 ghost use Rattle.machine.specs.Steps.{begins};
 ghost use Rattle.schedule.specs.Grammar.{line_of};
 ghost use Rattle.schedule.specs.LineValue.{most_listed, cell_count};
-ghost use Rattle.session.specs.Mirror.LineValue.{Means, line_actor};
+ghost use Rattle.session.specs.Mirror.LineValue.{Means, line_actor, line_desk};
 ghost use Rattle.session.specs.Holds.{zero_core, SomeSession};
 ghost use Rattle.session.specs.Link.LineTurn.{Acting, LineActs, first_core, first_answer};
 ghost use Rattle.session.specs.Link.RunningTurn.{SomeRunning, TurnsOn};
@@ -25,14 +25,15 @@ use reply::{APPLIED, Answer, Name, Refusal};
 use schedule::{LIST, Line};
 use table::{Cells, Core, Desk, Opens};
 
-// The desk that a line names first; 0 where it names none.
-fn actor(s: Option<Line>) -> usize
-    ensures { result ≡ line_actor s }
+// The desk that a line names first, where it names one.
+fn actor(s: Option<Line>) -> Option<usize>
+    ensures { result ≡ line_desk s }
 {
-    match s {
-        Some(Line::Read(i, _) | Line::Write(i, _, _) | Line::Deliver(i, _, _) | Line::Trip(i, _)) =>
-            i,
-        Some(Line::New(_, _)) | None => 0,
+    match s? {
+        Line::Read(i, _) | Line::Write(i, _, _) | Line::Deliver(i, _, _) | Line::Trip(i, _) => {
+            Some(i)
+        }
+        Line::New(_, _) => None,
     }
 }
 
@@ -105,7 +106,7 @@ impl Running {
         table::opens_shape(opens);
         let Core { n, m, .. } = self.core;
         let own = self.own;
-        let p = steps::seat(actor(s));
+        let p = actor(s).map_or(0, steps::seat);
         let made = act(
             n,
             m,
@@ -161,6 +162,7 @@ fn print(out: &mut [u8], at: usize, a: Answer, names: &[Name; APPLIED]) -> usize
     answer::put(out, at, a, names).unwrap_or(at)
 }
 
+// Kept: n = 0, and no `Option` of the core: nothing keeps n = 0 out of a `Some`, so each place would test n all the same.
 // The table, n = 0 while there is none, how far the text is read, and how many bytes of answers there are.
 #[derive(Drop)]
 pub struct Progress {

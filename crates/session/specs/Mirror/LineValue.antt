@@ -27,3 +27,12 @@ line_actor (Some (Write i x v)) = i
 line_actor (Some (Deliver i u k)) = i
 line_actor (Some (Trip i n)) = i
 line_actor None = 0
+
+-- the same desk, where a line names one
+abbrev pub line_desk : std.Option Line → std.Option ℕ
+line_desk (Some (New n m)) = None
+line_desk (Some (Read i x)) = Some i
+line_desk (Some (Write i x v)) = Some i
+line_desk (Some (Deliver i u k)) = Some i
+line_desk (Some (Trip i n)) = Some i
+line_desk None = None
