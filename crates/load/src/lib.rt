@@ -324,7 +324,7 @@ pub fn load_into(b: &[u8], cells: &mut Cells, opens: &mut Opens) -> Result<Core,
     Err(Fault::Broken(misplaced))
 }
 
-// The same with the table by value.
+// The same with the table by value. (Kept: docs/CONTRACTS.md names both.)
 pub fn load(b: &[u8]) -> Result<Table, Fault>
     ensures { Answers b.now result }
 {

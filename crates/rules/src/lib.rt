@@ -300,7 +300,7 @@ pub fn keeps_rules(core: Core, cells: &Cells, opens: &Opens) -> bool
     passes(&core, own, cells, opens)
 }
 
-// The same of a whole table, by value.
+// The same of a whole table, by value. (Kept: docs/CONTRACTS.md names both.)
 pub fn table_keeps_rules(t: Table) -> bool
     ensures { Says result (SoundTable t) }
 {
