@@ -388,7 +388,7 @@ pub enum Unsaved {
     Short,
 }
 
-// A table value saved into a lent buffer: the rules first, then the buffer's length. The answer is the image's length.
+// A table value saved into a lent buffer: the rules first, then the buffer's length. The answer is the image's length. (Kept beside `save_parts`: docs/CONTRACTS.md names both.)
 pub fn save(t: Table, out: &mut [u8]) -> Result<usize, Unsaved>
     ensures { Saves t out.old out.new (saving_of result) }
 {
