@@ -1,5 +1,5 @@
 -- A turn: the acting desk after a step, and the answer.
-use Rattle.std.specs.Prelude.{Result, Ok, Err}
+use Rattle.std.specs.Prelude.{◌≡◌, Result, Ok, Err, IfOk}
 use Rattle.table.specs.declared.Desk.{Desk}
 use Rattle.reply.specs.{declared.Answer.{Answer}, declared.Answer.TheVariants.{Refused}, declared.Refusal.{Refusal}}
 
@@ -19,3 +19,10 @@ done d a = record { desk = d; answer = a }
 -- the desk as a step leaves it, and what the step hands back
 abbrev pub turned : Desk → Result Answer Refusal → Turn
 turned d r = done d (answer_in r)
+
+-- a refusal is an Err: what stands in an Ok is none
+abbrev pub NoRefusal : Answer → Type 0
+NoRefusal a = (why : Refusal) → a ≡ Refused why → ⊥
+
+abbrev pub Apart : Result Answer Refusal → Type 0
+Apart r = IfOk r NoRefusal

@@ -6,7 +6,7 @@ ghost use Rattle.table.specs.Value.{desk_cells, entries, open_at};
 ghost use Rattle.table.specs.Link.OpensModel.{Unique};
 ghost use Rattle.steps.specs.Link.Cascade.{AppliedAt, DueSays, CascadeStarts, CascadeDoes};
 ghost use Rattle.steps.specs.Link.DeliverReceive.{MissingOf, Arriving, ReceivedAs};
-ghost use Rattle.steps.specs.Turn.{turned, done};
+ghost use Rattle.steps.specs.Turn.{Apart, NoRefusal, turned, done};
 ghost use Rattle.steps.specs.Link.Deliver.{Part, Delivers, Tested};
 
 use crate::common::need;
@@ -121,7 +121,8 @@ fn receive(
     e: usize,
 ) -> Answer
     requires { Arriving n i u e desk.old.applied own cells.old opens.old }
-    ensures { ReceivedAs n i u e desk.old own cells.old opens.old names.old (done desk.new result) cells.new opens.new names.new }
+    ensures turn { ReceivedAs n i u e desk.old own cells.old opens.old names.old (done desk.new result) cells.new opens.new names.new }
+    ensures apart { NoRefusal result }
 {
     let v = opens[e].vector;
     // (That it is ready is told sooner than that nothing is missing.)
@@ -166,7 +167,8 @@ pub fn deliver_at(
     k: usize,
 ) -> Result<Answer, Refusal>
     requires { Part n desk.old own cells.old opens.old i }
-    ensures { Delivers n desk.old own cells.old opens.old names.old i u k (turned desk.new result) cells.new opens.new names.new }
+    ensures turn { Delivers n desk.old own cells.old opens.old names.old i u k (turned desk.new result) cells.new opens.new names.new }
+    ensures apart { Apart result }
 {
     tests(n, desk.applied, own, i, u, k)?;
     let e = table::find(opens, u, k as u16).ok_or(Refusal::Received)?;

@@ -6,7 +6,7 @@ ghost use Rattle.machine.specs.Steps.{within, Read, Trip};
 ghost use Rattle.clock.specs.Vectors.{places};
 ghost use Rattle.table.specs.Value.{desk_cells, cell_at};
 ghost use Rattle.table.specs.Model.{slot};
-ghost use Rattle.steps.specs.Turn.{turned, done};
+ghost use Rattle.steps.specs.Turn.{Apart, turned, done};
 ghost use Rattle.steps.specs.Mirror.Look.{shown_cell, look_turn, SomeLook, Looks};
 ghost use Rattle.steps.specs.Mirror.Trip.{seen_nothing, see_cell, see_all, verdict_of, trip_turn};
 
@@ -50,7 +50,8 @@ pub fn read_at(
     x: usize,
 ) -> Result<Answer, Refusal>
     requires { SomeLook n m cells.now i desk.old }
-    ensures { Looks n m cells.now i desk.old (Read i x) (turned desk.new result) }
+    ensures turn { Looks n m cells.now i desk.old (Read i x) (turned desk.new result) }
+    ensures apart { Apart result }
 {
     need(table::inside(n, i), Refusal::NoDesk)?;
     need(table::inside(m, x), Refusal::NoCell)?;
@@ -131,7 +132,8 @@ pub fn trip_at(
     list: &[u16],
 ) -> Result<Answer, Refusal>
     requires { SomeLook n m cells.now i desk.old }
-    ensures { Looks n m cells.now i desk.old (Trip i list.now) (turned desk.new result) }
+    ensures turn { Looks n m cells.now i desk.old (Trip i list.now) (turned desk.new result) }
+    ensures apart { Apart result }
 {
     need(table::inside(n, i), Refusal::NoDesk)?;
     need(table::inside(TRIP, list.len()), Refusal::TripSize)?;

@@ -5,7 +5,7 @@ ghost use Rattle.machine.specs.Rules.{In};
 ghost use Rattle.machine.specs.Steps.{Write};
 ghost use Rattle.clock.specs.Vectors.{places, place};
 ghost use Rattle.table.specs.Value.{desk_cells};
-ghost use Rattle.steps.specs.Turn.{turned, done};
+ghost use Rattle.steps.specs.Turn.{Apart, turned, done};
 ghost use Rattle.steps.specs.Mirror.Write.{new_marks, Spotted, SpotIn, enter_at, Wrote, SomeTable, Writes};
 
 use crate::common::need;
@@ -89,7 +89,8 @@ pub fn write_at(
     v: usize,
 ) -> Result<Answer, Refusal>
     requires { SomeTable n m cells.old opens.old i desk.old }
-    ensures { Writes n m cells.old opens.old i desk.old (Write i x v) (turned desk.new result) cells.new opens.new }
+    ensures turn { Writes n m cells.old opens.old i desk.old (Write i x v) (turned desk.new result) cells.new opens.new }
+    ensures apart { Apart result }
 {
     need(table::inside(n, i), Refusal::NoDesk)?;
     need(table::inside(m, x), Refusal::NoCell)?;

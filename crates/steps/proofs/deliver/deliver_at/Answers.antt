@@ -14,13 +14,13 @@ entry c = found_at _ c.find.result _ c.find.ensures c.in_ok-e.ensures.ok_part
 mark-is : (c : goal.In_ok-e) → (let g = c.args in get_or (open_at g.opens.now c.in_ok-e.e).marks (g.i - 1) 0 ≡ place (open_at g.opens.now c.in_ok-e.e).marks g.i)
 mark-is c = sym (place_at (open_at c.args.opens.now c.in_ok-e.e).marks c.args.i c.in_ok-tests.ensures.0.0.0)
 
-pub returns-in_err-tests : goal.returns-in_err-tests
-returns-in_err-tests c m ds p =
+pub returns-in_err-tests-clause-turn : goal.returns-in_err-tests-clause-turn
+returns-in_err-tests-clause-turn c m ds p =
     let g = c.args in
     meets_refused_on p g.u g.k _ g.names.now _ c.from_residual.ensures.1 refl (failed p g.u g.k _ c.in_err-tests.ensures)
 
-pub returns-in_err-e : goal.returns-in_err-e
-returns-in_err-e c m ds p =
+pub returns-in_err-e-clause-turn : goal.returns-in_err-e-clause-turn
+returns-in_err-e-clause-turn c m ds p =
     let g = c.args in
     let a = c.in_ok-tests.ensures in
     let f = c.in_err-e.ensures in
@@ -29,9 +29,9 @@ returns-in_err-e c m ds p =
     meets_refused_on p g.u g.k Received g.names.now _ c.from_residual-in_err-e.ensures.1 why
     (known p g.u g.k a (none_open p g.u g.k a (found_none g.opens.now g.u g.k c.find.result c.find.ensures none)))
 
-pub returns-in_err-need : goal.returns-in_err-need
-returns-in_err-need c m ds p =
-    let w = goal.at.returns-in_err-need c in
+pub returns-in_err-need-clause-turn : goal.returns-in_err-need-clause-turn
+returns-in_err-need-clause-turn c m ds p =
+    let w = goal.at.returns-in_err-need-clause-turn c in
     let h = entry w.In_ok-e in
     let g = c.args in
     let a = c.in_ok-tests.ensures in
@@ -47,11 +47,11 @@ receive-requires c =
     let q = sym (mark-is w.In_ok-e) ∙ eqb-true _ _ c.in_ok-need.ensures.passes in
     (_, _, arrival c.requires.2 g.u g.k c.in_ok-tests.ensures _ h.0 h.1 q)
 
-pub returns : goal.returns
-returns c m ds p =
-    let w = goal.at.returns c in
+pub returns-clause-turn : goal.returns-clause-turn
+returns-clause-turn c m ds p =
+    let w = goal.at.returns-clause-turn c in
     let h = entry w.In_ok-e in
     let g = c.args in
     let a = c.in_ok-tests.ensures in
     let q = sym (mark-is w.In_ok-e) ∙ eqb-true _ _ c.in_ok-need.ensures.passes in
-    meets_received p g.u g.k a _ h.0 h.1 q (c.receive.ensures _ _ (arrival p g.u g.k a _ h.0 h.1 q))
+    meets_received p g.u g.k a _ h.0 h.1 q (c.receive.ensures.turn _ _ (arrival p g.u g.k a _ h.0 h.1 q))

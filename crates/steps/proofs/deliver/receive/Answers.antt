@@ -10,8 +10,8 @@ use Rattle.steps.proofs.deliver.receive.Goals.{In-Some, Joined-else-not-ready, e
 pub missing-requires : goal.missing-requires
 missing-requires c = late_here c.requires.2
 
-pub returns : goal.returns
-returns c b k r = received-held c.args.names.now c.args.desk.now r (missing-some _ _ _ c.missing.result c.missing.ensures c.in-Some.is) c.put_mark.ensures.is
+pub returns-clause-turn : goal.returns-clause-turn
+returns-clause-turn c b k r = received-held c.args.names.now c.args.desk.now r (missing-some _ _ _ c.missing.result c.missing.ensures c.in-Some.is) c.put_mark.ensures.is
 
 -- the other way: it is ready
 is-ready : (c : goal.Joined-else-not-ready) → (let g = c.args in ready_at g.desk.now.applied (open_at g.opens.now g.e).vector g.u ≡ true)
@@ -26,5 +26,5 @@ cascade-count-requires c =
     let p = c.requires in
     (p.0, p.2.running, next_of_arrival p.2 (is-ready (goal.at.cascade-count-requires c).Joined-else-not-ready))
 
-pub returns-2 : goal.returns-2
-returns-2 c b k r = received-ready c.args.desk.now r (is-ready (goal.at.returns-2 c).Joined-else-not-ready) c.cascade-count.ensures
+pub returns-2-clause-turn : goal.returns-2-clause-turn
+returns-2-clause-turn c b k r = received-ready c.args.desk.now r (is-ready (goal.at.returns-2-clause-turn c).Joined-else-not-ready) c.cascade-count.ensures

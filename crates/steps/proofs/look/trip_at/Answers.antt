@@ -4,13 +4,13 @@ use Rattle.reply.specs.declared.Refusal.TheVariants.{NoDesk, NoCell, TripSize}
 use Rattle.steps.specs.{Link.LookStepped.{stops, passes, in_places, in_cells, refused_on, stepped_as}, Link.LookTrip.{trip_stepped}}
 use Rattle.steps.proofs.look.trip_at.Goals as goal
 
-pub returns-in_err-need : goal.returns-in_err-need
-returns-in_err-need c ds os own p =
+pub returns-in_err-need-clause-turn : goal.returns-in_err-need-clause-turn
+returns-in_err-need-clause-turn c ds os own p =
     let f = c.in_err-need.ensures.fails in
     refused_on p _ NoDesk _ c.from_residual.ensures.1 f.1 (inl (stops (says-within _ _) c.inside.ensures (ap not f.0), refl))
 
-pub returns-in_err-need-2 : goal.returns-in_err-need-2
-returns-in_err-need-2 c ds os own p =
+pub returns-in_err-need-2-clause-turn : goal.returns-in_err-need-2-clause-turn
+returns-in_err-need-2-clause-turn c ds os own p =
     let f = c.in_err-need-2.ensures.fails in
     refused_on p _ TripSize _ c.from_residual-in_err-need-2.ensures.1 f.1
     (inr (
@@ -18,8 +18,8 @@ returns-in_err-need-2 c ds os own p =
       inl (stops (says-within _ _) c.inside-2.ensures (ap not f.0), refl),
     ))
 
-pub returns-in_err-need-3 : goal.returns-in_err-need-3
-returns-in_err-need-3 c ds os own p =
+pub returns-in_err-need-3-clause-turn : goal.returns-in_err-need-3-clause-turn
+returns-in_err-need-3-clause-turn c ds os own p =
     let f = c.in_err-need-3.ensures.fails in
     refused_on p _ NoCell _ c.from_residual-in_err-need-3.ensures.1 f.1
     (inr (
@@ -38,8 +38,8 @@ travel-requires c =
       (says-every _ (says-within _) _).from (λ x h. in_cells p (all x h)),
     )
 
-pub returns : goal.returns
-returns c ds os own p =
+pub returns-clause-turn : goal.returns-clause-turn
+returns-clause-turn c ds os own p =
     stepped_as c.travel.ensures
     (trip_stepped p (passes (says-within _ _) c.inside.ensures (ap not c.in_ok-need.ensures.passes)) _
     (passes (says-within _ _) c.inside-2.ensures (ap not c.in_ok-need-2.ensures.passes))

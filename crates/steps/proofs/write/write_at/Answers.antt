@@ -21,13 +21,13 @@ status k = leb-true _ _ k.in_ok-need-3.ensures.passes
 unspent : (k : goal.In_ok-need-4) → k.at_place-k.result < most_writes
 unspent k = ltb-true _ _ k.in_ok-need-4.ensures.passes
 
-pub returns-in_err-need : goal.returns-in_err-need
-returns-in_err-need c ds own p =
+pub returns-in_err-need-clause-turn : goal.returns-in_err-need-clause-turn
+returns-in_err-need-clause-turn c ds own p =
     let f = c.in_err-need.ensures.fails in
     refused_on p _ NoDesk _ c.from_residual.ensures.1 f.1 (inl (stops (says-within _ _) c.inside.ensures (ap not f.0), refl))
 
-pub returns-in_err-need-2 : goal.returns-in_err-need-2
-returns-in_err-need-2 c ds own p =
+pub returns-in_err-need-2-clause-turn : goal.returns-in_err-need-2-clause-turn
+returns-in_err-need-2-clause-turn c ds own p =
     let f = c.in_err-need-2.ensures.fails in
     refused_on p _ NoCell _ c.from_residual-in_err-need-2.ensures.1 f.1
     (inr (
@@ -35,33 +35,33 @@ returns-in_err-need-2 c ds own p =
       inl (stops (says-within _ _) c.inside-2.ensures (ap not f.0), refl),
     ))
 
-pub returns-in_err-need-3 : goal.returns-in_err-need-3
-returns-in_err-need-3 c ds own p =
+pub returns-in_err-need-3-clause-turn : goal.returns-in_err-need-3-clause-turn
+returns-in_err-need-3-clause-turn c ds own p =
     let f = c.in_err-need-3.ensures.fails in
-    let r = placed (goal.at.returns-in_err-need-3 c).In_ok-need-2 in
+    let r = placed (goal.at.returns-in_err-need-3-clause-turn c).In_ok-need-2 in
     refused_on p _ NoStatus _ c.from_residual-in_err-need-3.ensures.1 f.1
     (inr (r.0, inr (r.1, inl (stops (says-leb _ _) refl (ap not f.0), refl))))
 
-pub returns-in_err-need-4 : goal.returns-in_err-need-4
-returns-in_err-need-4 c ds own p =
+pub returns-in_err-need-4-clause-turn : goal.returns-in_err-need-4-clause-turn
+returns-in_err-need-4-clause-turn c ds own p =
     let f = c.in_err-need-4.ensures.fails in
-    let w = goal.at.returns-in_err-need-4 c in
+    let w = goal.at.returns-in_err-need-4-clause-turn c in
     let r = placed w.In_ok-need-2 in
     let spent = stops (says-ltb _ _) refl (ap not f.0) in
     refused_on p _ Spent _ c.from_residual-in_err-need-4.ensures.1 f.1
     (inr (r.0, inr (r.1, inr (status w.In_ok-need-3, inl (rw (written_start p r.0, ← c.at_place-k.ensures) spent, refl)))))
 
-pub returns-in_err-spot : goal.returns-in_err-spot
-returns-in_err-spot c ds own p =
+pub returns-in_err-spot-clause-turn : goal.returns-in_err-spot-clause-turn
+returns-in_err-spot-clause-turn c ds own p =
     let f = c.in_err-spot.ensures in
-    let w = goal.at.returns-in_err-spot c in
+    let w = goal.at.returns-in_err-spot-clause-turn c in
     let r = placed w.In_ok-need-2 in
     refused_on p _ Full _ c.from_residual-in_err-spot.ensures.1 f.0
     (inr (r.0, inr (r.1, inr (status w.In_ok-need-3, inr (rw (written_start p r.0, ← c.at_place-k.ensures) (unspent w.In_ok-need-4), inl (full_many p.sound f.1.1, refl))))))
 
-pub returns : goal.returns
-returns c ds own p =
-    let w = goal.at.returns c in
+pub returns-clause-turn : goal.returns-clause-turn
+returns-clause-turn c ds own p =
+    let w = goal.at.returns-clause-turn c in
     let r = placed w.In_ok-need-2 in
     let e = c.write.ensures in
     rw (e.cells, e.opens) (stepped_as e.turn
