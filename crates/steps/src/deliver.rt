@@ -14,6 +14,13 @@ use clock::PLACES;
 use reply::{APPLIED, Answer, Name, Refusal};
 use table::{Cell, Cells, DONE, Desk, HELD, Open, Opens};
 
+// The counts after a cascade, and how many names it listed.
+#[derive(Drop)]
+struct Applied {
+    counts: [u16; PLACES],
+    len: usize,
+}
+
 // Entry e applied at desk i of n, and handed back when all have applied it.
 fn apply_at(cells: &mut Cells, opens: &mut Opens, n: usize, i: usize, e: usize)
     requires { (n ≤ places) × ((In places i) × ((e < entries) × (In desk_cells (open_at opens.old e).cell))) }
@@ -54,11 +61,11 @@ fn due_of(a: [u16; PLACES], own: [u16; PLACES], opens: &Opens, i: usize, u: usiz
 }
 
 // An entry, a ready write of a writer, applied at desk i where the counts are these, and then every held write that becomes ready,
-// smallest writer first: how many names were listed.
+// smallest writer first.
 // Kept: the loop is labelled and its search yields the entry by break, as the project has every cascade.
 fn cascade(
     n: usize,
-    counts: &mut [u16; PLACES],
+    mut counts: [u16; PLACES],
     own: [u16; PLACES],
     cells: &mut Cells,
     opens: &mut Opens,
@@ -66,9 +73,9 @@ fn cascade(
     i: usize,
     mut writer: usize,
     mut entry: usize,
-) -> usize
-    requires { CascadeStarts n i writer entry counts.old own cells.old opens.old }
-    ensures { CascadeDoes n i writer entry counts.old own cells.old opens.old names.old counts.new result cells.new opens.new names.new }
+) -> Applied
+    requires { CascadeStarts n i writer entry counts own cells.old opens.old }
+    ensures { CascadeDoes n i writer entry counts own cells.old opens.old names.old result.counts result.len cells.new opens.new names.new }
 {
     let mut len = 0;
     'apply: loop {
@@ -82,7 +89,7 @@ fn cascade(
         len += 1;
         let found = 'search: {
             for t in 1..=n {
-                if let Some(x) = due_of(*counts, own, opens, i, t) {
+                if let Some(x) = due_of(counts, own, opens, i, t) {
                     break 'search Some((t, x));
                 }
             }
@@ -93,7 +100,7 @@ fn cascade(
         };
         (writer, entry) = due;
     }
-    len
+    Applied { counts, len }
 }
 
 // The name that a write of desk u waits for; none where it is ready. a: the desk's counts, v: the write's vector.
@@ -132,8 +139,9 @@ fn receive(
         table::put_mark(opens, e, i - 1, HELD);
         return Answer::Held(name);
     }
-    let count = cascade(n, &mut desk.applied, own, cells, opens, names, i, u, e);
-    Answer::Applied(count)
+    let Applied { counts, len } = cascade(n, desk.applied, own, cells, opens, names, i, u, e);
+    desk.applied = counts;
+    Answer::Applied(len)
 }
 
 // Refusals 1, 6, 7, and 8 of a write that is applied at the desk: no entry is looked at. a: the desk's counts.

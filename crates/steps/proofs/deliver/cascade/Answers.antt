@@ -13,8 +13,8 @@ use Rattle.steps.proofs.deliver.cascade.Goals.{then-loop-t-test+in-Some, else-lo
 gone : (c : goal.After-apply_at)
     → (let A = c.apply in
     let g = c.args in
-    (b : State) → Running b g.n g.i g.counts.now g.own g.cells.now g.opens.now → NextReady g.n g.counts.now g.opens.now g.writer g.entry
-    → Gone (from most_open (midst b g.i g.counts.now g.cells.now g.opens.now) g.i g.writer (open_m (open_at g.opens.now g.entry)))
+    (b : State) → Running b g.n g.i g.counts g.own g.cells.now g.opens.now → NextReady g.n g.counts g.opens.now g.writer g.entry
+    → Gone (from most_open (midst b g.i g.counts g.cells.now g.opens.now) g.i g.writer (open_m (open_at g.opens.now g.entry)))
     b g.n g.i (set A.counts (A.writer - 1) (get_or A.counts (A.writer - 1) 0 + 1)) g.own c.apply_at.new.cells c.apply_at.new.opens
     g.names.now (set A.names A.len record { writer = A.writer; number = get_or A.counts (A.writer - 1) 0 + 1 }) (A.len + 1))
 gone c b r d = going-turn (c.apply.invariant.2 b r d) refl c.apply_at.ensures (record { is = refl; size = c.apply.invariant.1 })

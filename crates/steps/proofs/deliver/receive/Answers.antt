@@ -21,10 +21,10 @@ is-ready c =
       | else-not-ready-via-then-not-ready+in-None-1 w ↦ missing-none _ _ _ w.missing.result w.missing.ensures (search rules)
     ])
 
-pub cascade-count-requires : goal.cascade-count-requires
-cascade-count-requires c =
+pub cascade-len-requires : goal.cascade-len-requires
+cascade-len-requires c =
     let p = c.requires in
-    (p.0, p.2.running, next_of_arrival p.2 (is-ready (goal.at.cascade-count-requires c).Joined-else-not-ready))
+    (p.0, p.2.running, next_of_arrival p.2 (is-ready (goal.at.cascade-len-requires c).Joined-else-not-ready))
 
 pub returns-2-clause-turn : goal.returns-2-clause-turn
-returns-2-clause-turn c b k r = received-ready c.args.desk.now r (is-ready (goal.at.returns-2-clause-turn c).Joined-else-not-ready) c.cascade-count.ensures
+returns-2-clause-turn c b k r = received-ready c.args.desk.now r (is-ready (goal.at.returns-2-clause-turn c).Joined-else-not-ready) c.cascade-len.ensures
