@@ -7,7 +7,7 @@ use Rattle.machine.proofs.Refusals.{refusal-exactly}
 use Rattle.machine.specs.Answer as machine
 use Rattle.reply.specs.{declared.Name.{Name}, declared.Answer.{Answer}, declared.Answer.TheVariants.{Refused}, declared.Refusal.{Refusal}}
 use Rattle.reply.specs.{Meaning.{refusal_of, answer_of, Counted}, Unique.{answer_is, Silent, silent_counted}}
-use Rattle.table.specs.{declared.Table.{Table}, TypeShape.{Shaped}, Model.{model_of}, SameTable.{Same}, Sound.{SoundTable}}
+use Rattle.table.specs.{declared.Table.{Table}, TypeShape.{Shaped, EachFull}, Model.{model_of}, SameTable.{Same}, Sound.{SoundTable}}
 use Rattle.table.specs.Unique.{StandsIn, same-core, same-opens}
 use Rattle.table.proofs.Unique.{same-cells}
 use Rattle.rules.specs.{Link.PassesToRules.{Fit}, TestIsRules.{keeps-says}}
@@ -15,7 +15,7 @@ use Rattle.steps.specs.{Stepped.{names_beside}, Unique.{refused_silent, read_sil
 use Rattle.access.specs.{declared.Done.{Done}, declared.Delivered.{Delivered}, Met.{Met, Brought, no_names}}
 
 -- two outcomes of one step on one table, whose lists are as its type says
-module _ {t : Table} (sh : Shaped t) (fit : Fit t.core.desks)
+module _ {t : Table} (sh : EachFull t) (fit : Fit t.core.desks)
     {a : Step} {r r' : Table} {x x' : machine.Answer} (p : Met t a r x) (q : Met t a r' x') where
   either : {R : Type 0} → (SoundTable t → R) → ((SoundTable t → ⊥) → R) → R
   either f g =
@@ -64,7 +64,7 @@ pub record OneTable (r r' : Table) (a a' : Answer) : Type 0 where
   pub opens : StandsIn r.opens r'.opens
   pub refused : (f : Refusal) → a ≡ Refused f → r ≡ r'
 
-module _ {t : Table} (sh : Shaped t) (fit : Fit t.core.desks) where
+module _ {t : Table} (sh : EachFull t) (fit : Fit t.core.desks) where
   outcome : {c : Step} {r r' : Table} {a a' : Answer} (names names' : List Name) (p : Met t c r (answer_of a names)) (q : Met t c r' (answer_of a' names'))
       → Counted a → Counted a' → Shaped r → Shaped r' → OneTable r r' a a'
   outcome {a = a} {a' = a'} names names' p q n n' h h' = record {

@@ -4,6 +4,7 @@
 ghost use Rattle.std.specs.Prelude.{◌≡◌, ◌∷◌, ℕ, ◌+◌, ◌*◌, ◌/◌, ◌<◌, ◌≤◌, min, get_or, length, take};
 ghost use Rattle.std.proofs.lemmas.List.Edits.{sets};
 ghost use Rattle.laws.specs.Says.{Says};
+ghost use Rattle.laws.specs.FirstNot.{FirstNot};
 ghost use Rattle.clock.specs.Vectors.{places, place};
 ghost use Rattle.block.specs.Limits.{places_for, edition_of, block_bytes, check_at, payload_bytes, vector_bytes, after_vector};
 ghost use Rattle.block.specs.Limits.{cell_bytes, open_bytes, cells_in, opens_in, blocks_for};
@@ -11,7 +12,7 @@ ghost use Rattle.block.specs.Check.{check_of};
 ghost use Rattle.block.specs.Block.{word, long, vector_words, mark_bytes};
 ghost use Rattle.block.specs.Damage.{Right, WholeBlocks, blocks_in};
 ghost use Rattle.block.specs.Stands.{KindStands, Stands};
-ghost use Rattle.block.specs.Mirror.BlockTests.{FirstFails};
+ghost use Rattle.block.specs.Mirror.BlockTests.{Passes, PassesAt, FirstFails};
 ghost use Rattle.block.specs.Mirror.Block.{head};
 ghost use Rattle.machine.specs.Table.{most_writes};
 
@@ -158,8 +159,8 @@ pub fn stands(b: &[u8; BLOCK], k: usize) -> bool
         && kind_stands(k, b[0])
 }
 
-// The place of the first block that fails the test, or the block count.
-pub fn first_not<F: Fn(&[u8; BLOCK], usize) -> bool>(b: &[u8], test: F) -> usize
+// The place of the first block that fails a test that is handed in, or the block count.
+pub fn first_failing<F: Fn(&[u8; BLOCK], usize) -> bool>(b: &[u8], test: F) -> usize
     requires { (k : ℕ) (x : _) → k < blocks_in b.now → F.pre test x k }
     ensures { FirstFails F.Fn test b.now (blocks_in b.now) result }
 {
@@ -170,6 +171,23 @@ pub fn first_not<F: Fn(&[u8; BLOCK], usize) -> bool>(b: &[u8], test: F) -> usize
         }
     }
     blocks.len()
+}
+
+// What is asked of each block.
+#[derive(Clone, Copy, Debug, PartialEq, Eq)]
+pub enum Test {
+    Check,
+    Place,
+}
+
+// The place of the first block that fails the test, or the block count.
+pub fn first_not(b: &[u8], test: Test) -> usize
+    ensures { FirstNot (PassesAt (Passes test) b.now) (blocks_in b.now) result }
+{
+    match test {
+        Test::Check => first_failing(b, |x, _| right(x)),
+        Test::Place => first_failing(b, stands),
+    }
 }
 
 // Is the length a nonzero multiple of 512? (Else 15.)

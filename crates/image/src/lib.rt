@@ -216,7 +216,7 @@ impl Lent<'_> {
         requires { Planned (table_with self.now.core.now self.now.cells.now self.now.opens.now) self.now.order.now self.now.plan × (length b.now ≡ block_bytes * self.now.plan.total) }
         ensures { Says result (encode (model_of (table_with self.now.core.now self.now.cells.now self.now.opens.now)) ≡ b.now) }
     {
-        self.plan.total == block::first_not(b, |x, k| block::same(x, &self.block_at(k)))
+        self.plan.total == block::first_failing(b, |x, k| block::same(x, &self.block_at(k)))
     }
 }
 

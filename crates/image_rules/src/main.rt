@@ -24,7 +24,15 @@ const TEXT: usize = 65536;
 // The most numbers of a line.
 const LIST: usize = 128;
 
-fn say_loading(rt: &impl Print, loading: Result<Table, Fault>) -> io::Result<()> {
+// What a load answers. It goes into lent arrays: by value, each table would be laid out several times, and none is looked at.
+fn loading(b: &[u8]) -> Result<(), Fault> {
+    let mut cells = [Cell::UNSET; PLACES * CELLS];
+    let mut opens = [Open::FREE; OPENS];
+    load::load_into(b, &mut cells, &mut opens)?;
+    Ok(())
+}
+
+fn say_loading(rt: &impl Print, loading: Result<(), Fault>) -> io::Result<()> {
     match loading {
         Ok(_) => rt.print(" loaded"),
         Err(Fault::WrongLength) => rt.print(" 15"),
@@ -98,9 +106,9 @@ fn broken(rt: &impl Print, good: &[u8; IMAGE], line: &[u8]) -> io::Result<()> {
     rt.write_all(line)?;
     rt.print(":")?;
     if let Some(image) = b.get_mut(..len) {
-        say_loading(rt, load::load(image))?;
+        say_loading(rt, loading(image))?;
         seal(image);
-        say_loading(rt, load::load(image))?;
+        say_loading(rt, loading(image))?;
     }
     rt.print("\n")
 }
@@ -128,7 +136,7 @@ fn save(rt: &impl Print, good: &mut [u8; IMAGE], schedule: &[u8]) -> io::Result<
     };
     print!(rt; "{len} bytes:")?;
     if let Some(image) = b.get(..len) {
-        say_loading(rt, load::load(image))?;
+        say_loading(rt, loading(image))?;
     }
     rt.print("\n")?;
     *good = b;

@@ -16,5 +16,6 @@ pub mod Stores
 pub mod Text
 pub mod FromOne
 pub mod Owned
+pub mod StoresRead
 pub mod FirstNot
 pub mod Chains

@@ -1,7 +1,7 @@
 -- Runs of stores, put together.
-use Rattle.std.specs.Prelude.{◌+◌, ◌≤◌, ◌≡◌, ◌∷◌, ◌++◌}
+use Rattle.std.specs.Prelude.{◌+◌, ◌<◌, ◌≤◌, ◌≡◌, ◌∷◌, ◌++◌}
 use Rattle.laws.specs.Kit.{ℕ, suc, refl, sym, ap, ◌∙◌, List, [], append_assoc, append-nil, arith, add-zero, length, set}
-use Rattle.laws.specs.Kit.{length-append, take, drop, drop-drop, sets, sets-eq, set_comm, length-sets}
+use Rattle.laws.specs.Kit.{length-append, take, drop, drop-drop, sets, sets-eq, set_comm, length-sets, add-one, get_or, drop-cons, drop_of_length-le}
 use borrow.Rule.Slice.PartMut.{put_mid}
 
 module _ {A : Type 0} where
@@ -22,6 +22,15 @@ module _ {A : Type 0} where
   -- the part l[at..at + n] overwritten by n elements
   pub put_mid-sets : (at n : ℕ) (l vs w : List A) → w ≡ vs → n ≡ length vs → at + length vs ≤ length l → put_mid at n l w ≡ sets l at vs
   put_mid-sets at n l vs w e f h = rw (e, f, drop-drop) (sym (sets-eq vs l at h ∙ append_assoc (take at l) vs (drop (at + length vs) l)))
+
+-- a loop that stores the numbers of v from p on: one more; all stored
+pub sets_one : (l : List ℕ) (p : ℕ) (v : List ℕ) (t : ℕ) → t < length v → sets l (p + t) (drop t v) ≡ sets (set l (p + t) (get_or v t 0)) (p + (t + 1)) (drop (t + 1) v)
+sets_one l p v t h =
+    let e : p + (t + 1) ≡ suc (p + t) = omega arith in
+    rw (e, add-one t, drop-cons v t 0 h)
+
+pub sets_done : (l : List ℕ) (p : ℕ) (v : List ℕ) (t : ℕ) → length v ≤ t → sets l p (drop t v) ≡ l
+sets_done l p v t h = rw (drop_of_length-le v h)
 
 -- bytes were put: they stand in after from place at on, and r is the place behind them
 pub record Stored {A : Type 0} (before : List A) (at : ℕ) (vs : List A) (after : List A) (r : ℕ) : Type 0 where

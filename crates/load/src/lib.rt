@@ -21,7 +21,7 @@ ghost use Rattle.load.specs.Link.ReadsBack.{ReadAs};
 ghost use Rattle.load.specs.Loading.{fault_of, Answers, AnswersInto};
 ghost use Rattle.load.specs.Finding.{or_zero, finding_of, finding_numbers};
 
-use block::{BLOCK, PAYLOAD_AT, VECTOR_AT};
+use block::{BLOCK, PAYLOAD_AT, Test, VECTOR_AT};
 use clock::{Clock, PLACES};
 use image::{APPLIED_AT, CELLS_AT, COUNT_AT, DESKS_AT};
 use std::array;
@@ -293,7 +293,7 @@ fn undamaged(b: &[u8]) -> Result<(), Fault>
     if !block::whole_blocks(b) {
         return Err(Fault::WrongLength);
     }
-    let wrong = block::first_not(b, |x, _| block::right(x));
+    let wrong = block::first_not(b, Test::Check);
     if wrong < b.len() / BLOCK {
         return Err(Fault::Damaged(wrong));
     }
@@ -307,7 +307,7 @@ pub fn load_into(b: &[u8], cells: &mut Cells, opens: &mut Opens) -> Result<Core,
     ensures { AnswersInto b.now result cells.new opens.new }
 {
     undamaged(b)?;
-    let misplaced = block::first_not(b, block::stands);
+    let misplaced = block::first_not(b, Test::Place);
     if misplaced < b.len() / BLOCK {
         return Err(Fault::Broken(misplaced));
     }

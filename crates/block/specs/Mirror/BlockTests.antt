@@ -1,10 +1,14 @@
--- The search of a block by a test that is handed in.
+-- The two tests of a block that the code searches by, and the search by a test that is handed in.
 use Rattle.std.specs.Prelude.{◌<◌, ◌≤◌, ◌≡◌}
 use Rattle.std.specs.Fn.{Shared}
 use denote.Ref.{Bor}
 use Rattle.laws.specs.Kit.{ℕ, refl, Bool, true, false, List, arith, dec_lt, eqb}
 use Rattle.laws.specs.{Says.{Says, apart, says-eqb, says_as}, FirstNot.{FirstNot}}
-use Rattle.block.specs.Damage.{block_in}
+use Rattle.block.specs.{declared.Test.{Test}, declared.Test.TheVariants.{Check, Place}, Damage.{Right, block_in}, Stands.{Stands}}
+
+abbrev pub Passes : Test → ℕ → List ℕ → Type 0
+Passes Check k l = Right l
+Passes Place k l = Stands k l
 
 -- what a block passes of which the test says P
 abbrev pub PassesAt : (ℕ → List ℕ → Type 0) → List ℕ → ℕ → Type 0

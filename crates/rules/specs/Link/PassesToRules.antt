@@ -11,7 +11,7 @@ use Rattle.table.specs.declared.Cell as code
 use Rattle.machine.specs.RulesTest as keeps
 use Rattle.clock.specs.{Vectors.{places, place}, Readiness.{ready_at, ready-narrow}}
 use Rattle.table.specs.{declared.Desk.{Desk}, declared.Open.{Open}, declared.Table.{Table}, Value.{desk0, desk_cells, all_cells, entries}}
-use Rattle.table.specs.{Value.{cell_at, open_at, is_free}, TypeShape.{DesksShape, Shaped}}
+use Rattle.table.specs.{Value.{cell_at, open_at, is_free}, TypeShape.{DesksShape, EachFull}}
 use Rattle.table.specs.{EntryNames.{entry_number, named_at, named-is}, Model.{applied_m, clock_m, open_m, model_of}, Link.OpensModel.{Unique}}
 use Rattle.table.specs.Sound.{AllZero, SoundTable}
 use Rattle.rules.specs.Mirror.Test.{owns, has, gap_at, gaps, ranges_test, due_test, last_test, used_test, entry_test, all_entries_test}
@@ -26,7 +26,7 @@ Fit ds = (t : ℕ) → place (owns ds) t ≤ most_writes
 abbrev is_some : Option machine.Open → Bool
 is_some o = not (is_none o)
 
-module _ (whole : Table) (shape : Shaped whole) (fit : Fit whole.core.desks) (ok : (keeps_test whole).holds) where
+module _ (whole : Table) (shape : EachFull whole) (fit : Fit whole.core.desks) (ok : (keeps_test whole).holds) where
   abbrev sh : DesksShape whole.core.desks
   sh = shape.desks
 
@@ -102,7 +102,7 @@ module _ (whole : Table) (shape : Shaped whole) (fit : Fit whole.core.desks) (ok
       let g = (cell_of_lem i x hi hx).1 is_set in
       let first = g.1.1.0 in
       let below = g.1.1.1 in
-      let flat = flat-place (cell_at cs row).vector (shape.cells.each row (omega arith)).vector in
+      let flat = flat-place (cell_at cs row).vector (shape.cells row (omega arith)).vector in
       let p = flat u first in
       let b = below u p.0 p.1 in
       let d = counts_in (suc i) u (omega (arith, first, b)) in
@@ -118,7 +118,7 @@ module _ (whole : Table) (shape : Shaped whole) (fit : Fit whole.core.desks) (ok
     o = open_at os e
 
     flat : Flat places (place o.vector)
-    flat = flat-place o.vector (shape.opens.each e h).vector
+    flat = flat-place o.vector (shape.opens e h).vector
 
     first : 1 ≤ entry_number o
     first = (entry_of e h f).1.0.0
@@ -185,7 +185,7 @@ module _ (whole : Table) (shape : Shaped whole) (fit : Fit whole.core.desks) (ok
   opens_good =
       open-each os OpenSaid
       (λ e h f. (
-        (writer_in e h f, (number_in e h f, (flat e h f, flat-place (open_at os e).marks (shape.opens.each e h).marks))),
+        (writer_in e h f, (number_in e h f, (flat e h f, flat-place (open_at os e).marks (shape.opens e h).marks))),
         (lacks_good e h f, write_good e h f),
       ))
 
@@ -257,7 +257,7 @@ module _ (whole : Table) (shape : Shaped whole) (fit : Fit whole.core.desks) (ok
       let x = r % desk_cells in
       let e : i * desk_cells + x ≡ r = omega arith in
       let z = rw e at (cell_of_lem i x (omega arith) (omega arith)).0 q in
-      record { status = z.0; vector = zero-all (cell_at cs r).vector (shape.cells.each r h).vector z.1 }
+      record { status = z.0; vector = zero-all (cell_at cs r).vector (shape.cells r h).vector z.1 }
 
   pub to-sound : SoundTable whole
   to-sound =

@@ -140,7 +140,7 @@ module _ {b : State} {n i : ℕ} {a own : List ℕ} {cs : List Cell} {os : List 
           → (everywhere n (mark w i done) ≡ true → P (free_entry (put_mark os e (i - 1) done) e))
           → (everywhere n (mark w i done) ≡ false → P (put_mark os e (i - 1) done)) → P os'
       entry_cases P f g =
-          let m = open_m-mark os e u k d.small r.opens_shape.count (r.opens_shape.each e d.small) r.unique d.holds i done pi in
+          let m = open_m-mark os e u k d.small r.opens_shape.count r.unique d.holds (r.opens_shape.each e d.small) i done pi in
           cases (everywhere n (mark w i done))
           (λ t. rw (ap'.opens_are, m, t) (f t))
           (λ t. rw (ap'.opens_are, m, t) (g t))
@@ -148,14 +148,14 @@ module _ {b : State} {n i : ℕ} {a own : List ℕ} {cs : List Cell} {os : List 
       opened : opens_m os' ≡ upd2 (opens_m os) u k (still_open b.setup.desks (mark w i done))
       opened =
           rw r.count (entry_cases (λ (l : List Open). opens_m l ≡ upd2 (opens_m os) u k (still_open n (mark w i done)))
-          (λ t. rw (t, still_open) (opens_mark_free os e u k d.small r.opens_shape.count (r.opens_shape.each e d.small) r.unique d.holds i done pi))
-          (λ t. rw (t, still_open) (opens-mark os e u k d.small r.opens_shape.count (r.opens_shape.each e d.small) r.unique d.holds i done pi)))
+          (λ t. rw (t, still_open) (opens_mark_free os e u k d.small r.opens_shape.count r.unique d.holds i done pi))
+          (λ t. rw (t, still_open) (opens-mark os e u k d.small r.opens_shape.count r.unique d.holds (r.opens_shape.each e d.small) i done pi)))
 
       unique-after : Unique os'
       unique-after =
           entry_cases Unique
-          (λ t. unique_mark_free os e u k d.small r.opens_shape.count (r.opens_shape.each e d.small) r.unique d.holds i done pi)
-          (λ t. unique-mark os e u k d.small r.opens_shape.count (r.opens_shape.each e d.small) r.unique d.holds i done pi)
+          (λ t. unique_mark_free os e u k d.small r.opens_shape.count r.unique d.holds i done pi)
+          (λ t. unique-mark os e u k d.small r.opens_shape.count r.unique d.holds i done pi)
 
       shape-after : OpensShape os'
       shape-after =

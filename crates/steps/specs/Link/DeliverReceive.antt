@@ -141,7 +141,7 @@ received-held {b} {n} {i} {u} {k} {e} {own} {cs} {os} {os'} names {x} d r f p =
       state_is = rw z same;
       clock_is = refl;
       blanks = g.blanks;
-      unique = rw p (unique-mark os e u k r.small g.opens_shape.count (g.opens_shape.each e r.small) g.unique r.named i held (in_places g i g.desk));
+      unique = rw p (unique-mark os e u k r.small g.opens_shape.count g.unique r.named i held (in_places g i g.desk));
       names_are = rw z;
       counted = λ c y. let q : Held (name_for f.what) ≡ Applied c = sym f.is ∙ y in let w : ◌≡◌ {A = ℕ} 0 1 = cc in absurd (omega arith);
     }
@@ -155,4 +155,4 @@ received-held {b} {n} {i} {u} {k} {e} {own} {cs} {os} {os'} names {x} d r f p =
     same : midst b i d.applied cs os' ≡ hold (midst b i d.applied cs os) i u k (open_m (open_at os e))
     same =
         ap (λ (o : ℕ → ℕ → Option machine.Open). with_opens (midst b i d.applied cs os) o)
-        (rw p (opens-mark os e u k r.small g.opens_shape.count (g.opens_shape.each e r.small) g.unique r.named i held (in_places g i g.desk)))
+        (rw p (opens-mark os e u k r.small g.opens_shape.count g.unique r.named (g.opens_shape.each e r.small) i held (in_places g i g.desk)))

@@ -9,7 +9,7 @@ use Rattle.machine.specs.Table as machine
 use Rattle.machine.specs.{Steps.{mark}, Rules.{In}}
 use Rattle.table.specs.{declared.Open.{Open}, Value.{entries}}
 use Rattle.table.specs.Value.{open0, open_at, put_open, put_mark, free_entry, entries_of, marked, emptied, is_free, FullOpen}
-use Rattle.table.specs.Value.{length-put_mark, full-marked, get_or-entries_of, length-entries_of, open_at-stored, open_at-kept}
+use Rattle.table.specs.Value.{length-put_mark, get_or-entries_of, length-entries_of, open_at-stored, open_at-kept}
 use Rattle.table.specs.{Value.{entries_of_put, entries_of-mark, entries_of_free}, EntryNames.{entry_number, named, named_at, FoundIn}}
 use Rattle.table.specs.{EntryNames.{free_named, own-named, named-is, not_named}, Model.{open_m, opens_m}}
 
@@ -120,19 +120,22 @@ marked-model o i v f hi =
     λ j. record { cell = o.cell; status = o.status; vector = place o.vector; marks = p j }
 
 -- an entry marked at desk i, from 1; and handed back
-module _ (l : List Open) (e u k : ℕ) (h : e < entries) (size : length l ≡ entries) (full : FullOpen (open_at l e)) (q : Unique l) (t : named_at l u k e ≡ true) where
+module _ (l : List Open) (e u k : ℕ) (h : e < entries) (size : length l ≡ entries) (q : Unique l) (t : named_at l u k e ≡ true) where
   not-other : (a b : ℕ) → (a ≡ u → b ≡ k → ⊥) → named_at l a b e ≡ false
   not-other a b ne = let n = named-is (open_at l e) u k t in not_named (open_at l e) a b (λ p r. ne (sym p ∙ n.1) (sym r ∙ n.2))
 
-  pub opens-mark : (i v : ℕ) → In places i → opens_m (put_mark l e (i - 1) v) ≡ upd2 (opens_m l) u k (some (mark (open_m (open_at l e)) i v))
+  opens-marked : (i v : ℕ) → opens_m (put_mark l e (i - 1) v) ≡ upd2 (opens_m l) u k (some (open_m (marked (open_at l e) (i - 1) v)))
   unfolding named
-  opens-mark i v hi =
+  opens-marked i v =
       opens_put l (put_mark l e (i - 1) v) e (marked (open_at l e) (i - 1) v) h (entries_of-mark l e h size (i - 1) v) u k (lone l e u k q h t)
       (λ a b ne. (not-other a b ne, not-other a b ne))
-      ∙ ap (λ (x : Option machine.Open). upd2 (opens_m l) u k x) (still t ∙ ap some (marked-model (open_at l e) i v full hi))
+      ∙ ap (λ (x : Option machine.Open). upd2 (opens_m l) u k x) (still t)
     where
       still : named_at l u k e ≡ true → pick (named u k (marked (open_at l e) (i - 1) v)) (some (open_m (marked (open_at l e) (i - 1) v))) none ≡ some (open_m (marked (open_at l e) (i - 1) v))
       still t = rw t
+
+  pub opens-mark : FullOpen (open_at l e) → (i v : ℕ) → In places i → opens_m (put_mark l e (i - 1) v) ≡ upd2 (opens_m l) u k (some (mark (open_m (open_at l e)) i v))
+  opens-mark full i v hi = opens-marked i v ∙ ap (λ (o : machine.Open). upd2 (opens_m l) u k (some o)) (marked-model (open_at l e) i v full hi)
 
   pub unique-mark : (i v : ℕ) → In places i → Unique (put_mark l e (i - 1) v)
   unfolding named
@@ -160,23 +163,20 @@ module _ (l : List Open) (e u k : ℕ) (h : e < entries) (size : length l ≡ en
   unfolding named
   named-mark i v hi = rw (open_at-mark i v hi) t
 
-  pub open_m-mark : (i v : ℕ) → In places i → open_m (open_at (put_mark l e (i - 1) v) e) ≡ mark (open_m (open_at l e)) i v
-  open_m-mark i v hi = ap open_m (open_at-mark i v hi) ∙ marked-model (open_at l e) i v full hi
+  pub open_m-mark : FullOpen (open_at l e) → (i v : ℕ) → In places i → open_m (open_at (put_mark l e (i - 1) v) e) ≡ mark (open_m (open_at l e)) i v
+  open_m-mark full i v hi = ap open_m (open_at-mark i v hi) ∙ marked-model (open_at l e) i v full hi
 
 -- marked and then handed back
-module _ (l : List Open) (e u k : ℕ) (h : e < entries) (size : length l ≡ entries) (full : FullOpen (open_at l e)) (q : Unique l) (t : named_at l u k e ≡ true) (i v : ℕ) (hi : In places i) where
+module _ (l : List Open) (e u k : ℕ) (h : e < entries) (size : length l ≡ entries) (q : Unique l) (t : named_at l u k e ≡ true) (i v : ℕ) (hi : In places i) where
   abbrev at_mark : List Open
   at_mark = put_mark l e (i - 1) v
 
-  full_mark : FullOpen (open_at at_mark e)
-  full_mark = rw (open_at-mark l e u k h size full q t i v hi) (full-marked (open_at l e) (i - 1) v full)
-
   pub opens_mark_free : opens_m (free_entry (put_mark l e (i - 1) v) e) ≡ upd2 (opens_m l) u k none
   opens_mark_free =
-      opens_free at_mark e u k h (length-put_mark l e (i - 1) v ∙ size) full_mark (unique-mark l e u k h size full q t i v hi) (named-mark l e u k h size full q t i v hi)
-      ∙ ap (λ (f : ℕ → ℕ → Option machine.Open). upd2 f u k none) (opens-mark l e u k h size full q t i v hi)
-      ∙ upd2_again (opens_m l) u k (some (mark (open_m (open_at l e)) i v)) none
+      opens_free at_mark e u k h (length-put_mark l e (i - 1) v ∙ size) (unique-mark l e u k h size q t i v hi) (named-mark l e u k h size q t i v hi)
+      ∙ ap (λ (f : ℕ → ℕ → Option machine.Open). upd2 f u k none) (opens-marked l e u k h size q t i v)
+      ∙ upd2_again (opens_m l) u k (some (open_m (marked (open_at l e) (i - 1) v))) none
 
   pub unique_mark_free : Unique (free_entry (put_mark l e (i - 1) v) e)
   unique_mark_free =
-      unique_free at_mark e u k h (length-put_mark l e (i - 1) v ∙ size) full_mark (unique-mark l e u k h size full q t i v hi) (named-mark l e u k h size full q t i v hi)
+      unique_free at_mark e u k h (length-put_mark l e (i - 1) v ∙ size) (unique-mark l e u k h size q t i v hi) (named-mark l e u k h size q t i v hi)

@@ -13,5 +13,5 @@ returns c =
     let A = c.args in
     let b = A.b.now in
     let q : blocks_in b ≡ A.self.now.plan.total = omega (arith, c.requires.1) in
-    let f = first_passes (λ k l. block_at A.self.now.plan.p (model_of (table_with A.self.now.core.now A.self.now.cells.now A.self.now.opens.now)) k ≡ l) c.first_not.ensures (λ j r x l e h. search rules) in
+    let f = first_passes (λ k l. block_at A.self.now.plan.p (model_of (table_with A.self.now.core.now A.self.now.cells.now A.self.now.opens.now)) k ≡ l) c.first_failing.ensures (λ j r x l e h. search rules) in
     says_as _ (says_all_pass (rw q at f)) (blocks-same c.requires.0 b c.requires.1) (λ e k h. same_block c.requires.0 b k h e)
