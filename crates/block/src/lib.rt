@@ -173,7 +173,7 @@ pub fn first_failing<F: Fn(&[u8; BLOCK], usize) -> bool>(b: &[u8], test: F) -> u
     blocks.len()
 }
 
-// What is asked of each block.
+// What is asked of each block. (Kept: told by name, since a test that is handed in has to be callable, and `first_not` takes anything.)
 #[derive(Clone, Copy, Debug, PartialEq, Eq)]
 pub enum Test {
     Check,
