@@ -200,7 +200,7 @@ module _ (ps : ℕ) where
       less q = omega arith
 
   -- a row behind it stays
-  pub cells_left : (s : ℕ) (l : List Cell) (c : Cell) → ((t : ℕ) → s ≤ t → t < all_cells → cell_at l t ≡ empty_cell) → (t : ℕ) → s + 1 ≤ t → t < all_cells → cell_at (put_cell l s c) t ≡ empty_cell
+  pub cells_left : {n : ℕ} (s : ℕ) (l : List Cell) (c : Cell) → ((t : ℕ) → s ≤ t → t < n → cell_at l t ≡ empty_cell) → (t : ℕ) → s + 1 ≤ t → t < n → cell_at (put_cell l s c) t ≡ empty_cell
   cells_left s l c h t ht b = cell_at-other l s c t (λ q. omega arith) ∙ h t (omega arith) b
 
   -- the rows of the n desks read, and the others left
