@@ -24,16 +24,9 @@ const TEXT: usize = 65536;
 // The most numbers of a line.
 const LIST: usize = 128;
 
-// What a load answers. It goes into lent arrays: by value, each table would be laid out several times, and none is looked at.
-fn loading(b: &[u8]) -> Result<(), Fault> {
-    let mut cells = [Cell::UNSET; PLACES * CELLS];
-    let mut opens = [Open::FREE; OPENS];
-    load::load_into(b, &mut cells, &mut opens)?;
-    Ok(())
-}
-
-fn say_loading(rt: &impl Print, loading: Result<(), Fault>) -> io::Result<()> {
-    match loading {
+// (It loads here: a table that is handed on in a `Result` is laid out several times, and none is looked at.)
+fn say_loading(rt: &impl Print, b: &[u8]) -> io::Result<()> {
+    match load::load(b) {
         Ok(_) => rt.print(" loaded"),
         Err(Fault::WrongLength) => rt.print(" 15"),
         Err(Fault::Damaged(k)) => print!(rt; " 12 at {k}"),
@@ -105,10 +98,11 @@ fn broken(rt: &impl Print, good: &[u8; IMAGE], line: &[u8]) -> io::Result<()> {
     }
     rt.write_all(line)?;
     rt.print(":")?;
-    if let Some(image) = b.get_mut(..len) {
-        say_loading(rt, loading(image))?;
+    if len <= IMAGE {
+        let image = &mut b[..len];
+        say_loading(rt, image)?;
         seal(image);
-        say_loading(rt, loading(image))?;
+        say_loading(rt, image)?;
     }
     rt.print("\n")
 }
@@ -136,7 +130,7 @@ fn save(rt: &impl Print, good: &mut [u8; IMAGE], schedule: &[u8]) -> io::Result<
     };
     print!(rt; "{len} bytes:")?;
     if let Some(image) = b.get(..len) {
-        say_loading(rt, loading(image))?;
+        say_loading(rt, image)?;
     }
     rt.print("\n")?;
     *good = b;
