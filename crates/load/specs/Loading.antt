@@ -35,6 +35,15 @@ abbrev pub AnswersInto : List ℕ → Result Core code.Fault → List Cell → L
 AnswersInto b (Ok c) cells opens = Answers b (Ok (table_with c cells opens))
 AnswersInto b (Err f) cells opens = Answers b (Err f) × (cells ≡ (fresh_table 0 0).cells) × (opens ≡ (fresh_table 0 0).opens)
 
+-- the parts as one answer, so what is said of Answers is said of them
+abbrev pub whole_of : Result Core code.Fault → List Cell → List Open → Result Table code.Fault
+whole_of (Ok c) cells opens = Ok (table_with c cells opens)
+whole_of (Err f) cells opens = Err f
+
+pub answers_whole : (b : List ℕ) (r : Result Core code.Fault) (cells : List Cell) (opens : List Open) → AnswersInto b r cells opens → Answers b (whole_of r cells opens)
+answers_whole b (Ok c) cells opens h = h
+answers_whole b (Err f) cells opens h = h.0
+
 -- that is what loading comes to, so it comes to one thing only (one-load)
 pub answers_loads : (b : List ℕ) (r : Result Table code.Fault) → Answers b r → Loads b (loaded_of r)
 answers_loads b (Ok t) h = as_saved (model_of t) h.0.rules h.1

@@ -44,5 +44,5 @@ module _ (a b : Table) (sa : Shaped a) (sb : Shaped b) (ka : SoundTable a) (kb :
 
   pub same-cells : a.cells ≡ b.cells
   same-cells =
-      cells_same a.cells b.cells sa.cells sb.cells
+      cells_same a.cells b.cells sa.cells.count sb.cells.count
       (λ s h. cell_same (cell_at a.cells s) (cell_at b.cells s) (sa.cells.each s h) (sb.cells.each s h) (ka.blanks s h) (kb.blanks s h) (cell-shown s h))

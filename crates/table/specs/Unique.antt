@@ -1,10 +1,10 @@
 -- Two values of one table that keep the rules differ in nothing but where open writes stand and what lies in free entries.
 use Rattle.std.specs.Prelude.{◌<◌, ◌≡◌}
-use Rattle.laws.specs.Kit.{ℕ, suc, sym, ap, ◌∙◌, false, List, arith, get_or, ext_get_or}
+use Rattle.laws.specs.Kit.{ℕ, suc, sym, ap, ◌∙◌, false, List, arith, get_or, length, ext_get_or}
 use Rattle.clock.specs.Vectors.{places, place, place_ext}
 use Rattle.machine.specs.Table as machine
 use Rattle.table.specs.{declared.Cell.{Cell}, declared.Desk.{Desk}, declared.Open.{Open}, declared.Table.{Table}, Value.{desk0}}
-use Rattle.table.specs.Value.{all_cells, entries, cell0, cell_at, CellsShape, open_at}
+use Rattle.table.specs.Value.{all_cells, entries, cell0, cell_at, open_at}
 use Rattle.table.specs.{Value.{FullOpen, is_free}, TypeShape.{DeskShape, Shaped}}
 use Rattle.table.specs.{EntryNames.{entry_number, own-named, named-is}, Model.{applied_m, clock_m, open_m}}
 use Rattle.table.specs.{Link.OpensModel.{opens_at, opens-some}, Sound.{SoundTable}, SameTable.{Same}}
@@ -17,8 +17,8 @@ desk-same a b ha hb ea ec =
     λ j. record { applied = p j; clock = record { at = q j } }
 
 -- the list by its cells
-pub cells_same : (l m : List Cell) → CellsShape l → CellsShape m → ((s : ℕ) → s < all_cells → cell_at l s ≡ cell_at m s) → l ≡ m
-cells_same l m hl hm same = ext_get_or cell0 l m (hl.count ∙ sym hm.count) (λ s h. same s (omega (arith, hl.count)))
+pub cells_same : (l m : List Cell) → length l ≡ all_cells → length m ≡ all_cells → ((s : ℕ) → s < all_cells → cell_at l s ≡ cell_at m s) → l ≡ m
+cells_same l m hl hm same = ext_get_or cell0 l m (hl ∙ sym hm) (λ s h. same s (omega (arith, hl)))
 
 -- an entry holds o
 pub record HeldBy (os : List Open) (o : Open) : Type 0 where
