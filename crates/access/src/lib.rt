@@ -28,7 +28,9 @@ pub struct Delivered {
     pub names: [Name; APPLIED],
 }
 
-// One step of desk i: 13 where the table breaks the rules; else the step is lent the desk and the arrays.
+// One step of desk i: 13 where the table breaks the rules; else the step is lent the desk and the arrays. (Called, it would hand the table on by
+// value once more, and a delivery takes half as long again.)
+#[inline(always)]
 fn acted<
     F: FnOnce(&mut Desk, &mut Cells, &mut Opens, &mut [Name; APPLIED]) -> Result<Answer, Refusal>,
 >(mut t: Table, i: usize, step: F) -> Delivered
